@@ -1,0 +1,43 @@
+// f32 helpers, as Rust's library has them.
+ghost use mathlib.Core.Path.{_≡_};
+ghost use mathlib.Core.Bool.{cond};
+ghost use Rattle.float.specs.MinMax.{minOf, maxOf, clampOf, absOf};
+
+// An `if` as a value, for use inside arithmetic.
+pub fn pick(c: bool, a: f32, b: f32) -> f32
+    ensures { λ r. ⌜ r ≡ cond c a b ⌝ }
+{
+    if c { a } else { b }
+}
+
+pub fn min(a: f32, b: f32) -> f32
+    ensures { λ r. ⌜ r ≡ minOf a b ⌝ }
+{
+    if a != a {
+        return b;
+    }
+    if b < a { b } else { a }
+}
+
+pub fn max(a: f32, b: f32) -> f32
+    ensures { λ r. ⌜ r ≡ maxOf a b ⌝ }
+{
+    if a != a {
+        return b;
+    }
+    if a < b { b } else { a }
+}
+
+// Rust's clamp asserts low <= high; this one is total, and the order of its two tests is Rust's.
+pub fn clamp(x: f32, low: f32, high: f32) -> f32
+    ensures { λ r. ⌜ r ≡ clampOf x low high ⌝ }
+{
+    let y = pick(x < low, low, x);
+    pick(y > high, high, y)
+}
+
+pub fn abs(x: f32) -> f32
+    ensures { λ r. ⌜ r ≡ absOf x ⌝ }
+{
+    pick(x < 0.0, -x, pick(x == 0.0, 0.0, x))
+}

@@ -1,0 +1,11 @@
+use borrow.Author.Needs.{needs}
+use Rattle.geometry.specs.Rect.{fitOf}
+use Rattle.geometry.proofs.Rect.fit.Statement.{statement}
+use Rattle.geometry.proofs.Rect.fit.Tie as tie
+
+returns : tie.Need-returns
+unfolding fitOf
+returns c = rw (← c .before .before .before .before .min .ensures)
+
+pub fit-spec : {M : Type 1} → statement M
+fit-spec = tie.close (tie.spec (λ c κs. search needs) returns)

@@ -1,0 +1,37 @@
+-- `Rect` of input.rs. Definitions only.
+use mathlib.Core.Bool.{Bool, _&&_}
+use lib.Ieee.{Float, lt, le}
+use Rattle.float.specs.Float.{_⊕_, _⊖_, _⊗_, _⊘_, k0, k0·01, k2}
+use Rattle.float.specs.MinMax.{minOf, absOf}
+use Rattle.geometry.specs.declared.Rect.{Rect}
+
+abbrev pub newOf : Float → Float → Float → Float → Rect
+newOf x y w h = record { x = x; y = y; w = w; h = h }
+
+-- `Rect::default()`
+abbrev pub emptyRect : Rect
+emptyRect = newOf k0 k0 k0 k0
+
+-- Half-open: the left and upper edges belong to the rectangle, the right and lower ones do not.
+unfoldable pub containsOf : Rect → Float → Float → Bool
+containsOf r x y = le (r .x) x && (le (r .y) y && (lt x (r .x ⊕ r .w) && lt y (r .y ⊕ r .h)))
+
+unfoldable pub fitOf : Rect → Float → Rect
+fitOf r aspect =
+    let w = minOf (r .w) (r .h ⊗ aspect) in
+    let h = w ⊘ aspect in
+    newOf (r .x ⊕ (r .w ⊖ w) ⊘ k2) (r .y ⊕ (r .h ⊖ h) ⊘ k2) w h
+
+-- Two rectangles that share no more than 0.01 across or down do not overlap.
+unfoldable pub overlapsOf : Rect → Rect → Bool
+overlapsOf a b =
+    lt (a .x) (b .x ⊕ b .w ⊖ k0·01)
+    && (lt (b .x ⊕ k0·01) (a .x ⊕ a .w)
+    && (lt (a .y) (b .y ⊕ b .h ⊖ k0·01)
+    && lt (b .y ⊕ k0·01) (a .y ⊕ a .h)))
+
+unfoldable pub nearOf : Float → Float → Bool
+nearOf a b = lt (absOf (a ⊖ b)) k0·01
+
+unfoldable pub sameBoundsOf : Rect → Rect → Bool
+sameBoundsOf a b = nearOf (a .x) (b .x) && (nearOf (a .y) (b .y) && (nearOf (a .w) (b .w) && nearOf (a .h) (b .h)))

@@ -1,0 +1,149 @@
+-- Loops over the first n elements of an array, as the definitions of Lists and folds.
+use mathlib.Core.Path.{_≡_, refl, ap, sym, _∙_}
+use mathlib.Core.Bool.{Bool, true, false, cond}
+use mathlib.Core.List.{List, [], _∷_, _++_, map, foldl, foldl-append, append-assoc, append-nil}
+use Prim.Native.Nat.{ℕ, zero, suc, _+_, _-_, _<_, _≤_}
+use native.Mathlib.Numerals.{add-one}
+use native.Mathlib.Omega.{arith}
+use lib.ListN.{length, take, drop, getD, set, length-take, length-map, drop-of-length-le}
+use lib.Seq.{take-suc, take-suc-set, drop-cons, getD-take, length-take-le}
+use borrow.Author.Needs.{length-unmapped}
+use Rattle.layout.specs.Lists.{anyOf, allOf, mapFirst, find, flatMap, filterMap}
+
+-- the length of an array of structs, as owning it tells
+pub length-mapped : (X Y : Type 0) (f : X → Y) (l : List X) (n : ℕ) → length (map f l) ≡ n → length l ≡ n
+length-mapped X Y f l n p = sym (length-map l f) ∙ p
+
+pub ruleset sized = (length-mapped, length-unmapped)
+
+-- what a branch gives, where its test is the flag that a call returned
+module _ {A : Type 0} where
+  pub cond-yes : (b : Bool) (x y : A) {flag : Bool} {r : A} → flag ≡ b → flag ≡ true → r ≡ x → r ≡ cond b x y
+  cond-yes b x y p t q = rw (← p, t) q
+
+  pub cond-no : (b : Bool) (x y : A) {flag : Bool} {r : A} → flag ≡ b → flag ≡ false → r ≡ y → r ≡ cond b x y
+  cond-no b x y p t q = rw (← p, t) q
+
+-- the next of the first n elements of an array of k, and their end
+module _ {A : Type 0} where
+  pub next-of : (d : A) (l : List A) (k n i : ℕ) → length l ≡ k → n ≤ k → i < n → drop i (take n l) ≡ getD l i d ∷ drop (i + 1) (take n l)
+  next-of d l k n i e h j =
+      let w : length (take n l) ≡ n = length-take-le n l (omega arith) in
+      drop-cons (take n l) i d (omega arith) ∙ rw (add-one, getD-take)
+
+  pub none-left : (l : List A) (k n i : ℕ) → length l ≡ k → n ≤ k → n ≤ i → drop i (take n l) ≡ []
+  none-left l k n i e h j =
+      let w : length (take n l) ≡ n = length-take-le n l (omega arith) in
+      drop-of-length-le (take n l) {i = i} (omega arith)
+
+-- ---- a loop that folds
+module _ {A B : Type 0} where
+  pub fold-next : (f : B → A → B) (z : B) (l : List A) (i : ℕ) (d : A) {y : A} {acc r : B} → i < length l → acc ≡ foldl f z (take i l) → y ≡ getD l i d → r ≡ f acc y
+      → r ≡ foldl f z (take (i + 1) l)
+  fold-next f z l i d h p e q = rw (add-one, take-suc l i d, foldl-append, ← p, ← e) q
+
+  pub getD-map : (f : A → B) (l : List A) (i : ℕ) (d : A) (e : B) → i < length l → f (getD l i d) ≡ getD (map f l) i e
+  getD-map f [] i d e h = absurd (let z : ⊥ = omega arith in z)
+  getD-map f (x ∷ l) zero d e h = refl
+  getD-map f (x ∷ l) (suc i) d e h = getD-map f l i d e (omega arith)
+
+  -- the candidates of a search: x, and what f makes of each element
+  pub getD-first : (f : A → B) (x e : B) (l : List A) (k : ℕ) (d : A) → (k ≡ 0 → ⊥) → k ≤ length l → f (getD l (k - 1) d) ≡ getD (x ∷ map f l) k e
+  getD-first f x e l zero d n h = absurd (n refl)
+  getD-first f x e l (suc k) d n h = let q : suc k - 1 ≡ k = omega arith in rw q (getD-map f l k d e (omega arith))
+
+  pub take-map : (f : A → B) (n : ℕ) (l : List A) → take n (map f l) ≡ map f (take n l)
+  take-map f zero l = refl
+  take-map f (suc n) [] = refl
+  take-map f (suc n) (x ∷ l) = ap (λ t. f x ∷ t) (take-map f n l)
+
+  pub take-first : (f : A → B) (x : B) (n : ℕ) (l : List A) → take (n + 1) (x ∷ map f l) ≡ x ∷ map f (take n l)
+  take-first f x n l = rw add-one (ap (λ t. x ∷ t) (take-map f n l))
+
+-- ---- searches that stop at the first element that passes a test; the invariant: the elements passed leave the answer to the others
+module _ {A B : Type 0} (p : A → Bool) (hit : A → B) (none : B) (l : List A) (n i : ℕ) where
+  abbrev pub Passed : Type 0
+  Passed = find p hit none (take n l) ≡ find p hit none (drop i (take n l))
+
+  pub find-here : (d : A) {t : Bool} → i < n → n ≤ length l → Passed → t ≡ p (getD l i d) → t ≡ true → hit (getD l i d) ≡ find p hit none (take n l)
+  find-here d h k s e t = rw (s, next-of d l (length l) n i refl k h, ← e, t)
+
+  pub find-next : (d : A) {t : Bool} → i < n → n ≤ length l → Passed → t ≡ p (getD l i d) → t ≡ false → find p hit none (take n l) ≡ find p hit none (drop (i + 1) (take n l))
+  find-next d h k s e t = s ∙ rw (next-of d l (length l) n i refl k h, ← e, t)
+
+  pub find-end : n ≤ i → Passed → none ≡ find p hit none (take n l)
+  find-end h s = let e : length (take n l) ≤ i = rw length-take (omega arith) in rw (s, drop-of-length-le (take n l) e)
+
+module _ {A : Type 0} where
+  pub any-hit : (p : A → Bool) (l t : List A) (x : A) (k b : Bool) → anyOf p l ≡ k → l ≡ x ∷ t → b ≡ p x → b ≡ true → true ≡ k
+  unfolding anyOf
+  any-hit p l t x k b g e q h = rw (e, sym q ∙ h) at g
+
+  pub any-miss : (p : A → Bool) (l t : List A) (x : A) (k b : Bool) → anyOf p l ≡ k → l ≡ x ∷ t → b ≡ p x → b ≡ false → anyOf p t ≡ k
+  unfolding anyOf
+  any-miss p l t x k b g e q h = rw (e, sym q ∙ h) at g
+
+  pub any-end : (p : A → Bool) (l : List A) (k : Bool) → anyOf p l ≡ k → l ≡ [] → false ≡ k
+  unfolding anyOf
+  any-end p l k g e = rw e at g
+
+  pub all-miss : (p : A → Bool) (l t : List A) (x : A) (k b : Bool) → allOf p l ≡ k → l ≡ x ∷ t → b ≡ p x → b ≡ false → false ≡ k
+  unfolding allOf
+  all-miss p l t x k b g e q h = rw (e, sym q ∙ h) at g
+
+  pub all-hit : (p : A → Bool) (l t : List A) (x : A) (k b : Bool) → allOf p l ≡ k → l ≡ x ∷ t → b ≡ p x → b ≡ true → allOf p t ≡ k
+  unfolding allOf
+  all-hit p l t x k b g e q h = rw (e, sym q ∙ h) at g
+
+  pub all-end : (p : A → Bool) (l : List A) (k : Bool) → allOf p l ≡ k → l ≡ [] → true ≡ k
+  unfolding allOf
+  all-end p l k g e = rw e at g
+
+-- ---- loops that fill an array
+module _ {A B : Type 0} where
+  -- s is what was gathered before x
+  pub flat-step : (s s' k : List B) (f : A → List B) (l t : List A) (x : A) → s ++ flatMap f l ≡ k → l ≡ x ∷ t → s' ≡ s ++ f x → s' ++ flatMap f t ≡ k
+  unfolding flatMap
+  flat-step s s' k f l t x g e p = rw (p, append-assoc) (rw e at g)
+
+  pub flat-end : (s k : List B) (f : A → List B) (l : List A) → s ++ flatMap f l ≡ k → l ≡ [] → s ≡ k
+  unfolding flatMap
+  flat-end s k f l g e = sym (append-nil s) ∙ (rw e at g)
+
+module _ {A B : Type 0} (p : A → Bool) (f : A → B) where
+  pub filterMap-append : (l m : List A) → filterMap p f (l ++ m) ≡ filterMap p f l ++ filterMap p f m
+  filterMap-append [] m = refl
+  filterMap-append (x ∷ l) m = go (p x) (filterMap-append l m)
+    where
+      go : (b : Bool) → filterMap p f (l ++ m) ≡ filterMap p f l ++ filterMap p f m
+          → cond b (f x ∷ filterMap p f (l ++ m)) (filterMap p f (l ++ m)) ≡ cond b (f x ∷ filterMap p f l) (filterMap p f l) ++ filterMap p f m
+      go true e = ap (λ t. f x ∷ t) e
+      go false e = e
+
+  -- a turn that stores
+  pub filterMap-put : (l : List A) (i : ℕ) (d : A) (out : List B) (n : ℕ) {flag : Bool} {v : B} → i < length l → n < length out → take n out ≡ filterMap p f (take i l)
+      → flag ≡ p (getD l i d) → flag ≡ true → v ≡ f (getD l i d) → take (n + 1) (set out n v) ≡ filterMap p f (take (i + 1) l)
+  filterMap-put l i d out n {v = v} h k s e t q =
+      rw (add-one i, take-suc l i d h, filterMap-append, ← s, ← e, t, ← q, add-one n) (take-suc-set out n v k)
+
+  -- a turn that does not
+  pub filterMap-skip : (l : List A) (i : ℕ) (d : A) (out : List B) (n : ℕ) {flag : Bool} → i < length l → take n out ≡ filterMap p f (take i l)
+      → flag ≡ p (getD l i d) → flag ≡ false → take n out ≡ filterMap p f (take (i + 1) l)
+  filterMap-skip l i d out n h s e t = rw (add-one i, take-suc l i d h, filterMap-append, ← s, ← e, t, append-nil)
+
+-- ---- a loop that changes the first elements in place
+module _ {A : Type 0} (g : A → A) where
+  pub mapFirst-zero : (xs : List A) → xs ≡ mapFirst g 0 xs
+  unfolding mapFirst
+  mapFirst-zero xs = refl
+
+  mapFirst-suc : (i : ℕ) (xs : List A) (d : A) → set (mapFirst g i xs) i (g (getD (mapFirst g i xs) i d)) ≡ mapFirst g (suc i) xs
+  unfolding mapFirst
+  mapFirst-suc zero [] d = refl
+  mapFirst-suc zero (x ∷ xs) d = refl
+  mapFirst-suc (suc i) [] d = refl
+  mapFirst-suc (suc i) (x ∷ xs) d = ap (λ (t : List A). g x ∷ t) (mapFirst-suc i xs d)
+
+  -- one turn: out holds the list with i elements done, and v is g of its element at i
+  pub mapFirst-step : (i : ℕ) (xs out : List A) (v d : A) → out ≡ mapFirst g i xs → v ≡ g (getD out i d) → set out i v ≡ mapFirst g (i + 1) xs
+  mapFirst-step i xs out v d o e = rw (e, o, add-one) (mapFirst-suc i xs d)
