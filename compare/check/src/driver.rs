@@ -1,0 +1,161 @@
+//! Runs two functions on the same generated cases and counts the differences.
+use crate::random::Random;
+use player::words::{Value, Word, line, words};
+use std::{
+    fmt,
+    panic::{AssertUnwindSafe, catch_unwind},
+    time::{Duration, Instant},
+};
+
+/// How long to run: until the cases or the time are used up.
+pub struct Limits {
+    pub cases: u64,
+    pub time: Duration,
+    pub seed: u64,
+    /// How many differing inputs are printed.
+    pub shown: u64,
+}
+
+pub struct Summary {
+    pub name: &'static str,
+    pub cases: u64,
+    pub differences: u64,
+    pub seed: u64,
+    pub time: Duration,
+}
+
+impl fmt::Display for Summary {
+    fn fmt(&self, f: &mut fmt::Formatter) -> fmt::Result {
+        write!(
+            f,
+            "{:<20} {:>10} cases {:>8} differences  seed {}  {:.1} s",
+            self.name,
+            self.cases,
+            self.differences,
+            self.seed,
+            self.time.as_secs_f64()
+        )
+    }
+}
+
+type Run = dyn Fn(&'static str, &Limits) -> Summary;
+
+pub struct Comparison {
+    /// The function's name, as the oracle has it, then the kind of cases.
+    pub name: &'static str,
+    /// Whether a difference is a fault, or only reported.
+    pub must_agree: bool,
+    run: Box<Run>,
+}
+
+/// A comparison of `ours` with `theirs` on the inputs that `generate` gives.
+pub fn compare<I: Value, O: Value>(
+    name: &'static str,
+    generate: impl Fn(&mut Random) -> I + 'static,
+    ours: impl Fn(&I) -> O + 'static,
+    theirs: impl Fn(&I) -> O + 'static,
+) -> Comparison {
+    Comparison {
+        name,
+        must_agree: true,
+        run: Box::new(move |name, limits| drive(name, limits, &generate, &ours, &theirs)),
+    }
+}
+
+impl Comparison {
+    /// The same comparison, where differences are no fault.
+    pub fn may_differ(self) -> Self {
+        Self {
+            must_agree: false,
+            ..self
+        }
+    }
+    pub fn run(&self, limits: &Limits) -> Summary {
+        (self.run)(self.name, limits)
+    }
+}
+
+fn drive<I: Value, O: Value>(
+    name: &'static str,
+    limits: &Limits,
+    generate: impl Fn(&mut Random) -> I,
+    ours: impl Fn(&I) -> O,
+    theirs: impl Fn(&I) -> O,
+) -> Summary {
+    let start = Instant::now();
+    let mut random = Random::new(limits.seed);
+    let (mut cases, mut differences) = (0, 0);
+    // The clock is read seldom, so that it takes no time.
+    while cases < limits.cases && (cases % 256 != 0 || start.elapsed() < limits.time) {
+        let input = generate(&mut random);
+        let (our, their) = (answer(&ours, &input), answer(&theirs, &input));
+        cases += 1;
+        if !same(&our, &their) {
+            differences += 1;
+            if differences <= limits.shown {
+                let function = name.split(' ').next().unwrap_or(name);
+                println!("{function} {}", line(&words(&input)));
+                println!("  ours   {}", text(&our));
+                println!("  theirs {}", text(&their));
+            }
+        }
+    }
+    Summary {
+        name,
+        cases,
+        differences,
+        seed: limits.seed,
+        time: start.elapsed(),
+    }
+}
+
+/// The words of a function's answer; none if it panicked.
+type Answer = Option<Vec<Word>>;
+
+fn answer<I, O: Value>(function: impl Fn(&I) -> O, input: &I) -> Answer {
+    let answer = catch_unwind(AssertUnwindSafe(|| function(input))).ok()?;
+    Some(words(&answer))
+}
+
+/// Equal word for word, as numbers. A panic equals nothing.
+fn same(our: &Answer, their: &Answer) -> bool {
+    let (Some(our), Some(their)) = (our, their) else {
+        return false;
+    };
+    our.len() == their.len() && our.iter().zip(their).all(|(a, b)| a.same(*b))
+}
+
+fn text(answer: &Answer) -> String {
+    answer
+        .as_ref()
+        .map_or("panicked".into(), |words| line(words))
+}
+
+#[cfg(test)]
+mod tests {
+    use super::*;
+
+    fn differences(ours: impl Fn(&f32) -> f32 + 'static) -> u64 {
+        let limits = Limits {
+            cases: 100,
+            time: Duration::MAX,
+            seed: 1,
+            shown: 0,
+        };
+        let every_other = |r: &mut Random| r.below(2) as f32;
+        compare("test", every_other, ours, |x| *x)
+            .run(&limits)
+            .differences
+    }
+
+    #[test]
+    fn differences_are_counted_as_numbers() {
+        assert_eq!(differences(|x| *x), 0);
+        assert_eq!(differences(|x| if *x == 0. { -0. } else { *x }), 0);
+        assert_eq!(differences(|x| x + 1.), 100);
+        let zeros = differences(|x| if *x == 0. { f32::NAN } else { *x });
+        assert!(zeros > 30 && zeros < 70);
+        assert_eq!(differences(|x| if *x == 0. { panic!() } else { *x }), zeros);
+        assert!(Word::Float(f32::NAN).same(Word::Float(-f32::NAN)));
+    }
+}
