@@ -1,0 +1,141 @@
+-- Between the floats of lib.Ieee and their patterns: values, `units`, NaN and the infinity.
+use mathlib.Core.Path.{_≡_, refl, sym, ap, _∙_, subst}
+use mathlib.Core.Logic.{_⊎_, inl, inr}
+use Prim.Native.Nat.{ℕ, zero, suc, _+_, _-_, _*_, _/_, _%_, _^_, _≤_, _<_}
+use native.Mathlib.Nat.{le-of-lt, mul-div-cancel, min-eq-left, min-eq-right}
+use native.Mathlib.Omega.{arith}
+use mathlib.Core.Bool.{Bool, true, false, not, cond, true≢false}
+use lib.Dec.{T, leb, ltb, eqb, lt→ltb, not-T, eqb→eq}
+use lib.Arith.{le→nltb, lt→nleb}
+use lib.Ieee.{Float, nan, inf, fin, binary32, down, size, odd, units, fits, isNan, ne, ofFields, ofBits, toBits, nanBits}
+use lib.Ieee.Exact.{HasValue, odd-sign, units-val}
+use lib.Ieee.Fits.{odd-fits, down-pos}
+use lib.Ieee.Bits.{ofBits-toBits, ofBits-fits, cond-no, is-true, is-false, nanBits-is, nanBits-above}
+use Rattle.hypot.specs.Hypot.{whole}
+use Rattle.hypot.specs.Pattern.{patternOf, value, f32At}
+use Rattle.hypot.specs.Nearest.{ValueIs}
+use Rattle.hypot.proofs.Order.{lt-or-ge}
+use Rattle.hypot.proofs.Value.{value-lt, value-le, value-at}
+
+-- ---- a pattern's value
+fields-value : (s : Bool) (x t : ℕ) → x < 255 → t < 8388608 → HasValue (ofFields binary32 s x t) s (value (x * 8388608 + t)) (2 ^ 149)
+unfolding ofFields
+fields-value s zero t X H = subst (λ (n : ℕ). HasValue (odd 24 s t 0 149) s n (2 ^ 149)) (sym (value-at 0 t (omega arith) (inl refl))) (odd-sign 24 s t 0 149)
+fields-value s (suc x) t X H =
+    subst (λ (v : Float). HasValue v s (value (suc x * 8388608 + t)) (2 ^ 149))
+    (sym (cond-no (eqb (suc x) 255) (cond (eqb t 0) (inf s) nan) (odd 24 s (8388608 + t) x 149) (not-T (eqb (suc x) 255) (λ (u : T (eqb (suc x) 255)). differ (eqb→eq (suc x) 255 u)))))
+    (subst (λ (n : ℕ). HasValue (odd 24 s (8388608 + t) x 149) s n (2 ^ 149)) (sym (ap value carry ∙ value-at x (8388608 + t) (omega arith) (inr (omega arith)))) (odd-sign 24 s (8388608 + t) x 149))
+  where
+    differ : suc x ≡ 255 → ⊥
+    differ e = omega arith
+
+    carry : suc x * 8388608 + t ≡ x * 8388608 + (8388608 + t)
+    carry = omega arith
+
+ofBits-is : (b : ℕ) → ofBits binary32 b ≡ ofFields binary32 (leb 2147483648 b) (b % 2147483648 / 8388608) (b % 8388608)
+unfolding ofBits
+ofBits-is b = refl
+
+bits-value : (b : ℕ) → b % 2147483648 < 2139095040 → HasValue (ofBits binary32 b) (leb 2147483648 b) (value (b % 2147483648)) (2 ^ 149)
+bits-value b h =
+    let x = b % 2147483648 / 8388608 in
+    let t = b % 8388608 in
+    let e : x * 8388608 + t ≡ b % 2147483648 = omega arith in
+    subst (λ (v : Float). HasValue v (leb 2147483648 b) (value (b % 2147483648)) (2 ^ 149)) (sym (ofBits-is b))
+    (subst (λ (p : ℕ). HasValue (ofFields binary32 (leb 2147483648 b) x t) (leb 2147483648 b) (value p) (2 ^ 149)) e
+    (fields-value (leb 2147483648 b) x t (omega arith) (omega arith)))
+
+pub value-is : (p : ℕ) → ValueIs p
+value-is p h =
+    let e : p % 2147483648 ≡ p = omega arith in
+    let s : leb 2147483648 p ≡ false = is-false (leb 2147483648 p) (lt→nleb 2147483648 p (omega arith)) in
+    subst (λ (b : Bool). HasValue (ofBits binary32 p) b (value p) (2 ^ 149)) s
+    (subst (λ (q : ℕ). HasValue (ofBits binary32 p) (leb 2147483648 p) (value q) (2 ^ 149)) e (bits-value p (subst (λ (q : ℕ). q < 2139095040) (sym e) h)))
+
+abbrev pub Whole : Float → ℕ → Type 0
+Whole nan n = ⊥
+Whole (inf s) n = ⊥
+Whole (fin s m e) n = whole m e ≡ n
+
+whole-of : (x : Float) (s : Bool) (n : ℕ) → HasValue x s n (2 ^ 149) → Whole x n
+whole-of nan s n h = h
+whole-of (inf t) s n h = h
+whole-of (fin t m e) s n h = ap (λ (x : ℕ). x / down e) (h .1) ∙ mul-div-cancel n (down-pos e)
+
+pub finite-is : (x : Float) → T (fits binary32 x) → patternOf x < 2139095040 → Whole x (value (patternOf x))
+finite-is x held h =
+    let b = toBits binary32 x in
+    subst (λ (y : Float). Whole y (value (patternOf x))) (ofBits-toBits binary32 x held) (whole-of (ofBits binary32 b) (leb 2147483648 b) (value (b % 2147483648)) (bits-value b h))
+
+-- ---- `units`
+bits-at : (x : Float) (n : ℕ) → HasValue x false n (2 ^ 149) → toBits binary32 x ≡ (size n - 24) * 8388608 + n / 2 ^ (size n - 24)
+unfolding toBits
+bits-at nan n h = absurd h
+bits-at (inf s) n h = absurd h
+bits-at (fin true m e) n h = absurd (true≢false (h .0))
+bits-at (fin false m e) n h = ap (λ (x : ℕ). 0 + (size x - 24) * 8388608 + x / 2 ^ (size x - 24)) (whole-of (fin false m e) false n h) ∙ omega arith
+
+same-value : (x y : Float) (n : ℕ) → T (fits binary32 x) → T (fits binary32 y) → HasValue x false n (2 ^ 149) → HasValue y false n (2 ^ 149) → x ≡ y
+same-value x y n a b h k = sym (ofBits-toBits binary32 x a) ∙ ap (ofBits binary32) (bits-at x n h ∙ sym (bits-at y n k)) ∙ ofBits-toBits binary32 y b
+
+units-fit : (t k : ℕ) → t ≤ 16777216 → t * 2 ^ k < 2 ^ 277 → T (fits binary32 (units binary32 false t k))
+unfolding units
+units-fit t k h g =
+    subst (λ (b : Bool). T (fits binary32 (cond b (odd 25 false t k 149) (inf false)))) (sym (is-true (ltb (t * 2 ^ k) (2 ^ 277)) (lt→ltb (t * 2 ^ k) (2 ^ 277) g)))
+    (odd-fits binary32 25 false t k (omega arith) h g)
+
+units-over : (t k : ℕ) → 2 ^ 277 ≤ t * 2 ^ k → units binary32 false t k ≡ inf false
+unfolding units
+units-over t k h = cond-no (ltb (t * 2 ^ k) (2 ^ 277)) (odd 25 false t k 149) (inf false) (le→nltb (t * 2 ^ k) (2 ^ 277) h)
+
+pub inf-bits : ofBits binary32 2139095040 ≡ inf false
+unfolding ofBits
+inf-bits = refl
+
+pub units-at : (k t : ℕ) → t ≤ 16777216 → (k ≡ 0) ⊎ (8388608 ≤ t) → units binary32 false t k ≡ f32At (k * 8388608 + t)
+units-at k t h l =
+    let b = k * 8388608 + t in
+    let v : value b ≡ t * 2 ^ k = value-at k t h l in
+    elim (lt-or-ge b 2139095040) [
+      | inl g ↦
+          let under : t * 2 ^ k < 2 ^ 277 = subst (λ (x : ℕ). x < 2 ^ 277) v (value-lt g) in
+          same-value (units binary32 false t k) (ofBits binary32 b) (t * 2 ^ k) (units-fit t k h under) (ofBits-fits binary32 b) (units-val binary32 false t k under)
+          (subst (λ (x : ℕ). HasValue (ofBits binary32 b) false x (2 ^ 149)) v (value-is b g))
+          ∙ ap (ofBits binary32) (sym (min-eq-left (le-of-lt g)))
+      | inr g ↦ units-over t k (subst (λ (x : ℕ). 2 ^ 277 ≤ x) v (value-le g)) ∙ sym (ap (ofBits binary32) (min-eq-right g) ∙ inf-bits)
+    ]
+
+-- ---- NaN
+only : (x : Float) → T (isNan x) → x ≡ nan
+unfolding isNan
+only nan t = refl
+only (inf s) t = absurd t
+only (fin s m e) t = absurd t
+
+pub nan-is : (x : Float) → T (fits binary32 x) → 2139095040 < patternOf x → x ≡ nan
+nan-is x held h =
+    let b = toBits binary32 x in
+    let t : T (isNan (ofBits binary32 b)) = subst T (sym (nanBits-above binary32 b) ∙ nanBits-is binary32 b) (lt→ltb 2139095040 (b % 2147483648) h) in
+    only x (subst (λ (y : Float). T (isNan y)) (ofBits-toBits binary32 x held) t)
+
+pub no-nan : (x : Float) → ne x x ≡ false → T (not (isNan x))
+unfolding isNan ne
+no-nan nan h = absurd (true≢false h)
+no-nan (inf s) h = tt
+no-nan (fin s m e) h = tt
+
+pub no-nan-bits : (b : ℕ) → b ≤ 2139095040 → T (not (nanBits binary32 b))
+no-nan-bits b h = subst (λ (t : Bool). T (not t)) (sym (nanBits-above binary32 b)) (le→nltb 2139095040 (b % 2147483648) (omega arith))
+
+-- ---- the infinity
+ones : (s : Bool) → ofFields binary32 s 255 0 ≡ inf s
+unfolding ofFields
+ones s = refl
+
+pub inf-is : (x : Float) → T (fits binary32 x) → patternOf x ≡ 2139095040 → (s : Bool) × (x ≡ inf s)
+inf-is x held h =
+    let b = toBits binary32 x in
+    let s = leb 2147483648 b in
+    let e : b % 2147483648 / 8388608 ≡ 255 = omega arith in
+    let t : b % 8388608 ≡ 0 = omega arith in
+    (s, sym (ofBits-toBits binary32 x held) ∙ ofBits-is b ∙ ap (λ (y : ℕ). ofFields binary32 s y (b % 8388608)) e ∙ ap (λ (y : ℕ). ofFields binary32 s 255 y) t ∙ ones s)

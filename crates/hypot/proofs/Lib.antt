@@ -1,0 +1,9 @@
+mod Order
+mod Isqrt
+mod Value
+mod Rounding
+mod Floats
+mod Theorem
+mod Ways
+mod Cases
+mod Squares

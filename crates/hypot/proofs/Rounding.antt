@@ -1,0 +1,157 @@
+-- Which pattern is nearest, by its neighbours; and no other is.
+use mathlib.Core.Path.{_≡_, refl, sym, ap, _∙_, subst}
+use mathlib.Core.Logic.{_⊎_, inl, inr}
+use Prim.Native.Nat.{ℕ, _+_, _-_, _*_, _%_, _^_, _≤_, _<_, Ordering, Ordering·lt, Ordering·eq, Ordering·gt}
+use native.Mathlib.Nat.{le-trans, le-of-eq, le-of-lt, lt-of-lt-of-le, lt-of-le-of-lt, le-refl, lt-irrefl, le-antisymm, eq-or-lt-of-le, add-comm, add-assoc, add-le-add, add-lt-add-of-lt-of-le}
+use native.Mathlib.Numerals.{add-one}
+use native.Mathlib.Omega.{arith}
+use lib.Ieee.{nearest}
+use Rattle.hypot.specs.Pattern.{value}
+use Rattle.hypot.specs.Nearest.{mid, Nearest}
+use Rattle.hypot.proofs.Order.{Cmp, lt-or-ge, square-le, square-lt}
+use Rattle.hypot.proofs.Value.{value-lt, value-le, pattern-lt, value-at}
+
+mid-le : (g : ℕ) {p q : ℕ} → p ≤ q → mid p g ≤ mid q g
+mid-le g {p} {q} h = square-le {a = value p + value g} {b = value q + value g} (add-le-add (value-le h) (le-refl (value g)))
+
+mid-lt : (g : ℕ) {p q : ℕ} → p < q → mid p g < mid q g
+mid-lt g {p} {q} h = square-lt {a = value p + value g} {b = value q + value g} (add-lt-add-of-lt-of-le (value-lt h) (le-refl (value g)))
+
+mid-swap : (p q : ℕ) → mid p q ≡ mid q p
+mid-swap p q = ap (λ (x : ℕ). x * x) (add-comm (value p) (value q))
+
+mid-same : (p : ℕ) → mid p p ≡ 4 * (value p * value p)
+mid-same p = double (value p)
+  where
+    double : (x : ℕ) → (x + x) * (x + x) ≡ 4 * (x * x)
+    double x = omega arith
+
+next-le : {p q : ℕ} → p < q → p + 1 ≤ q
+next-le h = omega arith
+
+four-le : {a b : ℕ} → a ≤ b → 4 * a ≤ 4 * b
+four-le h = omega arith
+
+four-lt : {a b : ℕ} → a < b → 4 * a < 4 * b
+four-lt h = omega arith
+
+-- ---- by the neighbours of g
+module _ (n g : ℕ) where
+  made : ((p : ℕ) → p < g → mid p g ≤ 4 * n) → 4 * n ≤ mid (g + 1) g → ((p : ℕ) → (value p ≡ value g → ⊥) → mid p g ≡ 4 * n → g % 2 ≡ 0) → Nearest n g
+  made lo hi tie = record { below = λ p h. lo p (pattern-lt h); above = λ p h. le-trans hi (mid-le g (next-le (pattern-lt h))); tie = tie }
+
+  strict : ((p : ℕ) → p < g → mid p g < 4 * n) → 4 * n < mid (g + 1) g → Nearest n g
+  strict lo hi = made (λ p h. le-of-lt (lo p h)) (le-of-lt hi) (λ p d e. absurd (none p d e (lt-or-ge p g)))
+    where
+      none : (p : ℕ) → (value p ≡ value g → ⊥) → mid p g ≡ 4 * n → (p < g) ⊎ (g ≤ p) → ⊥
+      none p d e (inl h) = lt-irrefl (4 * n) (subst (λ (x : ℕ). x < 4 * n) e (lo p h))
+      none p d e (inr h) = elim (eq-or-lt-of-le h) [
+        | inl s ↦ d (ap value (sym s))
+        | inr s ↦ lt-irrefl (4 * n) (subst (λ (x : ℕ). 4 * n < x) e (lt-of-lt-of-le hi (mid-le g (next-le s))))
+      ]
+
+  -- the root is not below g, or is below it
+  rest-below : value g * value g ≤ n → (p : ℕ) → p < g → mid p g < 4 * n
+  rest-below l p h = lt-of-lt-of-le (mid-lt g h) (le-trans (le-of-eq (mid-same g)) (four-le l))
+
+  rest-above : n < value g * value g → 4 * n < mid (g + 1) g
+  rest-above u = lt-of-lt-of-le (four-lt u) (le-trans (le-of-eq (sym (mid-same g))) (mid-le g (at-next g)))
+    where
+      at-next : (g : ℕ) → g ≤ g + 1
+      at-next g = omega arith
+
+  pub lower : value g * value g ≤ n → 4 * n < mid (g + 1) g → Nearest n g
+  lower l m = strict (rest-below l) m
+
+-- ---- b and b + 1
+module _ (n b : ℕ) where
+  mid-last : (p : ℕ) → p < b + 1 → mid p (b + 1) ≤ mid (b + 1) b
+  mid-last p h = le-trans (mid-le (b + 1) (last p b h)) (le-of-eq (mid-swap b (b + 1)))
+    where
+      last : (p b : ℕ) → p < b + 1 → p ≤ b
+      last p b h = omega arith
+
+  upper : mid (b + 1) b < 4 * n → 4 * n < mid (b + 1 + 1) (b + 1) → Nearest n (b + 1)
+  upper lo hi = strict n (b + 1) (λ p h. lt-of-le-of-lt (mid-last p h) lo) hi
+
+  nearest-at : value b * value b ≤ n → n < value (b + 1) * value (b + 1) → (o : Ordering) → Cmp o (4 * n) (mid (b + 1) b) → Nearest n (nearest b o)
+  nearest-at l u Ordering·lt h = lower n b l h
+  nearest-at l u Ordering·gt h = subst (λ (r : ℕ). Nearest n r) (add-one b) (upper h (rest-above n (b + 1) u))
+  nearest-at l u Ordering·eq h = elim (lt-or-ge (b % 2) 1) [
+    | inl z ↦ subst (λ (r : ℕ). Nearest n r) (kept z) (made n b (λ p g. le-of-lt (rest-below n b l p g)) (le-of-eq h) (λ p d e. zero z))
+    | inr z ↦
+        subst (λ (r : ℕ). Nearest n r) (moved z)
+        (made n (b + 1) (λ p g. le-trans (mid-last p g) (le-of-eq (sym h))) (le-of-lt (rest-above n (b + 1) u)) (λ p d e. even z))
+  ]
+    where
+      zero : b % 2 < 1 → b % 2 ≡ 0
+      zero z = omega arith
+
+      even : 1 ≤ b % 2 → (b + 1) % 2 ≡ 0
+      even z = omega arith
+
+      kept : b % 2 < 1 → b ≡ b + b % 2
+      kept z = omega arith
+
+      moved : 1 ≤ b % 2 → b + 1 ≡ b + b % 2
+      moved z = omega arith
+
+-- ---- by the digits q of a number q * 2 ^ k
+module _ (k q : ℕ) (h : q < 16777216) (l : (k ≡ 0) ⊎ (8388608 ≤ q)) where
+  value-next : value (k * 8388608 + q + 1) ≡ (q + 1) * 2 ^ k
+  value-next = ap value (add-assoc (k * 8388608) q 1) ∙ value-at k (q + 1) (omega arith) (lead l)
+    where
+      lead : (k ≡ 0) ⊎ (8388608 ≤ q) → (k ≡ 0) ⊎ (8388608 ≤ q + 1)
+      lead (inl z) = inl z
+      lead (inr z) = inr (omega arith)
+
+  pub mid-next : (2 * q + 1) * 2 ^ k ≡ value (k * 8388608 + q + 1) + value (k * 8388608 + q)
+  mid-next = halves q (2 ^ k) ∙ sym (ap (λ (x : ℕ). x + value (k * 8388608 + q)) value-next ∙ ap (λ (x : ℕ). (q + 1) * 2 ^ k + x) (value-at k q (le-of-lt h) l))
+    where
+      halves : (q K : ℕ) → (2 * q + 1) * K ≡ (q + 1) * K + q * K
+      halves q K = omega arith
+
+  shift : (o : Ordering) → nearest (k * 8388608 + q) o ≡ k * 8388608 + nearest q o
+  shift Ordering·lt = refl
+  shift Ordering·eq = omega arith
+  shift Ordering·gt = omega arith
+
+  pub nearest-digits : (n : ℕ) (o : Ordering) → q * 2 ^ k * (q * 2 ^ k) ≤ n → n < (q + 1) * 2 ^ k * ((q + 1) * 2 ^ k) → Cmp o (4 * n) ((2 * q + 1) * 2 ^ k * ((2 * q + 1) * 2 ^ k))
+      → Nearest n (k * 8388608 + nearest q o)
+  nearest-digits n o lo hi c =
+      subst (λ (r : ℕ). Nearest n r) (shift o)
+      (nearest-at n (k * 8388608 + q) (subst (λ (x : ℕ). x * x ≤ n) (sym (value-at k q (le-of-lt h) l)) lo) (subst (λ (x : ℕ). n < x * x) (sym value-next) hi) o
+      (subst (λ (x : ℕ). Cmp o (4 * n) (x * x)) mid-next c))
+
+-- Nearest is t * 2 ^ k, if the root lies strictly between the midpoints to the numbers beside it.
+pub between : (n k t : ℕ) → 8388608 < t → t < 16777216 → (2 * t - 1) * 2 ^ k * ((2 * t - 1) * 2 ^ k) < 4 * n → 4 * n < (2 * t + 1) * 2 ^ k * ((2 * t + 1) * 2 ^ k)
+    → Nearest n (k * 8388608 + t)
+between n k t least most lo hi =
+    let s = t - 1 in
+    let e : s + 1 ≡ t = omega arith in
+    let o : 2 * t - 1 ≡ 2 * s + 1 = omega arith in
+    let g : k * 8388608 + s + 1 ≡ k * 8388608 + t = add-assoc (k * 8388608) s 1 ∙ ap (λ (x : ℕ). k * 8388608 + x) e in
+    let below : mid (k * 8388608 + s + 1) (k * 8388608 + s) < 4 * n =
+    subst (λ (x : ℕ). x * x < 4 * n) (mid-next k s (omega arith) (inr (omega arith))) (subst (λ (x : ℕ). x * 2 ^ k * (x * 2 ^ k) < 4 * n) o lo) in
+    let above : 4 * n < mid (k * 8388608 + t + 1) (k * 8388608 + t) = subst (λ (x : ℕ). 4 * n < x * x) (mid-next k t most (inr (le-of-lt least))) hi in
+    subst (λ (r : ℕ). Nearest n r) g (upper n (k * 8388608 + s) below (subst (λ (r : ℕ). 4 * n < mid (r + 1) r) (sym g) above))
+
+-- ---- no other pattern is nearest: two that are lie on either side of a tie, so both are even, and one between them would be nearer
+not-less : (n r s : ℕ) → Nearest n r → Nearest n s → r < s → ⊥
+not-less n r s a b h =
+    let d : value r ≡ value s → ⊥ = λ (e : value r ≡ value s). lt-irrefl (value s) (subst (λ (x : ℕ). x < value s) e (value-lt h)) in
+    let e : mid r s ≡ 4 * n = le-antisymm (b .below r (value-lt h)) (le-trans (a .above s (value-lt h)) (le-of-eq (mid-swap s r))) in
+    let even-r : r % 2 ≡ 0 = a .tie s (λ (x : value s ≡ value r). d (sym x)) (mid-swap s r ∙ e) in
+    let even-s : s % 2 ≡ 0 = b .tie r d e in
+    let skips : r + 1 < s = omega arith in
+    let after : 4 * n ≤ mid (r + 1) r = a .above (r + 1) (value-lt (step r)) in
+    lt-irrefl (4 * n) (lt-of-le-of-lt after (lt-of-lt-of-le (mid-lt r skips) (le-of-eq (mid-swap s r ∙ e))))
+  where
+    step : (r : ℕ) → r < r + 1
+    step r = omega arith
+
+pub unique : (n r s : ℕ) → Nearest n r → Nearest n s → r ≡ s
+unique n r s a b = elim (lt-or-ge r s) [
+  | inl h ↦ absurd (not-less n r s a b h)
+  | inr h ↦ elim (eq-or-lt-of-le h) [ inl e ↦ sym e | inr g ↦ absurd (not-less n s r b a g) ]
+]

@@ -1,0 +1,34 @@
+-- The square of x against s * s + n * n, by the difference d = x - s; and what fits in 64 bits.
+use mathlib.Core.Path.{_≡_, sym, ap, _∙_}
+use mathlib.Core.Logic.{inl, inr}
+use Prim.Native.Nat.{ℕ, _+_, _-_, _*_, _≤_, _<_}
+use native.Mathlib.Nat.{lt-of-lt-of-le, le-add-right, mul-le-mul}
+use native.Mathlib.Omega.{arith}
+use lib.Dec.{ltb}
+use borrow.Author.Tests.{lt-ltb, le-ltb}
+use Rattle.hypot.proofs.Order.{lt-or-ge, square-le, square-lt}
+
+module _ (s n x : ℕ) where
+  pub square-below : x < s → x * x < s * s + n * n
+  square-below h = lt-of-lt-of-le (square-lt h) (le-add-right (s * s) (n * n))
+
+  pub square-above : n < x - s → s * s + n * n < x * x
+  square-above h = omega (arith, square-le {a = s + n + 1} {b = x} (omega arith))
+
+  pub square-split : s ≤ x → x * x ≡ s * s + (x - s) * (x - s + 2 * s)
+  square-split h = let e : x ≡ s + (x - s) = omega arith in ap (λ (z : ℕ). z * z) e ∙ expand (x - s)
+    where
+      expand : (d : ℕ) → (s + d) * (s + d) ≡ s * s + d * (d + 2 * s)
+      expand d = omega arith
+
+pub ltb-add : (a b c : ℕ) → ltb b c ≡ ltb (a + b) (a + c)
+ltb-add a b c = elim (lt-or-ge b c) [
+  | inl h ↦ lt-ltb b c h ∙ sym (lt-ltb (a + b) (a + c) (omega arith))
+  | inr h ↦ le-ltb b c h ∙ sym (le-ltb (a + b) (a + c) (omega arith))
+]
+
+pub product-fits : (s n d : ℕ) → s < 137438953472 → n < 33554432 → d ≤ n → d * (d + 2 * s) < 18446744073709551616
+product-fits s n d h k l = let m : d * (d + 2 * s) ≤ 33554431 * 274911461373 = mul-le-mul {n₂ = 33554431} {m₂ = 274911461373} (omega arith) (omega arith) in omega arith
+
+pub square-fits : (n : ℕ) → n < 33554432 → n * n < 18446744073709551616
+square-fits n h = let m : n * n ≤ 33554431 * 33554431 = square-le {a = n} {b = 33554431} (omega arith) in omega arith

@@ -1,0 +1,189 @@
+-- The three ways of `finite`: the larger side by itself, a candidate that is settled, and the root rounded.
+use mathlib.Core.Path.{_≡_, sym, ap, _∙_, subst}
+use mathlib.Core.Logic.{_⊎_, inl, inr}
+use Prim.Native.Nat.{ℕ, suc, _+_, _-_, _*_, _/_, _^_, _≤_, _<_, compare, Ordering, Ordering·lt, Ordering·eq, Ordering·gt}
+use native.Mathlib.Nat.{le-trans, le-of-eq, le-of-lt, lt-of-lt-of-le, lt-of-not-le, lt-irrefl, le-of-suc-le-suc, le-add-right, min-eq-left, mul-le-mul, mul-le-mul-left, mul-le-mul-right, mul-lt-mul-of-pos-right, mul-assoc, mul-comm, mul-pos, one-mul, eq-zero-or-pos}
+use native.Mathlib.Omega.{arith}
+use lib.Pow.{pow-pos, pow-add, pow-mono, pow-lt}
+use lib.Ieee.{binary32, nearest, ofBits}
+use Rattle.hypot.specs.Hypot.{nearestRoot}
+use Rattle.hypot.specs.Pattern.{exponentOf, significandOf, value, f32At}
+use Rattle.hypot.specs.Nearest.{mid, Nearest}
+use Rattle.hypot.specs.Parts.{rootOf, Settled}
+use Rattle.hypot.proofs.Order.{Cmp, cmp}
+use Rattle.hypot.proofs.Isqrt.{isqrt-from, isqrt-to, root-most, root-least, root-ge, root-cmp}
+use Rattle.hypot.proofs.Value.{significand-lt}
+use Rattle.hypot.proofs.Rounding.{lower, mid-next, nearest-digits, between}
+use Rattle.hypot.proofs.Theorem.{nearest-is}
+
+parts : (p : ℕ) → exponentOf p * 8388608 + significandOf p ≡ p
+parts p = omega arith
+
+finite-nearest : (n p : ℕ) → p < 2139095040 → Nearest n p → ofBits binary32 p ≡ nearestRoot n
+finite-nearest n p h a = ap (ofBits binary32) (sym (min-eq-left (le-of-lt h))) ∙ nearest-is n p a
+
+-- ---- far apart: with c * K the larger side and v the smaller, v * v is less than c * K * K
+square-less : (c K J v : ℕ) → 8388608 ≤ c → 8192 * J ≤ K → 0 < J * J → v < 16777216 * J → v * v < c * (K * K)
+square-less c K J v lead far p small =
+    let a : v * v ≤ 16777216 * J * (16777216 * J) = mul-le-mul (omega arith) (omega arith) in
+    let b : 8388608 * (8192 * J * (8192 * J)) ≤ c * (K * K) = mul-le-mul lead (mul-le-mul far far) in
+    omega (arith, a, b, p)
+
+under-mid : (c K v : ℕ) → v * v < c * (K * K) → 4 * (c * K * (c * K) + v * v) < (2 * c + 1) * K * ((2 * c + 1) * K)
+under-mid c K v h = omega (arith, h)
+
+pub far : (p q : ℕ) → p < 2139095040 → 12 < exponentOf p - exponentOf q → ofBits binary32 p ≡ nearestRoot (value p * value p + value q * value q)
+far p q h g =
+    let k = exponentOf p in
+    let j = exponentOf q in
+    let c = significandOf p in
+    let n = value p * value p + value q * value q in
+    let top : 8388608 ≤ c = leads p (exponentOf q) g in
+    let scale : 8192 * 2 ^ j ≤ 2 ^ k = le-trans (le-of-eq (sym (pow-add 2 13 j))) (pow-mono (apart k j g)) in
+    let less = square-less c (2 ^ k) (2 ^ j) (value q) top scale (mul-pos (pow-pos j) (pow-pos j)) (mul-lt-mul-of-pos-right (significand-lt q) (pow-pos j)) in
+    let near : 4 * n < mid (p + 1) p =
+    subst (λ (r : ℕ). 4 * n < mid (r + 1) r) (parts p) (subst (λ (x : ℕ). 4 * n < x * x) (mid-next k c (significand-lt p) (inr top)) (under-mid c (2 ^ k) (value q) less)) in
+    finite-nearest n p h (lower n p (le-add-right (value p * value p) (value q * value q)) near)
+  where
+    apart : (k j : ℕ) → 12 < k - j → 13 + j ≤ k
+    apart k j g = omega arith
+
+    leads : (p j : ℕ) → 12 < exponentOf p - j → 8388608 ≤ significandOf p
+    leads p j g = omega arith
+
+-- ---- near: both sides counted in units of 2 ^ f, as the code has them
+module _ (p q e f a b s : ℕ) (ee : e ≡ exponentOf p) (ff : f ≡ exponentOf q) (aa : a ≡ significandOf p) (bb : b ≡ significandOf q) (ss : s ≡ a * 2 ^ (e - f)) (le : q ≤ p) where
+  larger-side : s * 2 ^ f ≡ value p
+  larger-side =
+      ap (λ (x : ℕ). x * 2 ^ f) ss
+      ∙ mul-assoc a (2 ^ (e - f)) (2 ^ f)
+      ∙ ap (λ (x : ℕ). a * x) (sym (pow-add 2 (e - f) f) ∙ ap (λ (x : ℕ). 2 ^ x) (back ∙ ee))
+      ∙ ap (λ (x : ℕ). x * 2 ^ exponentOf p) aa
+    where
+      back : e - f + f ≡ e
+      back = omega arith
+
+  smaller-side : b * 2 ^ f ≡ value q
+  smaller-side = ap (λ (x : ℕ). b * 2 ^ x) ff ∙ ap (λ (x : ℕ). x * 2 ^ exponentOf q) bb
+
+  pub near : (4 * (value p * value p + value q * value q) ≡ (2 * s * (2 * s) + 2 * b * (2 * b)) * (2 ^ f * 2 ^ f)) × ((f ≡ 0) ⊎ (33554432 ≤ rootOf (2 * s * (2 * s) + 2 * b * (2 * b))))
+  near = (
+    sym
+        (regroup s b (2 ^ f)
+        ∙ ap (λ (x : ℕ). 4 * (x * x + b * 2 ^ f * (b * 2 ^ f))) larger-side
+        ∙ ap (λ (x : ℕ). 4 * (value p * value p + x * x)) smaller-side),
+    elim (eq-zero-or-pos f) [
+      | inl z ↦ inl z
+      | inr g ↦
+          let m : 8388608 ≤ a = leads g in
+          let k : 8388608 * 1 ≤ s = subst (λ (x : ℕ). 8388608 * 1 ≤ x) (sym ss) (mul-le-mul m (pow-pos (e - f))) in
+          inr (omega (arith, isqrt-from (2 * s) (2 * b), root-least (2 * s * (2 * s) + 2 * b * (2 * b))))
+    ],
+  )
+    where
+      regroup : (s b F : ℕ) → (2 * s * (2 * s) + 2 * b * (2 * b)) * (F * F) ≡ 4 * (s * F * (s * F) + b * F * (b * F))
+      regroup s b F = omega arith
+
+      leads : 0 < f → 8388608 ≤ a
+      leads g = omega arith
+
+pub root-small : (s n : ℕ) → s < 137438953472 → n < 33554432 → rootOf (s * s + n * n) < 1099511627776
+root-small s n h k = omega (arith, root-most (s * s + n * n), isqrt-to s n)
+
+pub shifted-lt : (m d : ℕ) → m < 16777216 → d ≤ 12 → m * 2 ^ d < 68719476736
+shifted-lt m d h l = lt-of-lt-of-le (mul-lt-mul-of-pos-right h (pow-pos d)) (mul-le-mul-left 16777216 (pow-mono l))
+
+-- ---- how m compares with a square is how 4 n does, in units of 2 ^ f
+module _ (n m f u k : ℕ) (e : 4 * n ≡ m * (2 ^ f * 2 ^ f)) (scale : u * 2 ^ f ≡ 2 ^ k) where
+  regroup : (x : ℕ) → x * u * (x * u) * (2 ^ f * 2 ^ f) ≡ x * 2 ^ k * (x * 2 ^ k)
+  regroup x = square x u (2 ^ f) ∙ ap (λ (z : ℕ). x * z * (x * z)) scale
+    where
+      square : (x u F : ℕ) → x * u * (x * u) * (F * F) ≡ x * (u * F) * (x * (u * F))
+      square x u F = omega arith
+
+  scaled-cmp : (x : ℕ) (o : Ordering) → Cmp o m (x * u * (x * u)) → Cmp o (4 * n) (x * 2 ^ k * (x * 2 ^ k))
+  scaled-cmp x o c = subst (λ (z : ℕ). Cmp o z (x * 2 ^ k * (x * 2 ^ k))) (sym e) (subst (λ (z : ℕ). Cmp o (m * (2 ^ f * 2 ^ f)) z) (regroup x) (times o c))
+    where
+      times : (o : Ordering) → Cmp o m (x * u * (x * u)) → Cmp o (m * (2 ^ f * 2 ^ f)) (x * u * (x * u) * (2 ^ f * 2 ^ f))
+      times Ordering·lt h = mul-lt-mul-of-pos-right h (mul-pos (pow-pos f) (pow-pos f))
+      times Ordering·eq h = ap (λ (z : ℕ). z * (2 ^ f * 2 ^ f)) h
+      times Ordering·gt h = mul-lt-mul-of-pos-right h (mul-pos (pow-pos f) (pow-pos f))
+
+  scaled-le : (x : ℕ) → x * u * (x * u) ≤ m → x * 2 ^ k * (x * 2 ^ k) ≤ 4 * n
+  scaled-le x h = subst (λ (z : ℕ). x * 2 ^ k * (x * 2 ^ k) ≤ z) (sym e) (subst (λ (z : ℕ). z ≤ m * (2 ^ f * 2 ^ f)) (regroup x) (mul-le-mul-right (2 ^ f * 2 ^ f) h))
+
+pub settled : (n m f g : ℕ) → 4 * n ≡ m * (2 ^ f * 2 ^ f) → g < 2139095040 → Settled m f g → ofBits binary32 g ≡ nearestRoot n
+settled n m f g e h c =
+    let k = exponentOf g in
+    let t = significandOf g in
+    let u = 2 ^ (k - f) in
+    let scale : u * 2 ^ f ≡ 2 ^ k = sym (pow-add 2 (k - f) f) ∙ ap (λ (x : ℕ). 2 ^ x) (back k f (c .from)) in
+    finite-nearest n g h
+    (subst (λ (r : ℕ). Nearest n r) (parts g)
+    (between n k t (c .close .least) (significand-lt g) (scaled-cmp n m f u k e scale (2 * t - 1) Ordering·gt (c .close .low)) (scaled-cmp n m f u k e scale (2 * t + 1) Ordering·lt (c .close .high))))
+  where
+    back : (k f : ℕ) → f ≤ k → k - f + f ≡ k
+    back k f h = omega arith
+
+-- ---- the root rounded: c is what is left of w / 4 with k - f places dropped, and u is 2 ^ (k - f)
+pub record Kept (w f c u k : ℕ) : Type 0 where
+  pub lo : c * (4 * u) ≤ w
+  pub hi : w < (c + 1) * (4 * u)
+  pub scale : u * 2 ^ f ≡ 2 ^ k
+  pub few : u ≤ 32768
+  pub most : c ≤ w
+  pub lead : (k ≡ 0) ⊎ (8388608 ≤ c)
+
+pub rounds : (n m w f c u k : ℕ) → w ≡ rootOf m → 4 * n ≡ m * (2 ^ f * 2 ^ f) → Kept w f c u k → c < 16777216
+    → f32At (k * 8388608 + nearest c (compare w ((2 * c + 1) * (2 * u)))) ≡ nearestRoot n
+rounds n m w f c u k r e i small =
+    let o = compare w ((2 * c + 1) * (2 * u)) in
+    let below : 2 * c * 2 ^ k * (2 * c * 2 ^ k) ≤ 4 * n = scaled-le n m f u k e (i .scale) (2 * c) (root-ge m (2 * c * u) (omega (arith, i .lo, r))) in
+    let above : 4 * n < 2 * (c + 1) * 2 ^ k * (2 * (c + 1) * 2 ^ k) =
+    scaled-cmp n m f u k e (i .scale) (2 * (c + 1)) Ordering·lt (root-cmp m (2 * (c + 1) * u) Ordering·lt (omega (arith, i .hi, r))) in
+    let side : Cmp o w (2 * ((2 * c + 1) * u)) = subst (λ (x : ℕ). Cmp o w x) (twice c u) (cmp w ((2 * c + 1) * (2 * u))) in
+    nearest-is n (k * 8388608 + nearest c o)
+    (nearest-digits k c small (i .lead) n o (omega (arith, below)) (omega (arith, above))
+    (scaled-cmp n m f u k e (i .scale) (2 * c + 1) o (root-cmp m ((2 * c + 1) * u) o (subst (λ (x : ℕ). Cmp o x (2 * ((2 * c + 1) * u))) r side))))
+  where
+    twice : (c u : ℕ) → (2 * c + 1) * (2 * u) ≡ 2 * ((2 * c + 1) * u)
+    twice c u = omega arith
+
+pub kept-start : (w f : ℕ) → (f ≡ 0) ⊎ (33554432 ≤ w) → Kept w f (w / 4) 1 f
+kept-start w f l = record {
+  lo = omega arith;
+  hi = omega arith;
+  scale = one-mul (2 ^ f);
+  few = omega arith;
+  most = omega arith;
+  lead = elim l [ inl z ↦ inl z | inr g ↦ inr (quarter g) ];
+}
+  where
+    quarter : 33554432 ≤ w → 8388608 ≤ w / 4
+    quarter g = omega arith
+
+pub kept-next : (w f c u k : ℕ) → Kept w f c u k → w < 1099511627776 → 16777216 ≤ c → Kept w f (c / 2) (u * 2) (k + 1)
+kept-next w f c u k i small big =
+    let e = c / 2 in
+    let down : e * 2 ≤ c = omega arith in
+    let up : c + 1 ≤ (e + 1) * 2 = omega arith in
+    record {
+      lo = less e down;
+      hi = more e up;
+      scale = omega (arith, i .scale, pow-add 2 k 1);
+      few = omega (arith, mul-le-mul-right (4 * u) big, i .lo);
+      most = omega arith;
+      lead = inr (omega arith);
+    }
+  where
+    less : (e : ℕ) → e * 2 ≤ c → e * (4 * (u * 2)) ≤ w
+    less e h = omega (arith, mul-le-mul-right (4 * u) h, i .lo)
+
+    more : (e : ℕ) → c + 1 ≤ (e + 1) * 2 → w < (e + 1) * (4 * (u * 2))
+    more e h = omega (arith, mul-le-mul-right (4 * u) h, i .hi)
+
+-- at most 15 places are dropped
+pub kept-places : (w f c u k : ℕ) → Kept w f c u k → k ≤ f + 15
+kept-places w f c u k i =
+    let p : 2 ^ k ≤ 2 ^ (f + 15) = le-trans (le-of-eq (sym (i .scale))) (le-trans (mul-le-mul-right (2 ^ f) (i .few)) (le-of-eq (mul-comm 32768 (2 ^ f) ∙ sym (pow-add 2 f 15)))) in
+    le-of-suc-le-suc (lt-of-not-le (λ (g : suc (f + 15) ≤ k). lt-irrefl (2 ^ (f + 15)) (lt-of-lt-of-le (pow-lt g) p)))

@@ -1,0 +1,43 @@
+-- `below_root` meets its contract.
+use native.Mathlib.Omega.{arith}
+use mathlib.Core.Path.{sym, ap, _∙_}
+use Prim.Native.Nat.{_+_, _-_, ℕ, _*_}
+use borrow.Author.Needs.{needs}
+use lib.Dec.{ltb}
+use borrow.Author.Tests.{lt-ltb, le-ltb}
+use native.Mathlib.Nat.{le-of-lt}
+use Rattle.hypot.proofs.Squares.{square-below, square-above, square-split, ltb-add, product-fits, square-fits}
+use Rattle.hypot.proofs.below_root.Statement.{statement}
+use Rattle.hypot.proofs.below_root.Tie as tie
+
+returns : tie.Need-returns
+returns c = let a = c .before .args in sym (lt-ltb _ _ (square-below (a .s) (a .n) (a .x) (c .if1 .taken)))
+
+returns-2 : tie.Need-returns-2
+returns-2 c =
+    let a = c .before .before .args in
+    sym (le-ltb _ _ (le-of-lt (square-above (a .s) (a .n) (a .x) (c .if2 .taken))))
+
+mul-result : tie.Need-mul-result
+mul-result c = search needs
+
+add-result : tie.Need-add-result
+add-result c = search needs
+
+mul-result-2 : tie.Need-mul-result-2
+mul-result-2 c =
+    let a = c .before .before .args in
+    omega (arith, product-fits (a .s) (a .n) (a .x - a .s) (omega arith) (omega arith) (omega arith))
+
+mul-result-3 : tie.Need-mul-result-3
+mul-result-3 c = omega (arith, square-fits (c .before .before .args .n) (omega arith))
+
+returns-3 : tie.Need-returns-3
+returns-3 c =
+    let a = c .before .before .args in
+    ltb-add (a .s * a .s) _ _ ∙ ap (λ (y : ℕ). ltb y (a .s * a .s + a .n * a .n)) (sym (square-split (a .s) (a .n) (a .x) (c .before .if1 .left)))
+
+pub below-root-spec : {M : Type 1} → statement M
+below-root-spec =
+    tie.close
+    (tie.spec returns returns-2 mul-result add-result mul-result-2 mul-result-3 returns-3)

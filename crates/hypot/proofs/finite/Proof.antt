@@ -1,0 +1,125 @@
+-- `finite` meets its contract, on each of its three ways.
+use native.Mathlib.Omega.{arith}
+use mathlib.Core.Path.{_≡_, sym, subst}
+use mathlib.Core.Logic.{_⊎_}
+use Prim.Native.Nat.{ℕ, _+_, _-_, _*_, _^_, _<_, _≤_}
+use native.Mathlib.Nat.{le-of-lt}
+use lib.Dec.{T}
+use Rattle.hypot.specs.Pattern.{value}
+use Rattle.hypot.specs.Parts.{rootOf}
+use Rattle.hypot.proofs.Floats.{no-nan-bits}
+use Rattle.hypot.proofs.Ways.{far, near, shifted-lt, root-small, settled}
+use borrow.Author.Needs.{needs}
+use Rattle.hypot.proofs.finite.Statement.{statement}
+use Rattle.hypot.proofs.finite.Tie as tie
+
+-- what is known of the two sides, counted in units of 2 ^ f
+small : (c : tie.After-shifted) → c .shifted .result < 68719476736
+small c =
+    let a = c .before .significand .result in
+    let d = c .before .before .before .before .exponent .result - c .before .before .before .exponent2 .result in
+    subst (λ (x : ℕ). x < 68719476736) (sym (c .shifted .ensures)) (shifted-lt a d (omega arith) (c .before .before .if1 .left))
+
+abbrev sum : tie.After-significand2 → ℕ
+sum c = let a = c .before .before .before .before .before .before .args in value (a .p) * value (a .p) + value (a .q) * value (a .q)
+
+abbrev scaled : tie.After-significand2 → ℕ
+scaled c = 2 * c .before .shifted .result * (2 * c .before .shifted .result) + 2 * c .significand2 .result * (2 * c .significand2 .result)
+
+abbrev place : tie.After-significand2 → ℕ
+place c = c .before .before .before .before .exponent2 .result
+
+sides : (c : tie.After-significand2) → (4 * sum c ≡ scaled c * (2 ^ place c * 2 ^ place c)) × ((place c ≡ 0) ⊎ (33554432 ≤ rootOf (scaled c)))
+sides c =
+    let e = c .before .before .before .before in
+    let s = e .before .before in
+    near (s .args .p) (s .args .q) _ _ _ _ _ (e .before .exponent .ensures) (e .exponent2 .ensures) (c .before .before .significand .ensures) (c .significand2 .ensures)
+    (c .before .shifted .ensures) (s .pre .0)
+
+exponent-requires : tie.Need-exponent-requires
+exponent-requires c κs = search needs
+
+exponent-requires-2 : tie.Need-exponent-requires-2
+exponent-requires-2 c κs = search needs
+
+sub-if1 : tie.Need-sub-if1
+sub-if1 c = search needs
+
+float-from-bits-result : tie.Need-float-from-bits-result
+float-from-bits-result c = no-nan-bits (c .before .before .before .args .p) (omega arith)
+
+returns : tie.Need-returns
+returns c =
+    let a = c .before .before .before .args in
+    far (a .p) (a .q) (c .before .before .before .pre .1) (omega arith)
+
+significand-requires : tie.Need-significand-requires
+significand-requires c κs = search needs
+
+sub-shifted : tie.Need-sub-shifted
+sub-shifted c = search needs
+
+shifted-requires : tie.Need-shifted-requires
+shifted-requires c κs = search needs
+
+mul-s : tie.Need-mul-s
+mul-s c = omega (arith, small c)
+
+significand-requires-2 : tie.Need-significand-requires-2
+significand-requires-2 c κs = search needs
+
+mul-n : tie.Need-mul-n
+mul-n c = search needs
+
+estimate-requires : tie.Need-estimate-requires
+estimate-requires c κs = search needs
+
+settled-requires : tie.Need-settled-requires
+settled-requires c κs = (omega (arith, small (c .before .before)), omega arith)
+
+float-from-bits-result-2 : tie.Need-float-from-bits-result-2
+float-from-bits-result-2 c = no-nan-bits (c .before .before .estimate .result) (le-of-lt (c .before .before .estimate .ensures))
+
+returns-2 : tie.Need-returns-2
+returns-2 c = settled _ _ _ _ (sides (c .before .before .before) .0) (c .before .before .estimate .ensures) (c .before .settled .ensures (subst T (sym (c .if2 .taken)) tt))
+
+root-requires : tie.Need-root-requires
+root-requires c κs = (omega (arith, small (c .before .before .before .before)), omega arith)
+
+rounded-requires : tie.Need-rounded-requires
+rounded-requires c κs =
+    let b = c .before .before .before .before in (
+      subst (λ (w : ℕ). w < 1099511627776) (sym (c .root .ensures)) (root-small _ _ (omega (arith, small (b .before))) (omega arith)),
+      (
+        omega arith,
+        subst (λ (w : ℕ). (place b ≡ 0) ⊎ (33554432 ≤ w)) (sym (c .root .ensures)) (sides b .1),
+      ),
+    )
+
+returns-3 : tie.Need-returns-3
+returns-3 c =
+    let b = c .before .before .before .before .before in
+    c .rounded .ensures (sum b) (scaled b) (c .before .root .ensures) (sides b .0)
+
+pub finite-spec : {M : Type 1} → statement M
+finite-spec =
+    tie.close
+    (tie.spec
+    exponent-requires
+    exponent-requires-2
+    sub-if1
+    float-from-bits-result
+    returns
+    significand-requires
+    sub-shifted
+    shifted-requires
+    mul-s
+    significand-requires-2
+    mul-n
+    estimate-requires
+    settled-requires
+    float-from-bits-result-2
+    returns-2
+    root-requires
+    rounded-requires
+    returns-3)

@@ -1,0 +1,37 @@
+-- `nearer` meets its contract.
+use mathlib.Core.Path.{_≡_, sym, ap, _∙_}
+use borrow.Author.Needs.{needs}
+use native.Mathlib.Numerals.{add-one}
+use native.Mathlib.Omega.{arith}
+use Prim.Native.Nat.{ℕ, _≤_, _<_, Ordering, Ordering·lt, Ordering·eq, Ordering·gt}
+use lib.Ieee.{nearest}
+use Rattle.hypot.proofs.Order.{cmp-is}
+use Rattle.hypot.proofs.nearer.Statement.{statement}
+use Rattle.hypot.proofs.nearer.Tie as tie
+
+more : (w h : ℕ) → h ≤ w → (w ≡ h → ⊥) → h < w
+more w h a b = omega arith
+
+returns : tie.Need-returns
+returns c =
+    let a = c .before .args in
+    sym (ap (λ (o : Ordering). nearest (a .c) o) (cmp-is Ordering·lt (a .w) (a .h) (c .if1 .taken)))
+
+add-result : tie.Need-add-result
+add-result c = search needs
+
+add-result-2 : tie.Need-add-result-2
+add-result-2 c = search needs
+
+returns-2 : tie.Need-returns-2
+returns-2 c =
+    let a = c .before .before .args in
+    sym (ap (λ (o : Ordering). nearest (a .c) o) (cmp-is Ordering·eq (a .w) (a .h) (c .if2 .taken)))
+
+returns-3 : tie.Need-returns-3
+returns-3 c =
+    let a = c .before .before .args in
+    add-one (a .c) ∙ sym (ap (λ (o : Ordering). nearest (a .c) o) (cmp-is Ordering·gt (a .w) (a .h) (more (a .w) (a .h) (c .before .if1 .left) (c .if2 .left))))
+
+pub nearer-spec : {M : Type 1} → statement M
+nearer-spec = tie.close (tie.spec returns add-result add-result-2 returns-2 returns-3)

@@ -1,0 +1,36 @@
+-- `packed` meets its contract.
+use mathlib.Core.Path.{sym, ap}
+use Prim.Native.Nat.{_+_, _*_}
+use borrow.Author.Needs.{needs}
+use native.Mathlib.Nat.{le-of-lt, min-eq-left, min-eq-right}
+use lib.Ieee.{binary32, ofBits}
+use Rattle.hypot.proofs.Floats.{no-nan-bits}
+use native.Mathlib.Omega.{arith}
+use Rattle.hypot.proofs.packed.Statement.{statement}
+use Rattle.hypot.proofs.packed.Tie as tie
+
+mul-b : tie.Need-mul-b
+mul-b c = search needs
+
+cast-b : tie.Need-cast-b
+cast-b c = search needs
+
+add-b : tie.Need-add-b
+add-b c = search needs
+
+float-from-bits-result : tie.Need-float-from-bits-result
+float-from-bits-result c = no-nan-bits (c .before .args .k * 8388608 + c .before .args .t) (omega arith)
+
+float-from-bits-result-2 : tie.Need-float-from-bits-result-2
+float-from-bits-result-2 c = no-nan-bits 2139095040 (omega arith)
+
+returns : tie.Need-returns
+returns c = ap (ofBits binary32) (sym (min-eq-left (le-of-lt (c .if1 .taken))))
+
+returns-2 : tie.Need-returns-2
+returns-2 c = ap (ofBits binary32) (sym (min-eq-right (c .if1 .left)))
+
+pub packed-spec : {M : Type 1} → statement M
+packed-spec =
+    tie.close
+    (tie.spec mul-b cast-b add-b float-from-bits-result float-from-bits-result-2 returns returns-2)

@@ -1,0 +1,41 @@
+-- `root` meets its contract.
+use native.Mathlib.Omega.{arith}
+use mathlib.Core.Path.{sym, _∙_}
+use mathlib.Core.Bool.{true, false}
+use borrow.Author.Needs.{needs}
+use Rattle.hypot.proofs.Isqrt.{isqrt-to, root-is}
+use Rattle.hypot.proofs.root.Statement.{statement}
+use Rattle.hypot.proofs.root.Tie as tie
+
+whole-root-requires : tie.Need-whole-root-requires
+whole-root-requires c κs = search needs
+
+below-root-requires : tie.Need-below-root-requires
+below-root-requires c κs = search needs
+
+mul-result : tie.Need-mul-result
+mul-result c = let a = c .before .before .before .args in omega (arith, isqrt-to (a .s) (a .n), c .before .before .whole-root .ensures)
+
+add-result : tie.Need-add-result
+add-result c = let a = c .before .before .before .args in omega (arith, isqrt-to (a .s) (a .n), c .before .before .whole-root .ensures)
+
+mul-result-2 : tie.Need-mul-result-2
+mul-result-2 c = let a = c .before .before .before .args in omega (arith, isqrt-to (a .s) (a .n), c .before .before .whole-root .ensures)
+
+returns : tie.Need-returns
+returns c = root-is _ _ true (c .before .before .whole-root .ensures) (sym (c .before .below-root .ensures) ∙ c .if1 .taken)
+
+returns-2 : tie.Need-returns-2
+returns-2 c = root-is _ _ false (c .before .before .whole-root .ensures) (sym (c .before .below-root .ensures) ∙ c .if1 .left)
+
+pub root-spec : {M : Type 1} → statement M
+root-spec =
+    tie.close
+    (tie.spec
+    whole-root-requires
+    below-root-requires
+    mul-result
+    add-result
+    mul-result-2
+    returns
+    returns-2)

@@ -1,0 +1,83 @@
+-- `rounded` meets its contract. The loop's invariant is `Kept`.
+use mathlib.Core.Path.{ap, _∙_}
+use native.Mathlib.Omega.{arith}
+use Prim.Native.Nat.{ℕ, _+_, _*_, compare}
+use Rattle.hypot.specs.Pattern.{f32At}
+use lib.Ieee.Fits.{nearest-le}
+use Rattle.hypot.proofs.Ways.{Kept, kept-start, kept-next, kept-places, rounds}
+use Rattle.hypot.proofs.rounded.Statement.{statement}
+use Rattle.hypot.proofs.rounded.Tie as tie
+
+abbrev Inv-loop : tie.InvT-loop
+Inv-loop w f c₀ u₀ k₀ c u k = Kept w f c u k
+
+abbrev μ-loop : tie.MeasureT-loop
+μ-loop w f c₀ u₀ k₀ c u k = c
+
+loop-holds : tie.Need-loop-holds Inv-loop μ-loop
+loop-holds c = kept-start (c .args .w) (c .args .f) (c .pre .1 .1)
+
+mul-u : tie.Need-mul-u Inv-loop μ-loop
+mul-u c = omega arith
+
+add-k : tie.Need-add-k Inv-loop μ-loop
+add-k c = let i = c .before .loop in let a = c .before .before .args in omega (arith, kept-places (a .w) (a .f) (i .c) (i .u) (i .k) (i .inv))
+
+loop-less : tie.Need-loop-less Inv-loop μ-loop
+loop-less c = omega arith
+
+loop-again : tie.Need-loop-again Inv-loop μ-loop
+loop-again c =
+    let i = c .before .loop in
+    let a = c .before .before .args in
+    kept-next (a .w) (a .f) (i .c) (i .u) (i .k) (i .inv) (c .before .before .pre .0) (c .loop-test .taken)
+
+mul-h : tie.Need-mul-h Inv-loop μ-loop
+mul-h c = omega arith
+
+add-h : tie.Need-add-h Inv-loop μ-loop
+add-h c = omega arith
+
+mul-h-2 : tie.Need-mul-h-2 Inv-loop μ-loop
+mul-h-2 c = omega arith
+
+mul-h-3 : tie.Need-mul-h-3 Inv-loop μ-loop
+mul-h-3 c = omega arith
+
+nearer-requires : tie.Need-nearer-requires Inv-loop μ-loop
+nearer-requires c κs = omega arith
+
+packed-requires : tie.Need-packed-requires Inv-loop μ-loop
+packed-requires c κs =
+    let i = c .before .before .loop in
+    let a = c .before .before .before .args in
+    let o = compare (a .w) ((2 * i .c + 1) * (2 * i .u)) in
+    (omega (arith, c .nearer .ensures, nearest-le (i .c) o), omega (arith, kept-places (a .w) (a .f) (i .c) (i .u) (i .k) (i .inv)))
+
+returns : tie.Need-returns Inv-loop μ-loop
+returns c =
+    let i = c .before .before .before .loop in
+    let a = c .before .before .before .before .args in
+    λ n m r e.
+    c .packed .ensures
+    ∙ ap (λ (t : ℕ). f32At (i .k * 8388608 + t)) (c .before .nearer .ensures)
+    ∙ rounds n m (a .w) (a .f) (i .c) (i .u) (i .k) r e (i .inv) (c .before .before .loop-test .left)
+
+pub rounded-spec : {M : Type 1} → statement M
+rounded-spec =
+    tie.close
+    (tie.spec
+    Inv-loop
+    μ-loop
+    loop-holds
+    mul-u
+    add-k
+    loop-less
+    loop-again
+    mul-h
+    add-h
+    mul-h-2
+    mul-h-3
+    nearer-requires
+    packed-requires
+    returns)

@@ -1,0 +1,5 @@
+pub mod Hypot
+pub mod Pattern
+pub mod Nearest
+pub mod Parts
+pub mod Vectors
