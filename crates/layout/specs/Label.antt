@@ -1,6 +1,9 @@
 -- The labels of the controls. Definitions only.
 use mathlib.Core.Bool.{Bool, true, false}
+use mathlib.Core.List.{List, [], _∷_}
 use Prim.Native.Nat.{ℕ, _^_}
+use lib.Bits.{bitAnd}
+use lib.Dec.{eqb}
 use Rattle.layout.specs.declared.Label.{Label}
 use Rattle.layout.specs.declared.Label.the-variants.{Tri, O, X, Sq, L1, L2, R2, R1, Select, Start, L3, R3}
 
@@ -37,3 +40,23 @@ isFaceOf Select = false
 isFaceOf Start = false
 isFaceOf L3 = false
 isFaceOf R3 = false
+
+-- A psp has the control: no high bit in its mask.
+unfoldable pub onPspOf : Label → Bool
+unfolding maskOf
+onPspOf l = eqb (bitAnd (maskOf l) 0xf000) 0
+
+-- the film sheet's name of a label (document 01), in ASCII
+unfoldable pub nameOf : Label → List ℕ
+nameOf Tri = 84 ∷ 82 ∷ 73 ∷ []  -- TRI
+nameOf O = 79 ∷ []  -- O
+nameOf X = 88 ∷ []  -- X
+nameOf Sq = 83 ∷ 81 ∷ []  -- SQ
+nameOf L1 = 76 ∷ 49 ∷ []  -- L1
+nameOf L2 = 76 ∷ 50 ∷ []  -- L2
+nameOf R2 = 82 ∷ 50 ∷ []  -- R2
+nameOf R1 = 82 ∷ 49 ∷ []  -- R1
+nameOf Select = 83 ∷ 69 ∷ 76 ∷ 69 ∷ 67 ∷ 84 ∷ []  -- SELECT
+nameOf Start = 83 ∷ 84 ∷ 65 ∷ 82 ∷ 84 ∷ []  -- START
+nameOf L3 = 76 ∷ 51 ∷ []  -- L3
+nameOf R3 = 82 ∷ 51 ∷ []  -- R3

@@ -1,3 +1,12 @@
 pub mod Lists
 pub mod Label
 pub mod Layout
+pub mod Elements
+pub mod ElementLaws
+pub mod Labels
+pub mod SetElementLaws
+pub mod Actions
+pub mod Psp
+pub mod ListLaws
+pub mod ActionLaws
+pub mod PspLaws

@@ -1,7 +1,8 @@
--- Loops over lists, as definitions write them: any, all, find, flat map, filter with map, and a change of the first elements in place. Definitions only.
+-- Loops over lists, as definitions write them: any, all, find, flat map, filter with map, retain, reduce, enumerate, and a change of the first elements in place. Definitions only.
 use mathlib.Core.Bool.{Bool, true, false, _&&_, _||_, cond}
-use mathlib.Core.List.{List, [], _∷_, _++_}
+use mathlib.Core.List.{List, [], _∷_, _++_, foldl}
 use Prim.Native.Nat.{ℕ, zero, suc}
+use lib.ListN.{length, take, drop}
 
 module _ {A : Type 0} where
   unfoldable pub anyOf : (A → Bool) → List A → Bool
@@ -32,3 +33,22 @@ module _ {A B : Type 0} where
   abbrev pub filterMap : (A → Bool) → (A → B) → List A → List B
   filterMap p f [] = []
   filterMap p f (x ∷ l) = cond (p x) (f x ∷ filterMap p f l) (filterMap p f l)
+
+module _ {A : Type 0} where
+  -- Rust's `retain`
+  abbrev pub retain : (A → Bool) → List A → List A
+  retain p l = filterMap p (λ x. x) l
+
+  -- those of the first n elements that pass the test, moved to the front of the others' places
+  abbrev pub compact : (A → Bool) → ℕ → List A → List A
+  compact p n l = let kept = retain p (take n l) in kept ++ drop (length kept) l
+
+  -- Rust's `reduce`, with what it gives for no element
+  abbrev pub reduce : (A → A → A) → A → List A → A
+  reduce f none [] = none
+  reduce f none (x ∷ xs) = foldl f x xs
+
+  -- each element with its index, the first one's being i
+  abbrev pub enumerateFrom : ℕ → List A → List (ℕ × A)
+  enumerateFrom i [] = []
+  enumerateFrom i (x ∷ xs) = (i, x) ∷ enumerateFrom (suc i) xs

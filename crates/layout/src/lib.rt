@@ -1,8 +1,14 @@
 // The layout record of input.rs: a game, a d-pad, controls, the toolbar's four keys, sticks.
 ghost use mathlib.Core.Path.{_≡_};
-ghost use Prim.Native.Nat.{_≤_, _<_};
-ghost use Rattle.layout.specs.Label.{maskOf, isFaceOf};
-ghost use Rattle.layout.specs.Layout.{elementCountOf, elementOf, setElementOf};
+ghost use mathlib.Core.Bool.{cond};
+ghost use Prim.Native.Nat.{_+_, _≤_, _<_};
+ghost use Rattle.layout.specs.Label.{maskOf, isFaceOf, onPspOf, nameOf};
+ghost use Rattle.layout.specs.Actions.{joinOf, actionBoundsOf};
+ghost use Rattle.layout.specs.Psp.{atMostOneOf, pspInputsOf};
+ghost use mathlib.Core.List.{map, zipWith};
+ghost use lib.ListN.{drop, take};
+ghost use Rattle.layout.specs.Layout.{elementCountOf, elementOf, setElementOf, elementsOf, elementList, withBounds};
+ghost use Rattle.layout.specs.Elements.{replaceFirst, controllerElementsOf, setElementsOf};
 use geometry::Rect;
 
 pub enum Label {
@@ -23,6 +29,12 @@ pub enum Label {
 pub struct Control {
     pub bounds: Rect,
     pub label: Label,
+}
+
+// A name in ASCII: the first `length` bytes of the array.
+pub struct Name {
+    pub bytes: [u8; 6],
+    pub length: usize,
 }
 
 // The first `count` controls and the first `stickcount` sticks are in use.
@@ -88,6 +100,69 @@ impl Label {
             Label::Start => false,
             Label::L3 => false,
             Label::R3 => false,
+        }
+    }
+
+    // Whether a psp has the control: its mask has no high bit.
+    pub fn on_psp(self) -> bool
+        ensures { λ r. ⌜ r ≡ onPspOf self ⌝ }
+    {
+        self.mask() & 0xf000 == 0
+    }
+
+    // The film sheet's name.
+    pub fn name(self) -> Name
+        ensures { λ r. ⌜ (take (r .length) (r .bytes) ≡ nameOf self) × (r .length ≤ 6) ⌝ }
+    {
+        match self {
+            Label::Tri => Name {
+                bytes: [b'T', b'R', b'I', 0, 0, 0],
+                length: 3,
+            },
+            Label::O => Name {
+                bytes: [b'O', 0, 0, 0, 0, 0],
+                length: 1,
+            },
+            Label::X => Name {
+                bytes: [b'X', 0, 0, 0, 0, 0],
+                length: 1,
+            },
+            Label::Sq => Name {
+                bytes: [b'S', b'Q', 0, 0, 0, 0],
+                length: 2,
+            },
+            Label::L1 => Name {
+                bytes: [b'L', b'1', 0, 0, 0, 0],
+                length: 2,
+            },
+            Label::L2 => Name {
+                bytes: [b'L', b'2', 0, 0, 0, 0],
+                length: 2,
+            },
+            Label::R2 => Name {
+                bytes: [b'R', b'2', 0, 0, 0, 0],
+                length: 2,
+            },
+            Label::R1 => Name {
+                bytes: [b'R', b'1', 0, 0, 0, 0],
+                length: 2,
+            },
+            Label::Select => Name {
+                bytes: [b'S', b'E', b'L', b'E', b'C', b'T'],
+                length: 6,
+            },
+            Label::Start => Name {
+                bytes: [b'S', b'T', b'A', b'R', b'T', 0],
+                length: 5,
+            },
+            Label::L3 => Name {
+                bytes: [b'L', b'3', 0, 0, 0, 0],
+                length: 2,
+            },
+            Label::R3 => Name {
+                bytes: [b'R', b'3', 0, 0, 0, 0],
+                length: 2,
+            },
         }
     }
 }
@@ -163,4 +238,172 @@ impl Layout {
         l.sticks[i - n - 5] = r;
         l
     }
+
+    // All elements, in the order of their indices.
+    pub fn elements(self) -> Elements
+        requires { ⌜ (self .count ≤ 12) × (self .stickcount ≤ 2) ⌝ }
+        ensures { λ r. ⌜ (elementList r ≡ elementsOf self) × (r .count ≡ elementCountOf self) ⌝ }
+    {
+        let n = self.count;
+        let dpad = self.dpad;
+        let controls = self.controls;
+        let pause = self.pause;
+        let playback = self.playback;
+        let speed = self.speed;
+        let mute = self.mute;
+        let sticks = self.sticks;
+        let mut at = [dpad; 19];
+        for i in 0..n {
+            let c = controls[i];
+            let bounds = c.bounds;
+            at[i + 1] = bounds;
+        }
+        at[n + 1] = pause;
+        at[n + 2] = playback;
+        at[n + 3] = speed;
+        at[n + 4] = mute;
+        at[n + 5] = sticks[0];
+        at[n + 6] = sticks[1];
+        Elements {
+            at,
+            count: n + 5 + self.stickcount,
+        }
+    }
+
+    // The elements but for the toolbar's.
+    pub fn controller_elements(self) -> Elements
+        requires { ⌜ (self .count ≤ 12) × (self .stickcount ≤ 2) ⌝ }
+        ensures { λ r. ⌜ (elementList r ≡ map (elementOf self) (controllerElementsOf self)) × (r .count ≡ self .count + 1 + self .stickcount) ⌝ }
+    {
+        let n = self.count;
+        let sticks = self.sticks;
+        let all = self.elements();
+        let mut at = all.at;
+        at[n + 1] = sticks[0];
+        at[n + 2] = sticks[1];
+        Elements {
+            at,
+            count: n + 1 + self.stickcount,
+        }
+    }
+
+    // `set_element` at each index in turn.
+    pub fn set_elements(self, rects: Elements) -> Layout
+        requires { ⌜ (self .count ≤ 12) × (self .stickcount ≤ 2) × (rects .count ≡ elementCountOf self) ⌝ }
+        ensures { λ r. ⌜ r ≡ setElementsOf self (elementList rects) ⌝ }
+    {
+        let n = self.count;
+        let at = rects.at;
+        let old = self.controls;
+        let controls = set_bounds(old, n, at);
+        let mut sticks = self.sticks;
+        for i in 0..self.stickcount {
+            sticks[i] = at[n + 5 + i];
+        }
+        let game = self.game;
+        Layout {
+            game,
+            dpad: at[0],
+            controls,
+            count: n,
+            pause: at[n + 1],
+            playback: at[n + 2],
+            speed: at[n + 3],
+            mute: at[n + 4],
+            sticks,
+            stickcount: self.stickcount,
+        }
+    }
+
+    // The box around the face controls, empty if there is none.
+    pub fn action_bounds(self) -> Rect
+        requires { ⌜ self .count ≤ 12 ⌝ }
+        ensures { λ r. ⌜ r ≡ actionBoundsOf self ⌝ }
+    {
+        let controls = self.controls;
+        let mut bounds = Rect {
+            x: 0.0,
+            y: 0.0,
+            w: 0.0,
+            h: 0.0,
+        };
+        let mut found = false;
+        for i in 0..self.count {
+            let c = controls[i];
+            let label = c.label;
+            if label.is_face() {
+                bounds = add(found, bounds, c.bounds);
+                found = true;
+            }
+        }
+        bounds
+    }
+
+    // Keeps the controls that a psp has, in their order, and one stick.
+    pub fn psp_inputs(self) -> Layout
+        requires { ⌜ self .count ≤ 12 ⌝ }
+        ensures { λ r. ⌜ r ≡ pspInputsOf self ⌝ }
+    {
+        let old = self.controls;
+        let mut controls = old;
+        let mut count: usize = 0;
+        for i in 0..self.count {
+            let c = old[i];
+            let label = c.label;
+            if label.on_psp() {
+                controls[count] = c;
+                count += 1;
+            }
+        }
+        let mut l = self;
+        l.controls = controls;
+        l.count = count;
+        l.stickcount = at_most_one(self.stickcount);
+        l
+    }
+}
+
+fn at_most_one(n: usize) -> usize
+    ensures { λ r. ⌜ r ≡ atMostOneOf n ⌝ }
+{
+    if n < 1 { n } else { 1 }
+}
+
+// The box around two rectangles.
+fn join(a: Rect, b: Rect) -> Rect
+    ensures { λ r. ⌜ r ≡ joinOf a b ⌝ }
+{
+    let x = float::min(a.x, b.x);
+    let y = float::min(a.y, b.y);
+    Rect {
+        x,
+        y,
+        w: float::max(a.x + a.w, b.x + b.w) - x,
+        h: float::max(a.y + a.h, b.y + b.h) - y,
+    }
+}
+
+// The box around what was found and one more.
+fn add(found: bool, bounds: Rect, next: Rect) -> Rect
+    ensures { λ r. ⌜ r ≡ cond found (joinOf bounds next) next ⌝ }
+{
+    if found {
+        return join(bounds, next);
+    }
+    next
+}
+
+// The first n controls with the rectangles that follow the d-pad's.
+fn set_bounds(controls: [Control; 12], n: usize, at: [Rect; 19]) -> [Control; 12]
+    requires { ⌜ n ≤ 12 ⌝ }
+    ensures { λ r. ⌜ r ≡ replaceFirst n (zipWith withBounds controls (drop 1 at)) controls ⌝ }
+{
+    let mut out = controls;
+    for i in 0..n {
+        let c = controls[i];
+        let label = c.label;
+        let bounds = at[i + 1];
+        out[i] = Control { bounds, label };
+    }
+    out
 }

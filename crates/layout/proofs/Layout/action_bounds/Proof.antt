@@ -1,0 +1,93 @@
+use borrow.Author.Needs.{needs}
+use native.Mathlib.Omega.{arith}
+use mathlib.Core.Path.{_≡_, refl, sym, _∙_}
+use Prim.Native.Nat.{_+_, _-_, _<_, _≤_}
+use mathlib.Core.Logic.{⊎-elim}
+use mathlib.Core.List.{List, [], _∷_, _++_}
+use lib.ListN.{length, length-map, take, getD}
+use Rattle.geometry.specs.declared.Rect.{Rect}
+use Rattle.geometry.specs.Rect.{emptyRect}
+use Rattle.layout.specs.declared.Control.{Control}
+use Rattle.layout.specs.Label.{isFaceOf}
+use Rattle.layout.specs.Layout.{anyControl}
+use Rattle.layout.specs.Lists.{filterMap, reduce}
+use Rattle.layout.specs.Actions.{joinOf}
+use Rattle.layout.specs.ActionLaws.{action-bounds}
+use Rattle.layout.proofs.Filters.{one-more, no-more, nonempty, nonempty-more, reduce-more}
+use Rattle.layout.proofs.Layout.action_bounds.Statement.{statement}
+use Rattle.layout.proofs.Layout.action_bounds.Tie as tie
+
+-- the rectangles of the face controls
+abbrev faces : List Control → List Rect
+faces cs = filterMap (λ c. isFaceOf (c .label)) (λ c. c .bounds) cs
+
+abbrev Inv-loop : tie.InvT-loop
+Inv-loop controls bounds₀ found₀ i₀ i-end bounds found i =
+    (i ≤ i-end) × (found ≡ nonempty (faces (take i controls))) × (bounds ≡ reduce joinOf emptyRect (faces (take i controls)))
+
+abbrev μ-loop : tie.MeasureT-loop
+μ-loop controls bounds₀ found₀ i₀ i-end bounds found i = i-end - i
+
+loop-holds : tie.Need-loop-holds Inv-loop μ-loop
+loop-holds c = (omega arith, refl, refl)
+
+mul-c : tie.Need-mul-c Inv-loop μ-loop
+mul-c c = omega arith
+
+array-copy-out-c : tie.Need-array-copy-out-c Inv-loop μ-loop
+array-copy-out-c c = omega arith
+
+is-face-requires : tie.Need-is-face-requires Inv-loop μ-loop
+is-face-requires c κs = search needs
+
+add-requires : tie.Need-add-requires Inv-loop μ-loop
+add-requires c κs = search needs
+
+add-i : tie.Need-add-i Inv-loop μ-loop
+add-i c = omega arith
+
+loop-less : tie.Need-loop-less Inv-loop μ-loop
+loop-less c = omega arith
+
+loop-again : tie.Need-loop-again Inv-loop μ-loop
+loop-again c =
+    let l = c .before .before .before .before in
+    let s = l .before .before in
+    let cs = s .args .self .controls in
+    let i = l .loop .i in
+    let n : length cs ≡ 12 = rw length-map at (s .good .0 .1 .1 .1 .1 .0 .1 .0 .1) in
+    let h : i < length cs = omega arith in
+    let b = getD cs i anyControl .bounds in
+    let f = c .before .is-face .ensures in
+    ⊎-elim
+    (λ t.
+    let more : faces (take (i + 1) cs) ≡ faces (take i cs) ++ (b ∷ []) = one-more _ (λ c. c .bounds) cs i anyControl h f (t .0 .taken) in
+    (omega arith, t .3 ∙ rw more (nonempty-more (faces (take i cs)) b), t .2 ∙ t .1 .ensures ∙ rw (more, ← reduce-more joinOf emptyRect (faces (take i cs)) b, ← l .loop .inv .1, ← l .loop .inv .2)))
+    (λ t.
+    let same : faces (take (i + 1) cs) ≡ faces (take i cs) = no-more _ (λ c. c .bounds) cs i anyControl h f (t .0 .left) in
+    (omega arith, t .2 ∙ rw same (l .loop .inv .1), t .1 ∙ rw same (l .loop .inv .2)))
+    (c .if1 .came)
+
+returns : tie.Need-returns Inv-loop μ-loop
+returns c =
+    let l = c .before in
+    let s = l .before .before in
+    let n : length (s .args .self .controls) ≡ 12 = rw length-map at (s .good .0 .1 .1 .1 .1 .0 .1 .0 .1) in
+    let e : l .loop .i ≡ s .args .self .count = omega arith in
+    (rw e at (l .loop .inv .2)) ∙ sym (action-bounds (s .args .self) (omega arith))
+
+pub action-bounds-spec : {M : Type 1} → statement M
+action-bounds-spec =
+    tie.close
+    (tie.spec
+    Inv-loop
+    μ-loop
+    loop-holds
+    mul-c
+    array-copy-out-c
+    is-face-requires
+    add-requires
+    add-i
+    loop-less
+    loop-again
+    returns)

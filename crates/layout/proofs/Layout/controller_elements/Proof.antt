@@ -1,0 +1,80 @@
+use mathlib.Core.Path.{_≡_, refl, ap, sym, _∙_}
+use Prim.Native.Nat.{_+_}
+use borrow.Author.Needs.{needs}
+use mathlib.Core.List.{List, [], _∷_, _++_}
+use native.Mathlib.Omega.{arith}
+use lib.ListN.{length, length-map, take, getD}
+use lib.Seq.{take-take}
+use Rattle.geometry.specs.declared.Rect.{Rect}
+use Rattle.layout.specs.Layout.{anyRect}
+use Rattle.layout.specs.Elements.{boundsOf}
+use Rattle.layout.specs.ElementLaws.{first-elements, controller-elements}
+use Rattle.layout.proofs.Loops.{sized}
+use Rattle.layout.proofs.Stores.{stored, two}
+use Rattle.layout.proofs.Layout.controller_elements.Statement.{statement}
+use Rattle.layout.proofs.Layout.controller_elements.Tie as tie
+
+elements-requires : tie.Need-elements-requires
+elements-requires c κs = search needs
+
+array-copy-out-at : tie.Need-array-copy-out-at
+array-copy-out-at c = search needs
+
+add-at : tie.Need-add-at
+add-at c = search needs
+
+mul-at : tie.Need-mul-at
+mul-at c = search needs
+
+array-set-from-at : tie.Need-array-set-from-at
+array-set-from-at c = search needs
+
+array-copy-out-at-2 : tie.Need-array-copy-out-at-2
+array-copy-out-at-2 c = search needs
+
+add-at-2 : tie.Need-add-at-2
+add-at-2 c = search needs
+
+mul-at-2 : tie.Need-mul-at-2
+mul-at-2 c = search needs
+
+array-set-from-at-2 : tie.Need-array-set-from-at-2
+array-set-from-at-2 c = search needs
+
+add-t10 : tie.Need-add-t10
+add-t10 c = search needs
+
+add-t9 : tie.Need-add-t9
+add-t9 c = search needs
+
+returns : tie.Need-returns
+returns c =
+    let start = c .before .before .before .before .before .before in
+    let s = start .args .self in
+    let all = c .before .before .before .before .elements in
+    let k : length (s .controls) ≡ 12 = rw length-map at (start .good .0 .1 .1 .1 .1 .0 .1 .0 .1) in
+    let m : length (s .sticks) ≡ 2 = rw length-map at (start .good .0 .1 .1 .1 .1 .1 .1 .1 .1 .1 .1 .0 .1 .0 .1) in
+    let n : length (all .result .at) ≡ 19 = search sized in
+    let p : take (s .count + 1) (all .result .at) ≡ s .dpad ∷ boundsOf s = sym (take-take (s .count + 1) (all .result .count) (all .result .at) (omega arith)) ∙ ap (take (s .count + 1)) (all .ensures .0) ∙ first-elements s (omega arith) (omega arith) in (
+      stored (all .result .at) (s .dpad ∷ boundsOf s) (getD (s .sticks) 0 anyRect ∷ getD (s .sticks) 1 anyRect ∷ []) (s .count) 1 (s .stickcount) (s .count + 1 + s .stickcount) p (omega arith) (omega arith) refl
+          ∙ ap (λ (t : List Rect). s .dpad ∷ (boundsOf s ++ take (s .stickcount) t)) (two (s .sticks) anyRect m)
+          ∙ sym (controller-elements s (omega arith) (omega arith)),
+      refl,
+    )
+
+pub controller-elements-spec : {M : Type 1} → statement M
+controller-elements-spec =
+    tie.close
+    (tie.spec
+    elements-requires
+    array-copy-out-at
+    add-at
+    mul-at
+    array-set-from-at
+    array-copy-out-at-2
+    add-at-2
+    mul-at-2
+    array-set-from-at-2
+    add-t10
+    add-t9
+    returns)

@@ -1,0 +1,92 @@
+use borrow.Author.Needs.{needs}
+use native.Mathlib.Omega.{arith}
+use mathlib.Core.Path.{_≡_, refl, ap, _∙_}
+use Prim.Native.Nat.{_-_, _<_, _≤_}
+use mathlib.Core.Logic.{⊎-elim}
+use lib.ListN.{length, length-map, length-set, take}
+use Rattle.layout.specs.Layout.{anyControl, controlsOf}
+use Rattle.layout.specs.Lists.{retain, compact}
+use Rattle.layout.specs.Psp.{onPsp, pspInputsOf}
+use Rattle.layout.proofs.Filters.{put-count, put-list, skip-count, skip-list}
+use Rattle.layout.proofs.Layout.psp_inputs.Statement.{statement}
+use Rattle.layout.proofs.Layout.psp_inputs.Tie as tie
+
+abbrev Inv-loop : tie.InvT-loop
+Inv-loop self old controls₀ count₀ i₀ i-end controls count i =
+    (i ≤ i-end) × (count ≤ i) × (length controls ≡ 12) × (count ≡ length (retain onPsp (take i old))) × (controls ≡ compact onPsp i old)
+
+abbrev μ-loop : tie.MeasureT-loop
+μ-loop self old controls₀ count₀ i₀ i-end controls count i = i-end - i
+
+loop-holds : tie.Need-loop-holds Inv-loop μ-loop
+loop-holds c = (omega arith, omega arith, rw length-map at (c .before .good .0 .1 .1 .1 .1 .0 .1 .0 .1), refl, refl)
+
+mul-c : tie.Need-mul-c Inv-loop μ-loop
+mul-c c = omega arith
+
+array-copy-out-c : tie.Need-array-copy-out-c Inv-loop μ-loop
+array-copy-out-c c = omega arith
+
+on-psp-requires : tie.Need-on-psp-requires Inv-loop μ-loop
+on-psp-requires c κs = search needs
+
+mul-controls : tie.Need-mul-controls Inv-loop μ-loop
+mul-controls c = omega arith
+
+array-set-from-controls : tie.Need-array-set-from-controls Inv-loop μ-loop
+array-set-from-controls c = omega arith
+
+add-count : tie.Need-add-count Inv-loop μ-loop
+add-count c = omega arith
+
+add-i : tie.Need-add-i Inv-loop μ-loop
+add-i c = omega arith
+
+loop-less : tie.Need-loop-less Inv-loop μ-loop
+loop-less c = omega arith
+
+loop-again : tie.Need-loop-again Inv-loop μ-loop
+loop-again c =
+    let l = c .before .before .before .before in
+    let s = l .before .before in
+    let cs = s .args .self .controls in
+    let i = l .loop .i in
+    let n : length cs ≡ 12 = rw length-map at (s .good .0 .1 .1 .1 .1 .0 .1 .0 .1) in
+    let h : i < length cs = omega arith in
+    let f = c .before .on-psp .ensures in
+    ⊎-elim
+    (λ t. (omega arith, omega arith, ap length (t .1) ∙ simp length-set (l .loop .inv .2), t .2 ∙ put-count onPsp cs i anyControl h f _ (t .0 .taken) (l .loop .inv .3), t .1 ∙ put-list onPsp cs i anyControl h f _ _ (t .0 .taken) (l .loop .inv .3) (l .loop .inv .4)))
+    (λ t. (omega arith, omega arith, ap length (t .1) ∙ l .loop .inv .2, t .2 ∙ skip-count onPsp cs i anyControl h f _ (t .0 .left) (l .loop .inv .3), t .1 ∙ skip-list onPsp cs i anyControl h f _ (t .0 .left) (l .loop .inv .4)))
+    (c .if1 .came)
+
+at-most-one-requires : tie.Need-at-most-one-requires Inv-loop μ-loop
+at-most-one-requires c κs = search needs
+
+returns : tie.Need-returns Inv-loop μ-loop
+unfolding pspInputsOf
+returns c =
+    let l = c .before .before in
+    let s = l .before .before .args .self in
+    let e : s .count ≡ l .loop .i = omega arith in
+    let k : l .loop .controls ≡ compact onPsp (s .count) (s .controls) = rw e (l .loop .inv .4) in
+    let m : l .loop .count ≡ length (retain onPsp (controlsOf s)) = rw e (l .loop .inv .3) in
+    rw (k, m, c .at-most-one .ensures)
+
+pub psp-inputs-spec : {M : Type 1} → statement M
+psp-inputs-spec =
+    tie.close
+    (tie.spec
+    Inv-loop
+    μ-loop
+    loop-holds
+    mul-c
+    array-copy-out-c
+    on-psp-requires
+    mul-controls
+    array-set-from-controls
+    add-count
+    add-i
+    loop-less
+    loop-again
+    at-most-one-requires
+    returns)

@@ -1,0 +1,53 @@
+-- What stands at the front of an array after stores.
+use mathlib.Core.Path.{_≡_, refl, ap, sym, _∙_}
+use mathlib.Core.List.{List, [], _∷_, _++_, map, map-append, append-assoc, zipWith}
+use Prim.Native.Nat.{ℕ, zero, suc, _+_, _<_, _≤_}
+use native.Mathlib.Nat.{add-suc}
+use native.Mathlib.Numerals.{add-one}
+use native.Mathlib.Omega.{arith}
+use lib.ListN.{length, take, drop, getD, set}
+use lib.Seq.{take-suc, take-suc-set, take-append-le, take-append-add, length-take-le, sets, sets-eq, set-at, append-snoc, drop-cons}
+use Rattle.layout.specs.Elements.{replaceFirst}
+
+module _ {A B : Type 0} where
+  -- a turn of a loop that stores f of the next element behind xs
+  pub map-put : (f : A → B) (l : List A) (i : ℕ) (d : A) (xs out : List B) (k : ℕ) → i < length l → k < length out → take k out ≡ xs ++ map f (take i l)
+      → take (k + 1) (set out k (f (getD l i d))) ≡ xs ++ map f (take (i + 1) l)
+  map-put f l i d xs out k h j p = rw (add-one k, take-suc-set out k (f (getD l i d)), p, add-one i, take-suc l i d, map-append, append-assoc)
+
+module _ {A : Type 0} where
+  -- the elements vs stored at n + j, n + (j + 1) and so on
+  abbrev pub store : List A → ℕ → ℕ → List A → List A
+  store out n j [] = out
+  store out n j (v ∷ vs) = store (set out (n + j) v) n (suc j) vs
+
+  store-sets : (out : List A) (n j : ℕ) (vs : List A) → store out n j vs ≡ sets out (n + j) vs
+  store-sets out n j [] = refl
+  store-sets out n j (v ∷ vs) = store-sets (set out (n + j) v) n (suc j) vs ∙ ap (λ (k : ℕ). sets (set out (n + j) v) k vs) (add-suc n j)
+
+  -- xs, and then the first m of the elements that were stored behind it
+  pub stored : (out xs vs : List A) (n j m k : ℕ) → take (n + j) out ≡ xs → n + j + length vs ≤ length out → m ≤ length vs → k ≡ n + j + m → take k (store out n j vs) ≡ xs ++ take m vs
+  stored out xs vs n j m k p h l e =
+      let q : length xs ≡ n + j = ap length (sym p) ∙ length-take-le (n + j) out (omega arith) in
+      let r : k ≡ length xs + m = omega arith in
+      rw (store-sets out n j vs, sets-eq vs out (n + j) h, p, r, append-assoc, take-append-add xs, take-append-le m vs)
+
+  -- an array of two
+  pub two : (l : List A) (d : A) → length l ≡ 2 → getD l 0 d ∷ getD l 1 d ∷ [] ≡ l
+  two [] d e = absurd (let z : ⊥ = omega arith in z)
+  two (x ∷ []) d e = absurd (let z : ⊥ = omega arith in z)
+  two (x ∷ y ∷ []) d e = refl
+  two (x ∷ y ∷ z ∷ l) d e = absurd (let z : ⊥ = omega arith in z)
+
+  -- a turn of a loop that replaces the first elements
+  pub replaceFirst-next : (new old out : List A) (i : ℕ) (d : A) {v : A} → i < length new → i < length old → out ≡ replaceFirst i new old → v ≡ getD new i d → set out i v ≡ replaceFirst (i + 1) new old
+  replaceFirst-next new old out i d h k p q =
+      rw (p, q, add-one, take-suc new i d h, append-snoc, drop-cons old i d k) (set-at (take i new) (getD old i d) (drop (suc i) old) (getD new i d) i (length-take-le i new (omega arith)))
+
+module _ {A B C : Type 0} (f : A → B → C) where
+  pub getD-zipWith : (xs : List A) (ys : List B) (i : ℕ) (d : A) (e : B) (z : C) → i < length xs → i < length ys → f (getD xs i d) (getD ys i e) ≡ getD (zipWith f xs ys) i z
+  unfolding zipWith
+  getD-zipWith [] ys i d e z h k = absurd (let z : ⊥ = omega arith in z)
+  getD-zipWith (x ∷ xs) [] i d e z h k = absurd (let z : ⊥ = omega arith in z)
+  getD-zipWith (x ∷ xs) (y ∷ ys) zero d e z h k = refl
+  getD-zipWith (x ∷ xs) (y ∷ ys) (suc i) d e z h k = getD-zipWith xs ys i d e z (omega arith) (omega arith)

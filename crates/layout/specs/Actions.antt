@@ -1,0 +1,26 @@
+-- The face controls of a layout, the action elements. Definitions only.
+use mathlib.Core.List.{List, map}
+use Prim.Native.Nat.{ℕ}
+use Rattle.float.specs.Float.{_⊕_, _⊖_}
+use Rattle.float.specs.MinMax.{minOf, maxOf}
+use Rattle.geometry.specs.declared.Rect.{Rect}
+use Rattle.geometry.specs.Rect.{newOf, emptyRect}
+use Rattle.layout.specs.declared.Layout.{Layout}
+use Rattle.layout.specs.Label.{isFaceOf}
+use Rattle.layout.specs.Layout.{controlsOf, elementOf}
+use Rattle.layout.specs.Lists.{filterMap, reduce, enumerateFrom}
+
+-- the element's index, one above the control's, of each face control
+unfoldable pub actionElementsOf : Layout → List ℕ
+actionElementsOf l = filterMap (λ e. isFaceOf (e .1 .label)) (λ e. e .0) (enumerateFrom 1 (controlsOf l))
+
+-- the box around two rectangles
+unfoldable pub joinOf : Rect → Rect → Rect
+joinOf a b =
+    let x = minOf (a .x) (b .x) in
+    let y = minOf (a .y) (b .y) in
+    newOf x y (maxOf (a .x ⊕ a .w) (b .x ⊕ b .w) ⊖ x) (maxOf (a .y ⊕ a .h) (b .y ⊕ b .h) ⊖ y)
+
+-- the box around the face controls
+unfoldable pub actionBoundsOf : Layout → Rect
+actionBoundsOf l = reduce joinOf emptyRect (map (elementOf l) (actionElementsOf l))

@@ -1,0 +1,46 @@
+-- Lists of a layout's elements, as indices and as rectangles. Definitions only.
+use mathlib.Core.List.{List, [], _∷_, _++_, map, zipWith}
+use Prim.Native.Nat.{ℕ, zero, suc, _+_, _-_}
+use lib.ListN.{take, drop, getD}
+use Rattle.geometry.specs.declared.Rect.{Rect}
+use Rattle.layout.specs.declared.Layout.{Layout}
+use Rattle.layout.specs.Layout.{anyRect, withBounds, controlsOf, elementCountOf}
+
+module _ {A : Type 0} where
+  -- the first n elements from one list, the others from another
+  abbrev pub replaceFirst : ℕ → List A → List A → List A
+  replaceFirst n new old = take n new ++ drop n old
+
+-- the controls' rectangles
+abbrev pub boundsOf : Layout → List Rect
+boundsOf l = map (λ c. c .bounds) (controlsOf l)
+
+-- k numbers from a on
+abbrev pub countFrom : ℕ → ℕ → List ℕ
+countFrom a zero = []
+countFrom a (suc k) = a ∷ countFrom (suc a) k
+
+-- Rust's `a..b`
+abbrev pub range : ℕ → ℕ → List ℕ
+range a b = countFrom a (b - a)
+
+-- the indices of all elements but the toolbar's
+unfoldable pub controllerElementsOf : Layout → List ℕ
+controllerElementsOf l = let n = l .count in range 0 (n + 1) ++ range (n + 5) (elementCountOf l)
+
+-- the layout with a rectangle of the list for each of its elements, in the order of their indices
+unfoldable pub setElementsOf : Layout → List Rect → Layout
+setElementsOf l rs =
+    let n = l .count in
+    record {
+      game = l .game;
+      dpad = getD rs 0 anyRect;
+      controls = replaceFirst n (zipWith withBounds (l .controls) (drop 1 rs)) (l .controls);
+      count = n;
+      pause = getD rs (n + 1) anyRect;
+      playback = getD rs (n + 2) anyRect;
+      speed = getD rs (n + 3) anyRect;
+      mute = getD rs (n + 4) anyRect;
+      sticks = replaceFirst (l .stickcount) (drop (n + 5) rs) (l .sticks);
+      stickcount = l .stickcount;
+    }

@@ -1,0 +1,27 @@
+-- Laws of lists that pass a test.
+use mathlib.Core.Path.{_≡_, refl, ap₂}
+use mathlib.Core.Bool.{Bool, true, false, cond}
+use mathlib.Core.List.{List, [], _∷_, map}
+use Prim.Native.Nat.{ℕ, suc, _≤_, zero-le, suc-le-suc}
+use native.Mathlib.Nat.{le-suc, le-trans}
+use lib.ListN.{length}
+use Rattle.layout.specs.Lists.{retain}
+
+module _ {A B : Type 0} (f : A → B) where
+  -- one element more, if a test holds
+  pub map-cond : (b : Bool) (x : A) (y : B) (l : List A) (m : List B) → f x ≡ y → map f l ≡ m → map f (cond b (x ∷ l) l) ≡ cond b (y ∷ m) m
+  map-cond true x y l m p q = ap₂ (λ (z : B) (t : List B). z ∷ t) p q
+  map-cond false x y l m p q = q
+
+  pub map-retain : (p : B → Bool) (l : List A) → map f (retain (λ (x : A). p (f x)) l) ≡ retain p (map f l)
+  map-retain p [] = refl
+  map-retain p (x ∷ l) = map-cond (p (f x)) x (f x) (retain (λ (y : A). p (f y)) l) (retain p (map f l)) refl (map-retain p l)
+
+module _ {A : Type 0} (p : A → Bool) where
+  pub retain-fewer : (l : List A) → length (retain p l) ≤ length l
+  retain-fewer [] = zero-le
+  retain-fewer (x ∷ l) = go (p x) (retain-fewer l)
+    where
+      go : (b : Bool) → length (retain p l) ≤ length l → length (cond b (x ∷ retain p l) (retain p l)) ≤ suc (length l)
+      go true h = suc-le-suc h
+      go false h = le-trans h (le-suc (length l))

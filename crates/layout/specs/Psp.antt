@@ -1,0 +1,32 @@
+-- The layout of a psp. Definitions only.
+use mathlib.Core.Bool.{Bool, cond}
+use Prim.Native.Nat.{ℕ}
+use lib.Dec.{ltb}
+use lib.ListN.{length}
+use Rattle.layout.specs.declared.Control.{Control}
+use Rattle.layout.specs.declared.Layout.{Layout}
+use Rattle.layout.specs.Label.{onPspOf}
+use Rattle.layout.specs.Layout.{controlsOf}
+use Rattle.layout.specs.Lists.{retain, compact}
+
+unfoldable pub atMostOneOf : ℕ → ℕ
+atMostOneOf n = cond (ltb n 1) n 1
+
+abbrev pub onPsp : Control → Bool
+onPsp c = onPspOf (c .label)
+
+-- without the controls that a psp lacks, and with one stick at most
+unfoldable pub pspInputsOf : Layout → Layout
+pspInputsOf l =
+    record {
+      game = l .game;
+      dpad = l .dpad;
+      controls = compact onPsp (l .count) (l .controls);
+      count = length (retain onPsp (controlsOf l));
+      pause = l .pause;
+      playback = l .playback;
+      speed = l .speed;
+      mute = l .mute;
+      sticks = l .sticks;
+      stickcount = atMostOneOf (l .stickcount);
+    }

@@ -1,0 +1,101 @@
+-- `centered` is the fold `centeredOf`: each loop has done the first part of its fold.
+use borrow.Author.Needs.{needs}
+use native.Mathlib.Omega.{arith}
+use mathlib.Core.Path.{_≡_, refl, ap, _∙_}
+use mathlib.Core.Logic.{⊎-elim}
+use mathlib.Core.List.{foldl}
+use lib.ListN.{take, length, length-map}
+use Rattle.float.specs.MinMax.{maxOf}
+use Rattle.geometry.specs.Rect.{emptyRect}
+use Rattle.layout.proofs.Loops.{sized, fold-next, take-first, cond-no}
+use Rattle.search.specs.Search.{bottomOf, bottoms, widthAt, tryAt, centeredOf}
+use Rattle.search.proofs.Steps.{first-start, later-start, try-here}
+use Prim.Native.Nat.{_+_, _-_, _<_, _≤_, zero-le}
+use Rattle.search.proofs.centered.Statement.{statement}
+use Rattle.search.proofs.centered.Tie as tie
+
+abbrev Inv-loop2 : tie.InvT-loop2
+Inv-loop2 w h count aspect obstacles center best j y width₀ k₀ j-end width k = (k ≤ count) × (width ≡ widthAt w h (take k obstacles) aspect y)
+
+abbrev μ-loop2 : tie.MeasureT-loop2
+μ-loop2 w h count aspect obstacles center best j y width₀ k₀ j-end width k = count - k
+
+abbrev Inv-loop : tie.InvT-loop
+Inv-loop w h count aspect obstacles center best₀ j₀ j-end best j =
+    (j ≤ count + 1) × (j-end ≡ count + 1) × (best ≡ foldl (tryAt w h (take count obstacles) aspect) emptyRect (take j (bottoms obstacles)))
+
+abbrev μ-loop : tie.MeasureT-loop
+μ-loop w h count aspect obstacles center best₀ j₀ j-end best j = count + 1 - j
+
+loop-holds : tie.Need-loop-holds Inv-loop2 μ-loop2 Inv-loop μ-loop
+loop-holds c = (zero-le, refl, refl)
+
+loop2-holds : tie.Need-loop2-holds Inv-loop2 μ-loop2 Inv-loop μ-loop
+unfolding widthAt
+loop2-holds c = (zero-le, c .max .ensures ∙ ap (λ m. maxOf m _) (c .before .min .ensures))
+
+loop2-again : tie.Need-loop2-again Inv-loop2 μ-loop2 Inv-loop μ-loop
+unfolding widthAt
+loop2-again c =
+    let l = c .before .before .before in
+    let s = l .before .before .before .before .before .before .before .before in
+    let n : length (s .args .t3) ≡ 19 = search sized in
+    let h : l .loop2 .k < length (s .args .t3) = omega arith in
+    (omega arith, fold-next _ _ _ _ _ h (l .loop2 .inv .1) refl (c .narrow .ensures))
+
+loop-again : tie.Need-loop-again Inv-loop2 μ-loop2 Inv-loop μ-loop
+unfolding tryAt
+loop-again c =
+    let b = c .before in
+    let l = b .before .before .before in
+    let s = l .before in
+    let n : length (s .args .t3) ≡ 19 = search sized in
+    let h : l .loop .j < length (bottoms (s .args .t3)) = simp length-map (omega arith) in (
+      omega arith,
+      refl,
+      fold-next _ _ _ _ _ h (l .loop .inv .2)
+          (⊎-elim
+          (λ t. later-start bottomOf (s .args .t3) _ (t .0 .taken) h (t .3))
+          (λ t. first-start bottomOf (s .args .t3) _ (t .0 .left) (t .1))
+          (b .before .if1 .came))
+          (⊎-elim
+          (λ t. let e : t .3 .k ≡ s .args .count = omega arith in try-here _ _ _ _ _ _ (b .within .ensures) (t .0 .taken) (rw e at (t .3 .inv .1)) (t .6 ∙ t .5 .ensures))
+          (λ t. cond-no _ _ _ (b .within .ensures) (t .0 .left) (t .1))
+          (c .if2 .came)),
+    )
+
+returns : tie.Need-returns Inv-loop2 μ-loop2 Inv-loop μ-loop
+unfolding centeredOf
+returns c =
+    let l = c .before in
+    let e : l .loop .j ≡ l .before .args .count + 1 = omega arith in
+    rw (e, take-first) at (l .loop .inv .2)
+
+pub centered-spec : {M : Type 1} → statement M
+centered-spec =
+    tie.close
+    (tie.spec
+    Inv-loop2
+    μ-loop2
+    Inv-loop
+    μ-loop
+    (λ c. omega arith)
+    loop-holds
+    (λ c. omega arith)
+    (λ c. omega arith)
+    (λ c. omega arith)
+    (λ c κs. search needs)
+    (λ c κs. search needs)
+    (λ c κs. search needs)
+    loop2-holds
+    (λ c. omega arith)
+    (λ c. omega arith)
+    (λ c κs. search needs)
+    (λ c. omega arith)
+    (λ c. omega arith)
+    loop2-again
+    (λ c κs. search needs)
+    (λ c. omega arith)
+    (λ c. omega arith)
+    loop-again
+    returns)

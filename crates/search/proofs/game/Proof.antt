@@ -1,0 +1,32 @@
+-- `game` is `gameOf`.
+use mathlib.Core.Logic.{⊎-elim}
+use Rattle.search.proofs.Steps.{game-is}
+use borrow.Author.Needs.{needs}
+use Rattle.search.proofs.game.Statement.{statement}
+use Rattle.search.proofs.game.Tie as tie
+
+returns : tie.Need-returns
+returns c =
+    let clamps = c .before .before .before .before .before .before .before .before in
+    let b = clamps .before .before .before in
+    game-is _ _ _ _ _
+    (b .before .obstacles .ensures .0)
+    (⊎-elim
+    (λ t. rw (t .0 .taken, t .2) (t .1 .ensures))
+    (λ t. rw (t .0 .left, t .2) (t .1 .ensures))
+    (b .if1 .came))
+    (clamps .before .before .clamp .ensures)
+    (clamps .before .clamp2 .ensures)
+    (clamps .clamp3 .ensures)
+
+pub game-spec : {M : Type 1} → statement M
+game-spec =
+    tie.close
+    (tie.spec
+    (λ c κs. search needs)
+    (λ c κs. search needs)
+    (λ c κs. search needs)
+    (λ c κs. search needs)
+    (λ c κs. search needs)
+    (λ c κs. search needs)
+    returns)

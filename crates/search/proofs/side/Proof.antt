@@ -1,0 +1,143 @@
+-- `side` is the fold `sideOf`: each of its three loops has done the first part of its fold.
+use borrow.Author.Needs.{needs}
+use native.Mathlib.Omega.{arith}
+use mathlib.Core.Path.{_≡_, refl, ap, _∙_}
+use mathlib.Core.Logic.{⊎-elim}
+use mathlib.Core.List.{foldl}
+use lib.ListN.{take, length, length-map}
+use Rattle.float.specs.MinMax.{maxOf}
+use Rattle.geometry.specs.Rect.{emptyRect}
+use Rattle.layout.proofs.Loops.{sized, fold-next, take-first, cond-yes, cond-no}
+use Rattle.search.specs.Search.{bottomOf, rightOf, bottoms, rights, sideWidthAt, trySideAt, tryColumn, sideOf}
+use Rattle.search.proofs.Steps.{first-start, later-start, try-side-here}
+use Prim.Native.Nat.{_+_, _-_, _<_, _≤_, zero-le}
+use Rattle.search.proofs.side.Statement.{statement}
+use Rattle.search.proofs.side.Tie as tie
+
+abbrev Inv-loop3 : tie.InvT-loop3
+Inv-loop3 w h count aspect obstacles best i x j y width₀ k₀ i-end j-end width k = (k ≤ count) × (width ≡ sideWidthAt w h (take k obstacles) aspect x y)
+
+abbrev μ-loop3 : tie.MeasureT-loop3
+μ-loop3 w h count aspect obstacles best i x j y width₀ k₀ i-end j-end width k = count - k
+
+abbrev Inv-loop2 : tie.InvT-loop2
+Inv-loop2 w h count aspect obstacles best₀ i x j₀ i-end j-end best j =
+    (j ≤ count + 1) × (j-end ≡ count + 1) × (best ≡ foldl (trySideAt w h (take count obstacles) aspect x) best₀ (take j (bottoms obstacles)))
+
+abbrev μ-loop2 : tie.MeasureT-loop2
+μ-loop2 w h count aspect obstacles best₀ i x j₀ i-end j-end best j = count + 1 - j
+
+abbrev Inv-loop : tie.InvT-loop
+Inv-loop w h count aspect obstacles best₀ i₀ i-end best i =
+    (i ≤ count + 1) × (i-end ≡ count + 1) × (best ≡ foldl (tryColumn w h (take count obstacles) aspect) emptyRect (take i (rights obstacles)))
+
+abbrev μ-loop : tie.MeasureT-loop
+μ-loop w h count aspect obstacles best₀ i₀ i-end best i = count + 1 - i
+
+loop-holds : tie.Need-loop-holds Inv-loop3 μ-loop3 Inv-loop2 μ-loop2 Inv-loop μ-loop
+loop-holds c = (zero-le, refl, refl)
+
+loop2-holds : tie.Need-loop2-holds Inv-loop3 μ-loop3 Inv-loop2 μ-loop2 Inv-loop μ-loop
+loop2-holds c = (zero-le, refl, refl)
+
+loop3-holds : tie.Need-loop3-holds Inv-loop3 μ-loop3 Inv-loop2 μ-loop2 Inv-loop μ-loop
+unfolding sideWidthAt
+loop3-holds c = (zero-le, c .max .ensures ∙ ap (λ m. maxOf m _) (c .before .min .ensures))
+
+loop3-again : tie.Need-loop3-again Inv-loop3 μ-loop3 Inv-loop2 μ-loop2 Inv-loop μ-loop
+unfolding sideWidthAt
+loop3-again c =
+    let l = c .before .before .before in
+    let s = l .before .before .before .before .before .before .before .before .before .before .before .before .before in
+    let n : length (s .args .t3) ≡ 19 = search sized in
+    let h : l .loop3 .k < length (s .args .t3) = omega arith in
+    (omega arith, fold-next _ _ _ _ _ h (l .loop3 .inv .1) refl (c .narrow-side .ensures))
+
+loop2-again : tie.Need-loop2-again Inv-loop3 μ-loop3 Inv-loop2 μ-loop2 Inv-loop μ-loop
+unfolding trySideAt
+loop2-again c =
+    let b = c .before in
+    let l = b .before .before .before in
+    let s = l .before .before .before .before .before .before in
+    let n : length (s .args .t3) ≡ 19 = search sized in
+    let h : l .loop2 .j < length (bottoms (s .args .t3)) = simp length-map (omega arith) in (
+      omega arith,
+      refl,
+      fold-next _ _ _ _ _ h (l .loop2 .inv .2)
+          (⊎-elim
+          (λ t. later-start bottomOf (s .args .t3) _ (t .0 .taken) h (t .3))
+          (λ t. first-start bottomOf (s .args .t3) _ (t .0 .left) (t .1))
+          (b .before .if3 .came))
+          (⊎-elim
+          (λ t. let e : t .3 .k ≡ s .args .count = omega arith in try-side-here _ _ _ _ _ _ _ (b .within2 .ensures) (t .0 .taken) (rw e at (t .3 .inv .1)) (t .6 ∙ t .5 .ensures))
+          (λ t. cond-no _ _ _ (b .within2 .ensures) (t .0 .left) (t .1))
+          (c .if4 .came)),
+    )
+
+loop-again : tie.Need-loop-again Inv-loop3 μ-loop3 Inv-loop2 μ-loop2 Inv-loop μ-loop
+unfolding tryColumn
+loop-again c =
+    let b = c .before in
+    let l = b .before .before .before in
+    let s = l .before in
+    let n : length (s .args .t3) ≡ 19 = search sized in
+    let h : l .loop .i < length (rights (s .args .t3)) = simp length-map (omega arith) in (
+      omega arith,
+      refl,
+      fold-next _ _ _ _ _ h (l .loop .inv .2)
+          (⊎-elim
+          (λ t. later-start rightOf (s .args .t3) _ (t .0 .taken) h (t .3))
+          (λ t. first-start rightOf (s .args .t3) _ (t .0 .left) (t .1))
+          (b .before .if1 .came))
+          (⊎-elim
+          (λ t. let e : t .1 .j ≡ s .args .count + 1 = omega arith in cond-yes _ _ _ (b .within .ensures) (t .0 .taken) (t .3 ∙ (rw (e, take-first) at (t .1 .inv .2))))
+          (λ t. cond-no _ _ _ (b .within .ensures) (t .0 .left) (t .1))
+          (c .if2 .came)),
+    )
+
+returns : tie.Need-returns Inv-loop3 μ-loop3 Inv-loop2 μ-loop2 Inv-loop μ-loop
+unfolding sideOf
+returns c =
+    let l = c .before in
+    let e : l .loop .i ≡ l .before .args .count + 1 = omega arith in
+    rw (e, take-first) at (l .loop .inv .2)
+
+pub side-spec : {M : Type 1} → statement M
+side-spec =
+    tie.close
+    (tie.spec
+    Inv-loop3
+    μ-loop3
+    Inv-loop2
+    μ-loop2
+    Inv-loop
+    μ-loop
+    (λ c. omega arith)
+    loop-holds
+    (λ c. omega arith)
+    (λ c. omega arith)
+    (λ c. omega arith)
+    (λ c κs. search needs)
+    (λ c. omega arith)
+    loop2-holds
+    (λ c. omega arith)
+    (λ c. omega arith)
+    (λ c. omega arith)
+    (λ c κs. search needs)
+    (λ c κs. search needs)
+    (λ c κs. search needs)
+    loop3-holds
+    (λ c. omega arith)
+    (λ c. omega arith)
+    (λ c κs. search needs)
+    (λ c. omega arith)
+    (λ c. omega arith)
+    loop3-again
+    (λ c κs. search needs)
+    (λ c. omega arith)
+    (λ c. omega arith)
+    loop2-again
+    (λ c. omega arith)
+    (λ c. omega arith)
+    loop-again
+    returns)
