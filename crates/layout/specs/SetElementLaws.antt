@@ -1,7 +1,7 @@
 -- Laws of `set_elements`: the elements are those of the list, and all else is as it was.
 use mathlib.Core.Path.{_≡_, refl, ap, ap₂, sym, _∙_}
 use mathlib.Core.List.{List, [], _∷_, _++_, map, zipWith}
-use Prim.Native.Nat.{ℕ, zero, suc, _+_, _-_, _<_, _≤_}
+use Prim.Native.Nat.{ℕ, zero, suc, _+_, _<_, _≤_}
 use native.Mathlib.Nat.{add-suc}
 use native.Mathlib.Omega.{arith}
 use lib.ListN.{length, take, drop, getD, length-drop, take-append-drop}
@@ -10,7 +10,7 @@ use Rattle.geometry.specs.declared.Rect.{Rect}
 use Rattle.layout.specs.declared.Control.{Control}
 use Rattle.layout.specs.declared.Label.{Label}
 use Rattle.layout.specs.declared.Layout.{Layout}
-use Rattle.layout.specs.Layout.{anyRect, withBounds, controlsOf, elementCountOf, elementsOf}
+use Rattle.layout.specs.Layout.{anyRect, withBounds, elementCountOf, elementsOf}
 use Rattle.layout.specs.Elements.{replaceFirst, boundsOf, setElementsOf}
 use Rattle.layout.specs.Labels.{labelsOf}
 

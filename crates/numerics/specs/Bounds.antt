@@ -1,0 +1,237 @@
+-- The operations on bounded values, times a divisor d: each law is a record of inequalities that are linear in P, N and E, for `omega`. And the bounds of results.
+-- `AtMost x n` bounds x by n / 256. The side condition of a law is a closed test, answered by `tt`: nothing passes 2^17.
+use mathlib.Core.Path.{_≡_, refl, sym, ap, subst}
+use Prim.Native.Nat.{ℕ, suc, _+_, _*_, _≤_, _<_}
+use native.Mathlib.Nat.{le-of-mul-le-mul-right, le-trans, le-of-eq, le-of-lt, mul-le-mul-right, mul-le-mul-left, mul-pos, le-refl, zero-lt-suc, zero-mul}
+use native.Mathlib.Omega.{arith}
+use mathlib.Core.Bool.{Bool, true, false, not, _||_, cond}
+use mathlib.Core.Logic.{_⊎_, inl, inr}
+use lib.Dec.{T, leb, ltb, leb→le, ltb→lt, lit≤}
+use lib.Pow.{pow-pos}
+use lib.Ieee.{Float, nan, ofBits, lt, le, eq, ne}
+use lib.Ieee.Compare.{differs-from-itself}
+use Rattle.float.specs.Float.{_⊕_, _⊖_, _⊗_, _⊘_, k0}
+use Rattle.float.specs.MinMax.{minOf, maxOf}
+use Rattle.numerics.specs.Value.{magnitude, Whole, posPart, negPart, eps, top, limit, AtMost, Fraction, P, N, E, Le}
+use Rattle.numerics.specs.Operations.{Near, size-is, one-zero, add-near, sub-near, mul-near, div-near, lt-true, lt-false, eq-true}
+
+pub eps-pos : 0 < eps
+unfolding eps
+eps-pos = pow-pos 141
+
+pub top-eps : top ≡ eps * limit
+unfolding top eps
+top-eps = refl
+
+pub most-magnitude : {x : Float} {n : ℕ} → AtMost x n → magnitude x ≤ eps * n
+most-magnitude {x} h = rw (size-is x) at (h .size)
+
+-- one of the two parts is 0, and so a bound on the difference is one on the sum
+pub most-size : (d : ℕ) (x : Float) (n : ℕ) → AtMost x n → P d x + N d x ≤ E d * n
+unfolding P N E
+most-size d x n h = let k = mul-le-mul-right d (h .size) in omega arith
+
+pub most-more : {x : Float} {n : ℕ} → AtMost x n → (m : ℕ) → T (leb n m) → AtMost x m
+most-more {x} {n} h m t = record { whole = h .whole; size = le-trans (h .size) (mul-le-mul-left eps (leb→le n m t)) }
+
+pub room : (x y : Float) (n m : ℕ) → AtMost x n → AtMost y m → T (ltb (n + m) limit) → magnitude x + magnitude y < top
+room x y n m p q t =
+    let a = most-magnitude p in
+    let b = most-magnitude q in
+    let c : eps * suc (n + m) ≤ eps * limit = mul-le-mul-left eps (ltb→lt (n + m) limit t) in
+    let e = top-eps in
+    let z = eps-pos in
+    omega arith
+
+-- ---- the sum
+pub record Adds (d : ℕ) (r x y : Float) : Type 0 where
+  pub over : P d r + (N d x + N d y) ≤ N d r + (P d x + P d y) + E d
+  pub under : N d r + (P d x + P d y) ≤ P d r + (N d x + N d y) + E d
+
+near-adds : (d : ℕ) (r x y : Float) → Near r (posPart x + posPart y) (negPart x + negPart y) 1 eps → Adds d r x y
+unfolding P N E
+near-adds d r x y h =
+    let a = mul-le-mul-right d (h .over) in
+    let b = mul-le-mul-right d (h .under) in
+    record { over = omega arith; under = omega arith }
+
+pub add-law : (d : ℕ) {x y : Float} {n m : ℕ} → AtMost x n → AtMost y m → T (ltb (n + m) limit) → Adds d (x ⊕ y) x y
+add-law d {x} {y} {n} {m} p q t = near-adds d (x ⊕ y) x y (add-near x y (p .whole) (q .whole) (room x y n m p q t))
+
+-- a result is no larger than what it is near to, and e
+pub near-magnitude : (r : Float) (P Q W e : ℕ) → Near r P Q W e → magnitude r * W ≤ P + Q + e * W
+near-magnitude r P Q W e h = go (one-zero r) (ap (λ (z : ℕ). z * W) (size-is r))
+  where
+    go : (posPart r ≡ 0) ⊎ (negPart r ≡ 0) → (posPart r + negPart r) * W ≡ magnitude r * W → magnitude r * W ≤ P + Q + e * W
+    go (inl z) m = let k = ap (λ (v : ℕ). v * W) z in omega (arith, h .under)
+    go (inr z) m = let k = ap (λ (v : ℕ). v * W) z in omega (arith, h .over)
+
+near-size : (r : Float) (P Q W e k : ℕ) → 0 < W → Near r P Q W e → P + Q ≤ k * W → posPart r + negPart r ≤ k + e
+near-size r P Q W e k D h l =
+    let m = near-magnitude r P Q W e h in
+    let z : magnitude r * W ≤ (k + e) * W = omega arith in
+    rw (size-is r) (le-of-mul-le-mul-right z D)
+
+near-most : (r : Float) (P Q n : ℕ) → Near r P Q 1 eps → P + Q ≤ eps * n → AtMost r (n + 1)
+near-most r P Q n h l = record { whole = h .whole; size = let k = near-size r P Q 1 eps (eps * n) (zero-lt-suc 0) h (omega arith) in omega arith }
+
+pub add-most : {x y : Float} {n m : ℕ} → AtMost x n → AtMost y m → T (ltb (n + m) limit) → AtMost (x ⊕ y) (n + m + 1)
+add-most {x} {y} {n} {m} p q t =
+    let a = p .size in
+    let b = q .size in
+    near-most (x ⊕ y) (posPart x + posPart y) (negPart x + negPart y) (n + m) (add-near x y (p .whole) (q .whole) (room x y n m p q t)) (omega arith)
+
+-- ---- the difference
+pub record Subs (d : ℕ) (r x y : Float) : Type 0 where
+  pub over : P d r + (N d x + P d y) ≤ N d r + (P d x + N d y) + E d
+  pub under : N d r + (P d x + N d y) ≤ P d r + (N d x + P d y) + E d
+
+near-subs : (d : ℕ) (r x y : Float) → Near r (posPart x + negPart y) (negPart x + posPart y) 1 eps → Subs d r x y
+unfolding P N E
+near-subs d r x y h =
+    let a = mul-le-mul-right d (h .over) in
+    let b = mul-le-mul-right d (h .under) in
+    record { over = omega arith; under = omega arith }
+
+pub sub-law : (d : ℕ) {x y : Float} {n m : ℕ} → AtMost x n → AtMost y m → T (ltb (n + m) limit) → Subs d (x ⊖ y) x y
+sub-law d {x} {y} {n} {m} p q t = near-subs d (x ⊖ y) x y (sub-near x y (p .whole) (q .whole) (room x y n m p q t))
+
+pub sub-most : {x y : Float} {n m : ℕ} → AtMost x n → AtMost y m → T (ltb (n + m) limit) → AtMost (x ⊖ y) (n + m + 1)
+sub-most {x} {y} {n} {m} p q t =
+    let a = p .size in
+    let b = q .size in
+    near-most (x ⊖ y) (posPart x + negPart y) (negPart x + posPart y) (n + m) (sub-near x y (p .whole) (q .whole) (room x y n m p q t)) (omega arith)
+
+-- ---- the product by a fraction A / B, and the quotient by it
+pub record Muls (d : ℕ) (r x : Float) (A B : ℕ) : Type 0 where
+  pub over : P d r * B + N d x * A ≤ N d r * B + P d x * A + E d * B
+  pub under : N d r * B + P d x * A ≤ P d r * B + N d x * A + E d * B
+
+ratio-muls : (d : ℕ) (r x : Float) (A B : ℕ) → Near r (posPart x * A) (negPart x * A) B eps → Muls d r x A B
+unfolding P N E
+ratio-muls d r x A B h =
+    let a = mul-le-mul-right d (h .over) in
+    let b = mul-le-mul-right d (h .under) in
+    record { over = omega arith; under = omega arith }
+
+pub room-mul : (x : Float) (n A B : ℕ) → AtMost x n → T (ltb (n * A) (limit * B)) → magnitude x * A < top * B
+room-mul x n A B p t =
+    let a : magnitude x * A ≤ eps * n * A = mul-le-mul-right A (most-magnitude p) in
+    let c : eps * suc (n * A) ≤ eps * (limit * B) = mul-le-mul-left eps (ltb→lt (n * A) (limit * B) t) in
+    let e : top * B ≡ eps * limit * B = ap (λ (z : ℕ). z * B) top-eps in
+    let z = eps-pos in
+    omega arith
+
+pub mul-law : (d : ℕ) {x y : Float} {n A B : ℕ} → AtMost x n → Fraction y A B → T (ltb (n * A) (limit * B)) → Muls d (x ⊗ y) x A B
+mul-law d {x} {y} {n} {A} {B} p q t = ratio-muls d (x ⊗ y) x A B (mul-near x y A B (p .whole) q (room-mul x n A B p t))
+
+pub div-law : (d : ℕ) {x y : Float} {n A B : ℕ} → AtMost x n → Fraction y A B → T (ltb (n * B) (limit * A)) → Muls d (x ⊘ y) x B A
+div-law d {x} {y} {n} {A} {B} p q t = ratio-muls d (x ⊘ y) x B A (div-near x y A B (p .whole) q (room-mul x n B A p t))
+
+ratio-most : (r x : Float) (n A B k : ℕ) → 0 < B → AtMost x n → Near r (posPart x * A) (negPart x * A) B eps → T (leb (n * A) (k * B)) → AtMost r (k + 1)
+ratio-most r x n A B k D p h t =
+    let a : (posPart x + negPart x) * A ≤ eps * n * A = mul-le-mul-right A (p .size) in
+    let b : eps * (n * A) ≤ eps * (k * B) = mul-le-mul-left eps (leb→le (n * A) (k * B) t) in
+    let c : posPart x * A + negPart x * A ≤ eps * k * B = omega arith in
+    record { whole = h .whole; size = let z = near-size r (posPart x * A) (negPart x * A) B eps (eps * k) D h c in omega arith }
+
+pub mul-most : {x y : Float} {n A B : ℕ} (k : ℕ) → AtMost x n → Fraction y A B → T (ltb (n * A) (limit * B)) → T (leb (n * A) (k * B)) → AtMost (x ⊗ y) (k + 1)
+mul-most {x} {y} {n} {A} {B} k p q t u = ratio-most (x ⊗ y) x n A B k (q .below) p (mul-near x y A B (p .whole) q (room-mul x n A B p t)) u
+
+pub div-most : {x y : Float} {n A B : ℕ} (k : ℕ) → AtMost x n → Fraction y A B → T (ltb (n * B) (limit * A)) → T (leb (n * B) (k * A)) → AtMost (x ⊘ y) (k + 1)
+div-most {x} {y} {n} {A} {B} k p q t u = ratio-most (x ⊘ y) x n B A k (q .above) p (div-near x y A B (p .whole) q (room-mul x n B A p t)) u
+
+-- ---- comparison, with equality left in: there is slack everywhere
+pub lt-law : (d : ℕ) (x y : Float) → Whole x → Whole y → T (lt x y) → Le d x y
+unfolding P N
+lt-law d x y p q t = let k = mul-le-mul-right d (le-of-lt (lt-true x y p q t)) in omega arith
+
+pub lt-not : (d : ℕ) (x y : Float) → Whole x → Whole y → T (not (lt x y)) → Le d y x
+unfolding P N
+lt-not d x y p q t = let k = mul-le-mul-right d (lt-false x y p q t) in omega arith
+
+pub eq-law : (d : ℕ) (x y : Float) → Whole x → Whole y → T (eq x y) → Le d x y
+unfolding P N
+eq-law d x y p q t = let k = mul-le-mul-right d (le-of-eq (eq-true x y p q t)) in omega arith
+
+pub eq-law' : (d : ℕ) (x y : Float) → Whole x → Whole y → T (eq x y) → Le d y x
+unfolding P N
+eq-law' d x y p q t = let k = mul-le-mul-right d (le-of-eq (sym (eq-true x y p q t))) in omega arith
+
+pub E-pos : (d : ℕ) → 0 < d → 0 < E d
+unfolding E
+E-pos d h = mul-pos eps-pos h
+
+pub or-case : (a b : Bool) → {C : Type 0} → (T a → C) → (T b → C) → T (a || b) → C
+or-case true b f g t = f tt
+or-case false b f g t = g t
+
+pub nor-l : (a b : Bool) → T (not (a || b)) → T (not a)
+nor-l true b t = t
+nor-l false b t = tt
+
+pub le-law : (d : ℕ) (x y : Float) → Whole x → Whole y → T (le x y) → Le d x y
+unfolding le
+le-law d x y p q t = or-case (lt x y) (eq x y) (lt-law d x y p q) (eq-law d x y p q) t
+
+pub le-not : (d : ℕ) (x y : Float) → Whole x → Whole y → T (not (le x y)) → Le d y x
+unfolding le
+le-not d x y p q t = lt-not d x y p q (nor-l (lt x y) (eq x y) t)
+
+-- ---- the lesser and the greater, the first on a tie, a number before a NaN
+whole-same : (x : Float) → Whole x → ne x x ≡ false
+whole-same x p = go (ne x x) (differs-from-itself x)
+  where
+    go : (b : Bool) → (T b → x ≡ nan) → b ≡ false
+    go true h = absurd (subst Whole (h tt) p)
+    go false h = refl
+
+pick : (b : Bool) (x y : Float) (C : Float → Type 0) → (T b → C x) → (T (not b) → C y) → C (cond b x y)
+pick true x y C f g = f tt
+pick false x y C f g = g tt
+
+-- what holds of x where x is the lesser, and of y where y is
+pub min-ind : (d : ℕ) (x y : Float) → Whole x → Whole y → (C : Float → Type 0) → (Le d x y → C x) → (Le d y x → C y) → C (minOf x y)
+unfolding minOf
+min-ind d x y p q C f g = rw (whole-same x p) (pick (lt y x) y x C (λ t. g (lt-law d y x q p t)) (λ t. f (lt-not d y x q p t)))
+
+pub max-ind : (d : ℕ) (x y : Float) → Whole x → Whole y → (C : Float → Type 0) → (Le d y x → C x) → (Le d x y → C y) → C (maxOf x y)
+unfolding maxOf
+max-ind d x y p q C f g = rw (whole-same x p) (pick (lt x y) y x C (λ t. g (lt-law d x y p q t)) (λ t. f (lt-not d x y p q t)))
+
+pub record Lesser (d : ℕ) (z x y : Float) : Type 0 where
+  pub first : Le d z x
+  pub second : Le d z y
+
+pub record Greater (d : ℕ) (z x y : Float) : Type 0 where
+  pub first : Le d x z
+  pub second : Le d y z
+
+pub min-law : (d : ℕ) (x y : Float) → Whole x → Whole y → Lesser d (minOf x y) x y
+min-law d x y p q = min-ind d x y p q (λ z. Lesser d z x y) (λ h. record { first = le-refl (P d x + N d x); second = h }) (λ h. record { first = h; second = le-refl (P d y + N d y) })
+
+pub max-law : (d : ℕ) (x y : Float) → Whole x → Whole y → Greater d (maxOf x y) x y
+max-law d x y p q = max-ind d x y p q (λ z. Greater d z x y) (λ h. record { first = le-refl (P d x + N d x); second = h }) (λ h. record { first = h; second = le-refl (P d y + N d y) })
+
+pub min-most : {x y : Float} {n : ℕ} → AtMost x n → AtMost y n → AtMost (minOf x y) n
+min-most {x} {y} {n} p q = min-ind 1 x y (p .whole) (q .whole) (λ z. AtMost z n) (λ h. p) (λ h. q)
+
+pub max-most : {x y : Float} {n : ℕ} → AtMost x n → AtMost y n → AtMost (maxOf x y) n
+max-most {x} {y} {n} p q = max-ind 1 x y (p .whole) (q .whole) (λ z. AtMost z n) (λ h. p) (λ h. q)
+
+-- ---- a value between -n / 256 and n / 256
+pub between-most : (x : Float) (n : ℕ) → Whole x → P 1 x ≤ N 1 x + E 1 * n → N 1 x ≤ P 1 x + E 1 * n → AtMost x n
+between-most x n p h k = record { whole = p; size = unfold P N E in (go (one-zero x)) }
+  where
+    go : (posPart x ≡ 0) ⊎ (negPart x ≡ 0) → posPart x + negPart x ≤ eps * n
+    go (inl z) = unfold P N E in (omega arith)
+    go (inr z) = unfold P N E in (omega arith)
+
+-- ---- zero
+pub zero-most : AtMost k0 0
+unfolding ofBits magnitude posPart negPart eps
+zero-most = record { whole = refl; size = lit≤ tt }
+
+pub zero-parts : (d : ℕ) → (P d k0 ≡ 0) × (N d k0 ≡ 0)
+unfolding ofBits P N magnitude posPart negPart
+zero-parts d = (zero-mul d, zero-mul d)

@@ -1,0 +1,12 @@
+pub mod Value
+pub mod Range
+pub mod Rects
+pub mod Each
+pub mod Lists
+pub mod Integers
+pub mod Rounding
+pub mod Operations
+pub mod Bounds
+pub mod Ranges
+pub mod Products
+pub mod Literals

@@ -1,0 +1,54 @@
+-- What holds of each element: of a part of a list, of lists joined, and along a fold.
+use mathlib.Core.List.{List, [], _∷_, _++_, map, foldl}
+use Prim.Native.Nat.{ℕ, zero, suc}
+use lib.ListN.{take, set}
+use Rattle.numerics.specs.Each.{Each}
+
+module _ {A : Type 0} (C : A → Type 0) where
+  pub each-take : (n : ℕ) (xs : List A) → Each C xs → Each C (take n xs)
+  each-take zero xs e = tt
+  each-take (suc n) [] e = tt
+  each-take (suc n) (x ∷ xs) e = (e .0, each-take n xs (e .1))
+
+  pub each-append : (xs ys : List A) → Each C xs → Each C ys → Each C (xs ++ ys)
+  each-append [] ys e f = f
+  each-append (x ∷ xs) ys e f = (e .0, each-append xs ys (e .1) f)
+
+  pub each-set : (i : ℕ) (xs : List A) (x : A) → Each C xs → C x → Each C (set xs i x)
+  each-set i [] x e c = tt
+  each-set zero (y ∷ ys) x e c = (c, e .1)
+  each-set (suc i) (y ∷ ys) x e c = (e .0, each-set i ys x (e .1) c)
+
+module _ {A B : Type 0} (C : B → Type 0) (f : A → B) where
+  pub each-map : (xs : List A) → Each (λ x. C (f x)) xs → Each C (map f xs)
+  each-map [] e = tt
+  each-map (x ∷ xs) e = (e .0, each-map xs (e .1))
+
+  pub each-unmap : (xs : List A) → Each C (map f xs) → Each (λ x. C (f x)) xs
+  each-unmap [] e = tt
+  each-unmap (x ∷ xs) e = (e .0, each-unmap xs (e .1))
+
+module _ {A : Type 0} (C D : A → Type 0) where
+  pub each-imp : ((x : A) → C x → D x) → (xs : List A) → Each C xs → Each D xs
+  each-imp g [] e = tt
+  each-imp g (x ∷ xs) e = (g x (e .0), each-imp g xs (e .1))
+
+  pub each-both : (xs : List A) → Each C xs → Each D xs → Each (λ x. C x × D x) xs
+  each-both [] e f = tt
+  each-both (x ∷ xs) e f = ((e .0, f .0), each-both xs (e .1) (f .1))
+
+-- ---- folds over elements of which D holds, with values of which C holds
+module _ {A B : Type 0} (C : B → Type 0) (D : A → Type 0) (f : B → A → B) (step : (b : B) (x : A) → C b → D x → C (f b x)) where
+  pub fold-ind : (xs : List A) (b : B) → C b → Each D xs → C (foldl f b xs)
+  fold-ind [] b c e = c
+  fold-ind (x ∷ xs) b c e = fold-ind xs (f b x) (step b x c (e .0)) (e .1)
+
+-- what each element brings about, and later ones keep, holds of each at the end
+module _ {A B : Type 0} (C : B → Type 0) (D : A → Type 0) (f : B → A → B) (step : (b : B) (x : A) → C b → D x → C (f b x))
+    (Q : B → A → Type 0) (done : (b : B) (x : A) → C b → D x → Q (f b x) x) (kept : (b : B) (x y : A) → C b → D y → Q b x → Q (f b y) x) where
+  pub fold-each : (xs : List A) (b : B) → C b → Each D xs → Each (Q (foldl f b xs)) xs
+  fold-each [] b c e = tt
+  fold-each (x ∷ xs) b c e = (
+    fold-ind (λ z. C z × Q z x) D f (λ z y k g. (step z y (k .0) g, kept z x y (k .0) g (k .1))) xs (f b x) (step b x c (e .0), done b x c (e .0)) (e .1) .1,
+    fold-each xs (f b x) (step b x c (e .0)) (e .1),
+  )

@@ -1,0 +1,336 @@
+-- Ranges of formulas: a rule for each operation, so that a proof has the formula's own shape. A side condition is a closed test, answered by `tt`.
+-- Each operation widens a range by 1/256 at most; `in-more` rounds one off.
+use mathlib.Core.Path.{_≡_, sym, ap, _∙_, subst}
+use Prim.Native.Nat.{ℕ, zero, suc, _+_, _-_, _*_, _/_, _^_, _≤_, _<_, min, max}
+use native.Mathlib.Nat.{min-eq-left, min-eq-right, max-eq-left, max-eq-right, le-of-lt, mul-zero, mul-add, sub-add-cancel, le-trans, le-of-eq, mul-le-mul-left, mul-le-mul-right, le-of-mul-le-mul-right}
+use native.Mathlib.Omega.{arith}
+use mathlib.Core.Bool.{Bool, true, false, not, _&&_, cond}
+use mathlib.Core.Logic.{_⊎_, inl, inr}
+use lib.Dec.{T, leb, ltb, leb→le, nleb→lt}
+use lib.Ieee.{Float, nan, inf, fin, binary32, prec, emax, low, up, down, unlike, odd, units, round, neg, mul, lt, le, fits, isNan}
+use lib.Ieee.Order.{drop, kept}
+use lib.Ieee.Fits.{and-l, and-r, mul-fits, round-is}
+use lib.Ieee.Scale.{finite}
+use Rattle.float.specs.Float.{_⊕_, _⊖_, _⊗_, _⊘_, k0}
+use Rattle.geometry.specs.Rect.{newOf}
+use Rattle.float.specs.MinMax.{minOf, maxOf, clampOf}
+use Rattle.numerics.specs.Value.{magnitude, Whole, posPart, negPart, eps, top, limit, AtMost, Fraction, P, N, Le}
+use Rattle.numerics.specs.Rects.{maxCorner, maxSide, Element}
+use Rattle.numerics.specs.Range.{In, reach}
+use Rattle.numerics.specs.Operations.{Near, fits-whole, neg-whole, neg-swaps, one-zero, add-near, sub-near, mul-near, div-near, mul-flip}
+use Rattle.numerics.specs.Bounds.{room, room-mul, lt-not, le-law, min-ind, max-ind, zero-most}
+
+pub in-most : (x : Float) (a b n : ℕ) → In x a b → limit ≤ a + n → b ≤ limit + n → AtMost x n
+in-most x a b n i h k = record { whole = i .whole; size = go (one-zero x) (mul-le-mul-left eps h) (mul-le-mul-left eps k) }
+  where
+    go : (posPart x ≡ 0) ⊎ (negPart x ≡ 0) → eps * limit ≤ eps * (a + n) → eps * b ≤ eps * (limit + n) → posPart x + negPart x ≤ eps * n
+    go (inl z) s t = omega (arith, i .lo)
+    go (inr z) s t = omega (arith, i .hi)
+
+reach-lo : (a b : ℕ) → limit ≤ a + reach a b
+reach-lo a b = omega arith
+
+reach-hi : (a b : ℕ) → b ≤ limit + reach a b
+reach-hi a b = omega arith
+
+pub in-reach : {x : Float} {a b : ℕ} → In x a b → AtMost x (reach a b)
+in-reach {x} {a} {b} i = in-most x a b (reach a b) i (reach-lo a b) (reach-hi a b)
+
+in-le : {x : Float} {a b : ℕ} (a' b' : ℕ) → In x a b → a' ≤ a → b ≤ b' → In x a' b'
+in-le a' b' i s t =
+    let k = mul-le-mul-left eps s in
+    let l = mul-le-mul-left eps t in
+    record { whole = i .whole; lo = omega (arith, i .lo, k); hi = omega (arith, i .hi, l) }
+
+-- a wider range
+pub in-more : {x : Float} {a b : ℕ} (a' b' : ℕ) → In x a b → T (leb a' a) → T (leb b b') → In x a' b'
+in-more {x} {a} {b} a' b' i s t = in-le a' b' i (leb→le a' a s) (leb→le b b' t)
+
+pub most-in : {x : Float} {n : ℕ} → AtMost x n → T (leb n limit) → In x (limit - n) (limit + n)
+most-in {x} {n} f t =
+    let k = f .size in
+    let l : eps * (limit - n) + eps * n ≤ eps * limit = le-trans (le-of-eq (sym (mul-add eps (limit - n) n))) (mul-le-mul-left eps (le-of-eq (sub-add-cancel (leb→le n limit t)))) in
+    record { whole = f .whole; lo = omega arith; hi = omega arith }
+
+-- ---- the sum and the difference
+times-sub : (e c k : ℕ) → k ≤ c → e * (c - k) + e * k ≡ e * c
+times-sub e c k h = sym (mul-add e (c - k) k) ∙ ap (λ (z : ℕ). e * z) (sub-add-cancel h)
+
+abbrev pub addable : ℕ → ℕ → ℕ → ℕ → Bool
+addable a b a' b' = ltb (reach a b + reach a' b') limit && (leb (limit + 1) (a + a') && leb limit (b + b' + 1))
+
+pub add-in : {x y : Float} {a b a' b' : ℕ} → In x a b → In y a' b' → T (addable a b a' b') → In (x ⊕ y) (a + a' - (limit + 1)) (b + b' + 1 - limit)
+add-in {x} {y} {a} {b} {a'} {b'} i j t =
+    let r1 : Bool = ltb (reach a b + reach a' b') limit in
+    let r2 : Bool = leb (limit + 1) (a + a') in
+    let r3 : Bool = leb limit (b + b' + 1) in
+    let n = add-near x y (i .whole) (j .whole) (room x y (reach a b) (reach a' b') (in-reach i) (in-reach j) (and-l r1 (r2 && r3) t)) in
+    let k = times-sub eps (a + a') (limit + 1) (leb→le (limit + 1) (a + a') (and-l r2 r3 (and-r r1 (r2 && r3) t))) in
+    let l = times-sub eps (b + b' + 1) limit (leb→le limit (b + b' + 1) (and-r r2 r3 (and-r r1 (r2 && r3) t))) in
+    record { whole = n .whole; lo = omega (arith, n .under, i .lo, j .lo, k); hi = omega (arith, n .over, i .hi, j .hi, l) }
+
+abbrev pub subable : ℕ → ℕ → ℕ → ℕ → Bool
+subable a b a' b' = ltb (reach a b + reach a' b') limit && (leb (b' + 1) (a + limit) && leb a' (b + limit + 1))
+
+pub sub-in : {x y : Float} {a b a' b' : ℕ} → In x a b → In y a' b' → T (subable a b a' b') → In (x ⊖ y) (a + limit - (b' + 1)) (b + limit + 1 - a')
+sub-in {x} {y} {a} {b} {a'} {b'} i j t =
+    let r1 : Bool = ltb (reach a b + reach a' b') limit in
+    let r2 : Bool = leb (b' + 1) (a + limit) in
+    let r3 : Bool = leb a' (b + limit + 1) in
+    let n = sub-near x y (i .whole) (j .whole) (room x y (reach a b) (reach a' b') (in-reach i) (in-reach j) (and-l r1 (r2 && r3) t)) in
+    let k = times-sub eps (a + limit) (b' + 1) (leb→le (b' + 1) (a + limit) (and-l r2 r3 (and-r r1 (r2 && r3) t))) in
+    let l = times-sub eps (b + limit + 1) a' (leb→le a' (b + limit + 1) (and-r r2 r3 (and-r r1 (r2 && r3) t))) in
+    record { whole = n .whole; lo = omega (arith, n .under, i .lo, j .hi, k); hi = omega (arith, n .over, i .hi, j .lo, l) }
+
+-- ---- the product by a fraction A / B, and the quotient: the range is worked out, and checked
+abbrev pub lowBy : ℕ → ℕ → ℕ → ℕ
+lowBy a A B = (a * A + limit * B - (limit * A + B)) / B
+
+abbrev pub highBy : ℕ → ℕ → ℕ → ℕ
+highBy b A B = (b * A + limit * B + B + B - (limit * A + 1)) / B
+
+abbrev pub into : ℕ → ℕ → ℕ → ℕ → ℕ → ℕ → Bool
+into a b A B a' b' = ltb (reach a b * A) (limit * B) && (leb (a' * B + limit * A + B) (a * A + limit * B) && leb (b * A + limit * B + B) (b' * B + limit * A))
+
+abbrev pub scalable : ℕ → ℕ → ℕ → ℕ → Bool
+scalable a b A B = into a b A B (lowBy a A B) (highBy b A B)
+
+ratio-in : (r x : Float) (a b A B a' b' : ℕ) → 0 < B → In x a b → (magnitude x * A < top * B → Near r (posPart x * A) (negPart x * A) B eps) → T (into a b A B a' b') → In r a' b'
+ratio-in r x a b A B a' b' D i m t =
+    let r1 : Bool = ltb (reach a b * A) (limit * B) in
+    let r2 : Bool = leb (a' * B + limit * A + B) (a * A + limit * B) in
+    let r3 : Bool = leb (b * A + limit * B + B) (b' * B + limit * A) in
+    let n = m (room-mul x (reach a b) A B (in-reach i) (and-l r1 (r2 && r3) t)) in
+    let k = mul-le-mul-left eps (leb→le (a' * B + limit * A + B) (a * A + limit * B) (and-l r2 r3 (and-r r1 (r2 && r3) t))) in
+    let l = mul-le-mul-left eps (leb→le (b * A + limit * B + B) (b' * B + limit * A) (and-r r2 r3 (and-r r1 (r2 && r3) t))) in
+    let u = mul-le-mul-right A (i .lo) in
+    let v = mul-le-mul-right A (i .hi) in
+    let y : (eps * a' + negPart r) * B ≤ (posPart r + eps * limit) * B = omega (arith, n .under, k, u) in
+    let z : (posPart r + eps * limit) * B ≤ (negPart r + eps * b') * B = omega (arith, n .over, l, v) in
+    record { whole = n .whole; lo = le-of-mul-le-mul-right y D; hi = le-of-mul-le-mul-right z D }
+
+pub mul-in : {x y : Float} {a b A B : ℕ} → In x a b → Fraction y A B → T (scalable a b A B) → In (x ⊗ y) (lowBy a A B) (highBy b A B)
+mul-in {x} {y} {a} {b} {A} {B} i f t = ratio-in (x ⊗ y) x a b A B (lowBy a A B) (highBy b A B) (f .below) i (mul-near x y A B (i .whole) f) t
+
+pub div-in : {x y : Float} {a b A B : ℕ} → In x a b → Fraction y A B → T (scalable a b B A) → In (x ⊘ y) (lowBy a B A) (highBy b B A)
+div-in {x} {y} {a} {b} {A} {B} i f t = ratio-in (x ⊘ y) x a b B A (lowBy a B A) (highBy b B A) (f .above) i (div-near x y A B (i .whole) f) t
+
+-- a constant on the left
+pub times-in : {x y : Float} {a b A B : ℕ} → Fraction y A B → In x a b → T (scalable a b A B) → In (y ⊗ x) (lowBy a A B) (highBy b A B)
+times-in {x} {y} f i t = rw (mul-flip y x (f .whole) (i .whole)) (mul-in i f t)
+
+-- ---- the lesser, the greater
+nat-min-ind : (a b : ℕ) (C : ℕ → Type 0) → C a → C b → C (min a b)
+nat-min-ind a b C p q = go (leb a b) (leb→le a b) (nleb→lt a b)
+  where
+    go : (t : Bool) → (T t → a ≤ b) → (T (not t) → b < a) → C (min a b)
+    go true h k = subst C (sym (min-eq-left (h tt))) p
+    go false h k = subst C (sym (min-eq-right (le-of-lt (k tt)))) q
+
+nat-max-ind : (a b : ℕ) (C : ℕ → Type 0) → C a → C b → C (max a b)
+nat-max-ind a b C p q = go (leb a b) (leb→le a b) (nleb→lt a b)
+  where
+    go : (t : Bool) → (T t → a ≤ b) → (T (not t) → b < a) → C (max a b)
+    go true h k = subst C (sym (max-eq-right (h tt))) q
+    go false h k = subst C (sym (max-eq-left (le-of-lt (k tt)))) p
+
+raw : (x y : Float) → Le 1 x y → posPart x + negPart y ≤ posPart y + negPart x
+unfolding P N
+raw x y h = omega arith
+
+min-lo : (a b : ℕ) → min a b ≤ a
+min-lo a b = omega arith
+
+min-lo' : (a b : ℕ) → min a b ≤ b
+min-lo' a b = omega arith
+
+max-hi : (a b : ℕ) → a ≤ max a b
+max-hi a b = omega arith
+
+max-hi' : (a b : ℕ) → b ≤ max a b
+max-hi' a b = omega arith
+
+pub min-in : {x y : Float} {a b a' b' : ℕ} → In x a b → In y a' b' → In (minOf x y) (min a a') (min b b')
+min-in {x} {y} {a} {b} {a'} {b'} i j =
+    let k = mul-le-mul-left eps (min-lo a a') in
+    let l = mul-le-mul-left eps (min-lo' a a') in
+    min-ind 1 x y (i .whole) (j .whole) (λ z. In z (min a a') (min b b'))
+    (λ h. record { whole = i .whole; lo = omega (arith, i .lo, k); hi = nat-min-ind b b' (λ m. posPart x + eps * limit ≤ negPart x + eps * m) (i .hi) (omega (arith, raw x y h, j .hi)) })
+    (λ h. record { whole = j .whole; lo = omega (arith, j .lo, l); hi = nat-min-ind b b' (λ m. posPart y + eps * limit ≤ negPart y + eps * m) (omega (arith, raw y x h, i .hi)) (j .hi) })
+
+pub max-in : {x y : Float} {a b a' b' : ℕ} → In x a b → In y a' b' → In (maxOf x y) (max a a') (max b b')
+max-in {x} {y} {a} {b} {a'} {b'} i j =
+    let k = mul-le-mul-left eps (max-hi b b') in
+    let l = mul-le-mul-left eps (max-hi' b b') in
+    max-ind 1 x y (i .whole) (j .whole) (λ z. In z (max a a') (max b b'))
+    (λ h. record { whole = i .whole; hi = omega (arith, i .hi, k); lo = nat-max-ind a a' (λ m. eps * m + negPart x ≤ posPart x + eps * limit) (i .lo) (omega (arith, raw y x h, j .lo)) })
+    (λ h. record { whole = j .whole; hi = omega (arith, j .hi, l); lo = nat-max-ind a a' (λ m. eps * m + negPart y ≤ posPart y + eps * limit) (omega (arith, raw x y h, i .lo)) (j .lo) })
+
+-- ---- a test that a number passed gives it another's range at one end
+pub raise : {x l : Float} {a b a' b' : ℕ} → In x a b → In l a' b' → Le 1 l x → In x a' b
+raise {x} {l} i j h = record { whole = i .whole; lo = omega (arith, j .lo, raw l x h); hi = i .hi }
+
+pub lower : {x h : Float} {a b a' b' : ℕ} → In x a b → In h a' b' → Le 1 x h → In x a b'
+lower {x} {h} i j k = record { whole = i .whole; lo = i .lo; hi = omega (arith, j .hi, raw x h k) }
+
+-- ---- between two others
+pub between : {x l h : Float} {a b a' b' : ℕ} → Whole x → In l a b → In h a' b' → T (not (lt x l)) → T (not (lt h x)) → In x a b'
+between {x} {l} {h} p i j s t =
+    record { whole = p; lo = omega (arith, i .lo, raw l x (lt-not 1 x l p (i .whole) s)); hi = omega (arith, j .hi, raw x h (lt-not 1 h x (j .whole) p t)) }
+
+inf-low : (l : Float) → Whole l → T (lt (inf true) l)
+unfolding lt
+inf-low nan p = absurd p
+inf-low (inf s) p = absurd p
+inf-low (fin s m e) p = tt
+
+inf-high : (h : Float) → Whole h → T (lt h (inf false))
+unfolding lt
+inf-high nan p = absurd p
+inf-high (inf s) p = absurd p
+inf-high (fin s m e) p = tt
+
+pub clamp-ind : (x l h : Float) (C : Float → Type 0) → C l → C h → (T (not (lt x l)) → T (not (lt h x)) → C x) → C (clampOf x l h)
+unfolding clampOf
+clamp-ind x l h C p q r = go (lt x l) r
+  where
+    end : (b : Bool) (y : Float) → (T (not b) → C y) → C (cond b h y)
+    end true y k = q
+    end false y k = k tt
+
+    go : (s : Bool) → (T (not s) → T (not (lt h x)) → C x) → C (cond (lt h (cond s l x)) h (cond s l x))
+    go true k = end (lt h l) l (λ t. p)
+    go false k = end (lt h x) x (k tt)
+
+clash : (b : Bool) → T b → T (not b) → ⊥
+clash true t n = n
+clash false t n = t
+
+-- a value that is no NaN, finite or not, is brought into the range; a b of the lower end, a' b' of the upper
+pub clamp-any-in : (x : Float) {l h : Float} {a b a' b' : ℕ} → T (not (isNan x)) → T (fits binary32 x) → In l a b → In h a' b' → In (clampOf x l h) (min a a') (max b b')
+clamp-any-in x {l} {h} {a} {b} {a'} {b'} n f i j =
+    clamp-ind x l h (λ z. In z (min a a') (max b b')) (in-le _ _ i (min-lo a a') (max-hi b b')) (in-le _ _ j (min-lo' a a') (max-hi' b b')) (own x n f)
+  where
+    own : (x : Float) → T (not (isNan x)) → T (fits binary32 x) → T (not (lt x l)) → T (not (lt h x)) → In x (min a a') (max b b')
+    own nan n f s t = absurd (unfold isNan in n)
+    own (inf true) n f s t = absurd (clash (lt (inf true) l) (inf-low l (i .whole)) s)
+    own (inf false) n f s t = absurd (clash (lt h (inf false)) (inf-high h (j .whole)) t)
+    own (fin g m e) n f s t = in-le _ _ (between {x = fin g m e} (fits-whole (fin g m e) tt f) i j s t) (min-lo a a') (max-hi' b b')
+
+-- a finite value
+pub clamp-whole-in : (x : Float) {l h : Float} {a b a' b' : ℕ} → Whole x → In l a b → In h a' b' → In (clampOf x l h) (min a a') (max b b')
+clamp-whole-in x {l} {h} {a} {b} {a'} {b'} p i j =
+    clamp-ind x l h (λ z. In z (min a a') (max b b')) (in-le _ _ i (min-lo a a') (max-hi b b')) (in-le _ _ j (min-lo' a a') (max-hi' b b'))
+    (λ s t. in-le _ _ (between p i j s t) (min-lo a a') (max-hi' b b'))
+
+pub clamp-in : {x l h : Float} {c e a b a' b' : ℕ} → In x c e → In l a b → In h a' b' → In (clampOf x l h) (min a a') (max b b')
+clamp-in {x} u i j = clamp-whole-in x (u .whole) i j
+
+-- a literal, by computation
+pub literal : {x : Float} {a b : ℕ} → Whole x → T (leb (eps * a + negPart x) (posPart x + eps * limit)) → T (leb (posPart x + eps * limit) (negPart x + eps * b)) → In x a b
+literal {x} {a} {b} p s t = record { whole = p; lo = leb→le (eps * a + negPart x) (posPart x + eps * limit) s; hi = leb→le (posPart x + eps * limit) (negPart x + eps * b) t }
+
+-- a choice
+pub cond-in : {x y : Float} {a b a' b' : ℕ} (t : Bool) → In x a b → In y a' b' → In (cond t x y) (min a a') (max b b')
+cond-in {a = a} {b = b} {a' = a'} {b' = b'} true i j = in-le _ _ i (min-lo a a') (max-hi b b')
+cond-in {a = a} {b = b} {a' = a'} {b' = b'} false i j = in-le _ _ j (min-lo' a a') (max-hi' b b')
+
+-- from -n / 256 to n / 256
+abbrev pub small : ℕ → ℕ → ℕ → Bool
+small n a b = leb limit (a + n) && leb b (limit + n)
+
+pub range-most : (n : ℕ) {x : Float} {a b : ℕ} → In x a b → T (small n a b) → AtMost x n
+range-most n {x} {a} {b} i t =
+    let t1 : Bool = leb limit (a + n) in
+    let t2 : Bool = leb b (limit + n) in
+    in-most x a b n i (leb→le limit (a + n) (and-l t1 t2 t)) (leb→le b (limit + n) (and-r t1 t2 t))
+
+-- ---- a number that passed the tests of an order
+nan-le : (x : Float) → T (not (le x nan))
+unfolding le
+nan-le nan = tt
+nan-le (inf s) = tt
+nan-le (fin s m e) = tt
+
+high-le : (h : Float) → Whole h → T (not (le (inf false) h))
+unfolding le
+high-le nan p = tt
+high-le (inf s) p = absurd p
+high-le (fin s m e) p = tt
+
+low-le : (l : Float) → Whole l → T (not (le l (inf true)))
+unfolding le
+low-le nan p = tt
+low-le (inf s) p = absurd p
+low-le (fin s m e) p = tt
+
+pub tested : (x : Float) {l h : Float} {a b a' b' : ℕ} → T (fits binary32 x) → In l a b → In h a' b' → T (le l x) → T (le x h) → In x a b'
+tested nan {l} f i j s t = absurd (clash (le l nan) s (nan-le l))
+tested (inf true) {l} f i j s t = absurd (clash (le l (inf true)) s (low-le l (i .whole)))
+tested (inf false) {h = h} f i j s t = absurd (clash (le (inf false) h) t (high-le h (j .whole)))
+tested (fin g m e) {l} {h} f i j s t =
+    let x = fin g m e in
+    let p = fits-whole x tt f in
+    record { whole = p; lo = omega (arith, i .lo, raw l x (le-law 1 l x (i .whole) p s)); hi = omega (arith, j .hi, raw x h (le-law 1 x h p (j .whole) t)) }
+
+-- ---- a product of two finite numbers is no NaN
+odd-not-nan : (d : ℕ) (s : Bool) (q k l : ℕ) → T (not (isNan (odd d s q k l)))
+unfolding odd isNan
+odd-not-nan d s zero k l = tt
+odd-not-nan d s (suc q) k l = tt
+
+units-not-nan : (s : Bool) (q k : ℕ) → T (not (isNan (units binary32 s q k)))
+unfolding units
+units-not-nan s q k = go (ltb (q * 2 ^ k) (2 ^ (low binary32 + suc (emax binary32))))
+  where
+    go : (b : Bool) → T (not (isNan (cond b (odd (suc (prec binary32)) s q k (low binary32)) (inf s))))
+    go true = odd-not-nan (suc (prec binary32)) s q k (low binary32)
+    go false = unfold isNan in tt
+
+round-not-nan : (s : Bool) (a c : ℕ) → T (not (isNan (round binary32 s a c)))
+round-not-nan s a c = subst (λ (z : Float). T (not (isNan z))) (sym (round-is binary32 s a c)) (units-not-nan s (kept 24 (a * 2 ^ 149) c) (drop 24 (a * 2 ^ 149) c))
+
+pub mul-not-nan : (x y : Float) → T (finite x) → T (finite y) → T (not (isNan (x ⊗ y)))
+unfolding mul
+mul-not-nan nan y p q = absurd p
+mul-not-nan (inf s) y p q = absurd p
+mul-not-nan (fin s m e) nan p q = absurd q
+mul-not-nan (fin s m e) (inf t) p q = absurd q
+mul-not-nan (fin s m e) (fin t n d) p q = round-not-nan (unlike s t) (m * up e * (n * up d)) (down e * down d)
+
+-- a saved number: any finite x times w, brought between l and h
+pub saved-in : (x w : Float) {l h : Float} {a b a' b' : ℕ} → T (finite x) → T (finite w) → In l a b → In h a' b' → In (clampOf (x ⊗ w) l h) (min a a') (max b b')
+saved-in x w p q i j = clamp-any-in (x ⊗ w) (mul-not-nan x w p q) (mul-fits binary32 x w) i j
+
+-- ---- a rectangle that was moved: its edge is at least 0, and its far edge at most w
+pub moved-in : {x r w : Float} {n a b c e : ℕ} → AtMost x n → In r a b → In w c e → T (ltb (n + reach a b) limit) → T (leb a (e + (limit + 1))) → T (le k0 x) → T (le (x ⊕ r) w) → In x limit (e + (limit + 1) - a)
+moved-in {x} {r} {w} {n} {a} {b} {c} {e} f i j t u s v =
+    let k = add-near x r (f .whole) (i .whole) (room x r n (reach a b) f (in-reach i) t) in
+    let l = raw (x ⊕ r) w (le-law 1 (x ⊕ r) w (k .whole) (j .whole) v) in
+    let z = raw k0 x (le-law 1 k0 x (zero-most .whole) (f .whole) s) in
+    let o = times-sub eps (e + (limit + 1)) a (leb→le a (e + (limit + 1)) u) in
+    let y = zero-raw in
+    record { whole = f .whole; lo = omega (arith, z, y); hi = omega (arith, k .under, l, i .lo, j .hi, o) }
+  where
+    zero-raw : (posPart k0 ≡ 0) × (negPart k0 ≡ 0)
+    zero-raw = let k = zero-most .size in let m : eps * 0 ≡ 0 = mul-zero eps in omega arith
+
+-- ---- the sign turned
+pub neg-in : {x : Float} {a b : ℕ} → In x a b → T (leb a (limit + limit) && leb b (limit + limit)) → In (neg x) ((limit + limit) - b) ((limit + limit) - a)
+neg-in {x} {a} {b} i t =
+    let v = neg-swaps x (i .whole) in
+    let k = times-sub eps (limit + limit) b (leb→le b (limit + limit) (and-r (leb a (limit + limit)) (leb b (limit + limit)) t)) in
+    let l = times-sub eps (limit + limit) a (leb→le a (limit + limit) (and-l (leb a (limit + limit)) (leb b (limit + limit)) t)) in
+    record { whole = neg-whole x (i .whole); lo = omega (arith, i .hi, v, k); hi = omega (arith, i .lo, v, l) }
+
+-- ---- a rectangle by the ranges of its numbers
+pub element-in : {x y w h : Float} {a b a' b' c d c' d' : ℕ} → In x a b → In y a' b' → In w c d → In h c' d'
+    → T ((small maxCorner a b && small maxCorner a' b') && (small maxSide c d && small maxSide c' d')) → Element (newOf x y w h)
+element-in {a = a} {b = b} {a' = a'} {b' = b'} {c = c} {d = d} {c' = c'} {d' = d'} i j k l t =
+    let t1 : Bool = small maxCorner a b in
+    let t2 : Bool = small maxCorner a' b' in
+    let t3 : Bool = small maxSide c d in
+    let t4 : Bool = small maxSide c' d' in
+    let s = and-l (t1 && t2) (t3 && t4) t in
+    let u = and-r (t1 && t2) (t3 && t4) t in
+    record { x = range-most maxCorner i (and-l t1 t2 s); y = range-most maxCorner j (and-r t1 t2 s); w = range-most maxSide k (and-l t3 t4 u); h = range-most maxSide l (and-r t3 t4 u) }

@@ -1,0 +1,39 @@
+-- Rectangles whose numbers are in range: finite ones, elements of a layout, and the area of a picture. Definitions only.
+use Prim.Native.Nat.{ℕ, _*_}
+use lib.Dec.{T}
+use lib.Ieee.{le}
+use Rattle.float.specs.Float.{k0}
+use Rattle.geometry.specs.declared.Rect.{Rect}
+use Rattle.numerics.specs.Value.{Whole, AtMost}
+
+-- finite numbers
+pub record WholeRect (r : Rect) : Type 0 where
+  pub x : Whole (r .x)
+  pub y : Whole (r .y)
+  pub w : Whole (r .w)
+  pub h : Whole (r .h)
+
+-- how far an element's corner may lie from zero, and how large its sides may be, of either sign
+abbrev pub maxCorner : ℕ
+maxCorner = 256 * 21875
+
+abbrev pub maxSide : ℕ
+maxSide = 256 * 8593
+
+pub record Element (e : Rect) : Type 0 where
+  pub x : AtMost (e .x) maxCorner
+  pub y : AtMost (e .y) maxCorner
+  pub w : AtMost (e .w) maxSide
+  pub h : AtMost (e .h) maxSide
+
+-- document 01's limits of tag 2
+abbrev pub maxArea : ℕ
+maxArea = 256 * 8192
+
+pub record Area (b : Rect) : Type 0 where
+  pub x : AtMost (b .x) maxArea
+  pub y : AtMost (b .y) maxArea
+  pub w : AtMost (b .w) maxArea
+  pub h : AtMost (b .h) maxArea
+  pub w0 : T (le k0 (b .w))
+  pub h0 : T (le k0 (b .h))

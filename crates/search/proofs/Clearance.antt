@@ -1,0 +1,130 @@
+-- One obstacle against an exact rectangle, and against a picture that the search found; the parts that both searches share. Bounds in 256ths.
+use mathlib.Core.Path.{_≡_}
+use mathlib.Core.List.{List}
+use mathlib.Core.Bool.{not}
+use Prim.Native.Nat.{ℕ, _+_, _*_, _≤_, _<_}
+use native.Mathlib.Omega.{arith}
+use lib.Dec.{T}
+use lib.Ieee.{Float, le}
+use Rattle.float.specs.Float.{_⊕_, _⊖_, _⊗_, _⊘_, k0, k0·01}
+use Rattle.geometry.specs.declared.Rect.{Rect}
+use Rattle.geometry.specs.Rect.{newOf, emptyRect}
+use Rattle.numerics.specs.Value.{AtMost, P, N, E, Le}
+use Rattle.numerics.specs.Rects.{maxSide, maxArea}
+use Rattle.numerics.specs.Each.{Each}
+use Rattle.numerics.specs.Lists.{each-map, each-imp}
+use Rattle.numerics.specs.Bounds.{add-law, add-most, sub-law, sub-most, le-law, zero-most, zero-parts, most-more}
+use Rattle.numerics.specs.Literals.{hundredth-most, hundredth}
+use Rattle.search.specs.Search.{bottomOf, rightOf, bottoms, rights}
+use Rattle.search.proofs.Shapes.{corner, edge, way, width, left-end, Shape, grows, stays, thin}
+use Rattle.search.proofs.Candidates.{Edge, Good, Under, escape}
+
+-- an element in the area's frame
+pub record Obstacle (r : Rect) : Type 0 where
+  pub x : AtMost (r .x) corner
+  pub y : AtMost (r .y) corner
+  pub w : AtMost (r .w) maxSide
+  pub h : AtMost (r .h) maxSide
+
+-- the exact rectangle W by H at xp - xn, yp - yn misses r, but for k
+pub data Misses (d k xp xn yp yn W H : ℕ) (r : Rect) : Type 0 where
+  isLeft : xp + W + N d (r .x) ≤ P d (r .x) + xn + E d * k → Misses d k xp xn yp yn W H r
+  isRight : P d (r .x) + P d (r .w) + xn ≤ xp + N d (r .x) + N d (r .w) + E d * k → Misses d k xp xn yp yn W H r
+  isAbove : yp + H + N d (r .y) ≤ P d (r .y) + yn + E d * k → Misses d k xp xn yp yn W H r
+  isBelow : P d (r .y) + P d (r .h) + yn ≤ yp + N d (r .y) + N d (r .h) + E d * k → Misses d k xp xn yp yn W H r
+
+-- the picture g lies beside r, above or below it, or is narrow or flat, but for k
+pub data Apart (d k : ℕ) (g r : Rect) : Type 0 where
+  left : P d (g .x) + P d (g .w) + N d (r .x) ≤ P d (r .x) + N d (g .x) + N d (g .w) + E d * k → Apart d k g r
+  right : P d (r .x) + P d (r .w) + N d (g .x) ≤ P d (g .x) + N d (r .x) + N d (r .w) + E d * k → Apart d k g r
+  above : P d (g .y) + P d (g .h) + N d (r .y) ≤ P d (r .y) + N d (g .y) + N d (g .h) + E d * k → Apart d k g r
+  below : P d (r .y) + P d (r .h) + N d (g .y) ≤ P d (g .y) + N d (r .y) + N d (r .h) + E d * k → Apart d k g r
+  narrow : P d (g .w) ≤ N d (g .w) + E d * k → Apart d k g r
+  flat : P d (g .h) ≤ N d (g .h) + E d * k → Apart d k g r
+
+-- the picture g lies in the area of w by h, but for 5
+pub record Inside (d : ℕ) (w h : Float) (g : Rect) : Type 0 where
+  pub xm : AtMost (g .x) left-end
+  pub ym : Edge (g .y)
+  pub wm : AtMost (g .w) width
+  pub hm : AtMost (g .h) (width + 1)
+  pub wide : N d (g .w) ≤ P d (g .w) + E d * 9
+  pub high : N d (g .h) ≤ P d (g .h) + E d * 10
+  pub fromleft : N d (g .x) ≤ P d (g .x) + E d * 2
+  pub toright : P d (g .x) + P d (g .w) + N d w ≤ P d w + N d (g .x) + N d (g .w) + E d * 5
+  pub fromtop : N d (g .y) ≤ P d (g .y)
+  pub tobottom : P d (g .y) + P d (g .h) + N d h ≤ P d h + N d (g .y) + N d (g .h) + E d * 5
+
+pub record Found (d : ℕ) (w h : Float) (os : List Rect) (g : Rect) : Type 0 where
+  pub inside : Inside d w h g
+  pub apart : Each (Apart d 5 g) os
+
+-- nothing found
+pub none-found : (d : ℕ) {w h : Float} (os : List Rect) → Le d k0 w → Le d k0 h → Each Obstacle os → Found d w h os emptyRect
+none-found d os w0 h0 e =
+    let o = zero-parts d in
+    record {
+      inside = record {
+        xm = most-more zero-most left-end tt;
+        ym = most-more zero-most edge tt;
+        wm = most-more zero-most width tt;
+        hm = most-more zero-most (width + 1) tt;
+        wide = omega arith;
+        high = omega arith;
+        fromleft = omega arith;
+        toright = omega arith;
+        fromtop = omega arith;
+        tobottom = omega arith;
+      };
+      apart = each-imp Obstacle (Apart d 5 emptyRect) (λ r f. narrow (omega arith)) os e;
+    }
+
+-- ---- the far edges
+pub bottom-most : {r : Rect} → Obstacle r → Edge (bottomOf r)
+bottom-most o = add-most (o .y) (o .h) tt
+
+pub right-most : {r : Rect} → Obstacle r → Edge (rightOf r)
+right-most o = add-most (o .x) (o .w) tt
+
+pub bottoms-most : (os : List Rect) → Each Obstacle os → Each Edge (bottoms os)
+bottoms-most os e = (most-more zero-most edge tt, each-map Edge bottomOf os (each-imp Obstacle (λ r. Edge (bottomOf r)) (λ r o. bottom-most o) os e))
+
+pub rights-most : (os : List Rect) → Each Obstacle os → Each Edge (rights os)
+rights-most os e = (most-more zero-most edge tt, each-map Edge rightOf os (each-imp Obstacle (λ r. Edge (rightOf r)) (λ r o. right-most o) os e))
+
+module _ (d : ℕ) (D : 0 < d) {a : Float} {p q : ℕ} (S : Shape a p q) {r : Rect} (o : Obstacle r) where
+  -- ---- an obstacle that is passed over
+  pub passed-below : {x y : Float} (w h : Float) → Edge y → T (le (bottomOf r) (y ⊕ k0·01)) → Apart d 5 (newOf x y w h) r
+  passed-below {x} {y} w h ym t =
+      below (omega (arith, le-law d (bottomOf r) (y ⊕ k0·01) (bottom-most o .whole) (add-most ym hundredth-most tt .whole) t, add-law d (o .y) (o .h) tt, add-law d ym hundredth-most tt, hundredth d))
+
+  pub passed-right : {x y : Float} (w h : Float) → Edge x → T (le (rightOf r) (x ⊕ k0·01)) → Apart d 5 (newOf x y w h) r
+  passed-right {x} {y} w h xm t =
+      right (omega (arith, le-law d (rightOf r) (x ⊕ k0·01) (right-most o .whole) (add-most xm hundredth-most tt .whole) t, add-law d (o .x) (o .w) tt, add-law d xm hundredth-most tt, hundredth d))
+
+  -- one that the exact rectangle is below, or right of, is passed over, unless the rectangle is thin
+  pub thin-below : {h y : Float} (W H Y0 : ℕ) → AtMost h maxArea → Edge y → W * q ≡ H * p → Y0 + H + N d h ≤ P d h → Le d k0 y → Under d Y0 h y (bottomOf r)
+      → P d (r .y) + P d (r .h) + 0 ≤ Y0 + N d (r .y) + N d (r .h) + E d * 1 → T (not (le (bottomOf r) (y ⊕ k0·01))) → W ≤ E d * 4
+  thin-below W H Y0 hm ym shape tall low u l n =
+      let g : Good d Y0 (bottomOf r) = omega (arith, add-law d (o .y) (o .h) tt) in
+      thin S W H (E d) shape (omega (arith, escape d D hm Y0 ym (bottom-most o) low g u n))
+
+  pub thin-right : {w x : Float} (W X0 : ℕ) → AtMost w maxArea → Edge x → X0 + W + N d w ≤ P d w → Le d k0 x → Under d X0 w x (rightOf r)
+      → P d (r .x) + P d (r .w) + 0 ≤ X0 + N d (r .x) + N d (r .w) + E d * 1 → T (not (le (rightOf r) (x ⊕ k0·01))) → W ≤ E d * 4
+  thin-right W X0 wm xm broad low u l n =
+      let g : Good d X0 (rightOf r) = omega (arith, add-law d (o .x) (o .w) tt) in
+      omega (arith, escape d D wm X0 xm (right-most o) low g u n)
+
+  -- ---- the height above an obstacle
+  module _ {y : Float} (ym : Edge y) where
+    pub drop-most : AtMost (r .y ⊖ y) way
+    drop-most = sub-most (o .y) ym tt
+
+    pub drop-law : P d (r .y ⊖ y) + (N d (r .y) + P d y) ≤ N d (r .y ⊖ y) + (P d (r .y) + N d y) + E d
+    drop-law = sub-law d (o .y) ym tt .over
+
+    pub drop-grows : (W H Y0 : ℕ) {t : Float} → AtMost t way → Le d (r .y ⊖ y) t → W * q ≡ H * p → Good d Y0 y → Y0 + H + N d (r .y) ≤ P d (r .y) + 0 + E d * 1 → W + N d (t ⊗ a) ≤ P d (t ⊗ a) + E d * 9
+    drop-grows W H Y0 tm l shape good h = grows S d W H tm shape (omega (arith, sub-law d (o .y) ym tt))
+
+    pub drop-above : {x z : Float} → AtMost z width → Le d z ((r .y ⊖ y) ⊗ a) → Apart d 5 (newOf x y z (z ⊘ a)) r
+    drop-above zm l = above (omega (arith, stays S d drop-most zm l, drop-law))

@@ -1,0 +1,112 @@
+-- Layouts in range: their elements, a change of one, demand 3, and the range of the game.
+use mathlib.Core.List.{List, [], map}
+use mathlib.Core.Bool.{Bool, true, false, cond}
+use Prim.Native.Nat.{ℕ, _+_, _-_, _*_}
+use native.Mathlib.Nat.{zero-lt-suc}
+use native.Mathlib.Omega.{arith}
+use lib.Dec.{ltb}
+use lib.ListN.{set, getD}
+use lib.Ieee.{Float}
+use Rattle.float.specs.Float.{k1}
+use Rattle.geometry.specs.declared.Rect.{Rect}
+use Rattle.layout.specs.declared.Control.{Control}
+use Rattle.layout.specs.declared.Layout.{Layout}
+use Rattle.layout.specs.Layout.{controlsOf, anyControl, withBounds, withDpad, withControls, withPause, withPlayback, withSpeed, withMute, withSticks, elementsOf, setElementOf}
+use Rattle.numerics.specs.Value.{Whole, AtMost}
+use Rattle.numerics.specs.Rects.{maxArea, Element, Area}
+use Rattle.numerics.specs.Each.{Each, _&_}
+use Rattle.numerics.specs.Lists.{each-take, each-append, each-map, each-set}
+use Rattle.numerics.specs.Bounds.{add-most, most-size, most-more, between-most}
+use Rattle.numerics.specs.Ranges.{range-most, sub-in, clamp-whole-in}
+use Rattle.numerics.specs.Products.{product-most}
+use Rattle.numerics.specs.Literals.{i0, i0·25, i1}
+use Rattle.search.specs.declared.Offset.{Offset}
+use Rattle.search.specs.Search.{obstaclesOf, gameOf, placeGameInAspectOf}
+use Rattle.search.specs.Widest.{centredWidth, Widest}
+use Rattle.search.specs.Bounded.{Bounded, BoundedGame}
+use Rattle.search.proofs.Shapes.{Shape}
+use Rattle.search.proofs.Clearance.{Inside}
+use Rattle.search.proofs.Placement.{game-is, obstacles-fair, picture-found}
+use Rattle.search.proofs.Demand.{game-widest}
+
+pub elements-in : (l : Layout) → Bounded l → Each Element (elementsOf l)
+unfolding elementsOf
+elements-in l B =
+    B .dpad
+    & each-append Element (map (λ c. c .bounds) (controlsOf l)) _ (each-map Element (λ c. c .bounds) (controlsOf l) (each-take (λ c. Element (c .bounds)) (l .count) (l .controls) (B .controls)))
+    (B .pause & B .playback & B .speed & B .mute & each-take Element (l .stickcount) (l .sticks) (B .sticks))
+
+pub bounded-set : (l : Layout) (i : ℕ) (r : Rect) → Bounded l → Element r → Bounded (setElementOf l i r)
+unfolding setElementOf
+bounded-set l i r B e = go (ltb i 1) (ltb i (l .count + 1)) (ltb i (l .count + 2)) (ltb i (l .count + 3)) (ltb i (l .count + 4)) (ltb i (l .count + 5))
+  where
+    controls : List Control
+    controls = set (l .controls) (i - 1) (withBounds (getD (l .controls) (i - 1) anyControl) r)
+
+    go : (a b c d f g : Bool)
+        → Bounded (cond a (withDpad l r) (cond b (withControls l controls) (cond c (withPause l r) (cond d (withPlayback l r) (cond f (withSpeed l r) (cond g (withMute l r) (withSticks l (set (l .sticks) (i - l .count - 5) r))))))))
+    go true b c d f g = record { dpad = e; controls = B .controls; pause = B .pause; playback = B .playback; speed = B .speed; mute = B .mute; sticks = B .sticks }
+    go false true c d f g = record { dpad = B .dpad; controls = each-set (λ c. Element (c .bounds)) (i - 1) (l .controls) _ (B .controls) e; pause = B .pause; playback = B .playback; speed = B .speed; mute = B .mute; sticks = B .sticks }
+    go false false true d f g = record { dpad = B .dpad; controls = B .controls; pause = e; playback = B .playback; speed = B .speed; mute = B .mute; sticks = B .sticks }
+    go false false false true f g = record { dpad = B .dpad; controls = B .controls; pause = B .pause; playback = e; speed = B .speed; mute = B .mute; sticks = B .sticks }
+    go false false false false true g = record { dpad = B .dpad; controls = B .controls; pause = B .pause; playback = B .playback; speed = e; mute = B .mute; sticks = B .sticks }
+    go false false false false false true = record { dpad = B .dpad; controls = B .controls; pause = B .pause; playback = B .playback; speed = B .speed; mute = e; sticks = B .sticks }
+    go false false false false false false = record { dpad = B .dpad; controls = B .controls; pause = B .pause; playback = B .playback; speed = B .speed; mute = B .mute; sticks = each-set Element (i - l .count - 5) (l .sticks) r (B .sticks) e }
+
+pub layout-widest : {a : Float} {p q : ℕ} → Shape a p q → (l : Layout) → Bounded l → {b : Rect} → Area b → (offset : Offset) → Whole (offset .x) → Whole (offset .y)
+    → Widest p q (elementsOf l) b (centredWidth (elementsOf l) b a) (gameOf (elementsOf l) b k1 offset a)
+layout-widest S l L B offset ox oy = game-widest B S (elementsOf l) (elements-in l L) offset ox oy
+
+-- ---- the game, for any size factor
+abbrev most : ℕ
+most = maxArea + 16
+
+record Picture (g : Rect) : Type 0 where
+  pub x : AtMost (g .x) most
+  pub y : AtMost (g .y) most
+  pub w : AtMost (g .w) most
+  pub h : AtMost (g .h) most
+
+picture-in : {b g : Rect} → Area b → Inside 1 (b .w) (b .h) g → Picture g
+picture-in {b} {g} B I =
+    let w = most-size 1 (b .w) maxArea (B .w) in
+    let h = most-size 1 (b .h) maxArea (B .h) in
+    record {
+      x = between-most (g .x) most (I .xm .whole) (omega (arith, I .toright, I .wide)) (omega (arith, I .fromleft));
+      y = between-most (g .y) most (I .ym .whole) (omega (arith, I .tobottom, I .high)) (omega (arith, I .fromtop));
+      w = between-most (g .w) most (I .wm .whole) (omega (arith, I .toright, I .fromleft)) (omega (arith, I .wide));
+      h = between-most (g .h) most (I .hm .whole) (omega (arith, I .tobottom, I .fromtop)) (omega (arith, I .high));
+    }
+
+pub game-in : {a : Float} {p q : ℕ} → Shape a p q → (es : List Rect) → Each Element es → {b : Rect} → Area b → (factor : Float) → Whole factor → (offset : Offset) → Whole (offset .x) → Whole (offset .y)
+    → BoundedGame (gameOf es b factor offset a)
+game-in {a} S es F {b} B factor fw offset ox oy =
+    let g = picture-in B (picture-found B 1 (zero-lt-suc 0) S (obstaclesOf b es) (obstacles-fair B es F) .inside) in
+    let s = clamp-whole-in factor fw i0·25 i1 in
+    let rest = range-most 193 (sub-in i1 s tt) tt in
+    let px = range-most 256 (clamp-whole-in (offset .x) ox i0 i1) tt in
+    let py = range-most 256 (clamp-whole-in (offset .y) oy i0 i1) tt in
+    let size = range-most 256 s tt in
+    rw (game-is S es b factor offset)
+    (record {
+      x = most-more (add-most (add-most (B .x) (g .x) tt) (product-most 1581070 (product-most 1581069 (g .w) rest tt tt) px tt tt) tt) (256 * 22561) tt;
+      y = most-more (add-most (add-most (B .y) (g .y) tt) (product-most 1581070 (product-most 1581069 (g .h) rest tt tt) py tt tt) tt) (256 * 22561) tt;
+      w = most-more (product-most most (g .w) size tt tt) (256 * 8193) tt;
+      h = most-more (product-most most (g .h) size tt tt) (256 * 8193) tt;
+    })
+
+-- ---- the layout with its game placed
+module _ {a : Float} {p q : ℕ} (S : Shape a p q) (l : Layout) (L : Bounded l) {b : Rect} (B : Area b) (offset : Offset) (ox : Whole (offset .x)) (oy : Whole (offset .y)) where
+  pub place-bounded : (overlap : Bool) (factor : Float) → Bounded (placeGameInAspectOf l b overlap factor offset a)
+  unfolding placeGameInAspectOf
+  place-bounded overlap factor = record { dpad = L .dpad; controls = L .controls; pause = L .pause; playback = L .playback; speed = L .speed; mute = L .mute; sticks = L .sticks }
+
+  pub place-game-in : (overlap : Bool) (factor : Float) → Whole factor → BoundedGame (placeGameInAspectOf l b overlap factor offset a .game)
+  unfolding placeGameInAspectOf
+  place-game-in true factor fw = game-in S [] tt B factor fw offset ox oy
+  place-game-in false factor fw = game-in S (elementsOf l) (elements-in l L) B factor fw offset ox oy
+
+  -- demand 3, of a layout placed at size factor 1 without overlap
+  pub place-widest : Widest p q (elementsOf (placeGameInAspectOf l b false k1 offset a)) b (centredWidth (elementsOf (placeGameInAspectOf l b false k1 offset a)) b a) (placeGameInAspectOf l b false k1 offset a .game)
+  unfolding placeGameInAspectOf elementsOf
+  place-widest = layout-widest S l L B offset ox oy

@@ -1,0 +1,51 @@
+-- Searches of an array that go on while `!met & (i < n)`.
+use mathlib.Core.Path.{_≡_, refl, sym, subst, _∙_}
+use mathlib.Core.Bool.{Bool, true, false, not, _&&_, _||_, cond}
+use mathlib.Core.List.{List, [], _∷_}
+use Prim.Native.Nat.{ℕ, _+_, _<_, _≤_}
+use native.Mathlib.Omega.{arith}
+use lib.Dec.{T, ltb}
+use lib.ListN.{length, take, drop, getD}
+use borrow.Author.Tests.{ltb-true, ltb-false}
+use Rattle.layout.specs.Lists.{anyOf, find}
+use Rattle.layout.proofs.Loops.{next-of, none-left}
+
+-- the answer k is v if an element was met, else it lies with the elements from i on
+pub record Scanned {A B : Type 0} (p : A → Bool) (hit : A → B) (none : B) (l : List A) (n : ℕ) (k : B) (i : ℕ) (v : B) (met : Bool) : Type 0 where
+  pub fits : n ≤ length l
+  pub most : i ≤ n
+  pub answer : k ≡ cond met v (find p hit none (drop i (take n l)))
+
+module _ {A B : Type 0} {p : A → Bool} {hit : A → B} {none : B} {l : List A} {n : ℕ} {k : B} {i : ℕ} {v : B} {met : Bool} where
+  going : Scanned p hit none l n k i v met → (b : Bool) → not b && ltb i n ≡ true → (b ≡ false) × (i < n)
+  going s true t = absurd (subst T (sym t) tt)
+  going s false t = (refl, ltb-true i n t)
+
+  pub scan-open : Scanned p hit none l n k i v met → not met && ltb i n ≡ true → i < n
+  scan-open s t = going s met t .1
+
+  pub scan-next : (d : A) {next : Bool} → Scanned p hit none l n k i v met → not met && ltb i n ≡ true → next ≡ p (getD l i d)
+      → Scanned p hit none l n k (i + 1) (hit (getD l i d)) next
+  scan-next d s t e =
+      let j = scan-open s t in
+      record { fits = s .fits; most = omega arith; answer = rw e ((rw (going s met t .0) at (s .answer)) ∙ rw (next-of d l (length l) n i refl (s .fits) j)) }
+
+  pub scan-met : Scanned p hit none l n k i v met → met ≡ true → k ≡ v
+  scan-met s e = rw e at (s .answer)
+
+  pub scan-end : Scanned p hit none l n k i v met → not met && ltb i n ≡ false → met ≡ false → k ≡ none
+  scan-end s t e = (rw e at (s .answer)) ∙ rw (none-left l (length l) n i refl (s .fits) (ltb-false i n (rw e at t)))
+
+-- the test that no element passes, as such a search
+none-passes : {A B : Type 0} (p : A → Bool) (x y : B) (l : List A) → cond (not (anyOf p l)) x y ≡ find p (λ _. y) x l
+unfolding anyOf
+none-passes p x y [] = refl
+none-passes p x y (a ∷ l) = go (p a) (none-passes p x y l)
+  where
+    go : (b : Bool) → cond (not (anyOf p l)) x y ≡ find p (λ _. y) x l → cond (not (b || anyOf p l)) x y ≡ cond b y (find p (λ _. y) x l)
+    go true e = refl
+    go false e = e
+
+pub scan-first : {A B : Type 0} (p : A → Bool) (x y : B) (l : List A) (may : Bool) → cond (may && not (anyOf p l)) x y ≡ cond (not may) y (find p (λ _. y) x l)
+scan-first p x y l true = none-passes p x y l
+scan-first p x y l false = refl

@@ -1,0 +1,65 @@
+use native.Mathlib.Omega.{arith}
+use mathlib.Core.Path.{_≡_, refl}
+use mathlib.Core.List.{[]}
+use lib.ListN.{length, take, length-set}
+use Rattle.layout.proofs.Loops.{sized}
+use Rattle.toolbar.proofs.Append.{append-next}
+use Prim.Native.Nat.{_-_, _≤_, zero-le}
+use Rattle.toolbar.proofs.from_cutouts.Statement.{statement}
+use Rattle.toolbar.proofs.from_cutouts.Tie as tie
+
+abbrev Inv-loop : tie.InvT-loop
+Inv-loop from n at₀ i₀ at i = (i ≤ n) × (length at ≡ 31) × (take i at ≡ take i from)
+
+abbrev μ-loop : tie.MeasureT-loop
+μ-loop from n at₀ i₀ at i = n - i
+
+loop-holds : tie.Need-loop-holds Inv-loop μ-loop
+loop-holds c = (zero-le, refl, refl)
+
+mul-at : tie.Need-mul-at Inv-loop μ-loop
+mul-at c = omega arith
+
+array-copy-out-at : tie.Need-array-copy-out-at Inv-loop μ-loop
+array-copy-out-at c = omega arith
+
+mul-at-2 : tie.Need-mul-at-2 Inv-loop μ-loop
+mul-at-2 c = omega arith
+
+array-set-from-at : tie.Need-array-set-from-at Inv-loop μ-loop
+array-set-from-at c = omega arith
+
+add-i : tie.Need-add-i Inv-loop μ-loop
+add-i c = omega arith
+
+loop-less : tie.Need-loop-less Inv-loop μ-loop
+loop-less c = omega arith
+
+loop-again : tie.Need-loop-again Inv-loop μ-loop
+loop-again c =
+    let l = c .before .before in
+    let a = l .before .before .args in
+    let k : length (a .cutouts .at) ≡ 16 = search sized in
+    (omega arith, rw length-set (l .loop .inv .1), append-next [] (a .cutouts .at) (l .loop .at) (l .loop .i) (l .loop .i) _ (l .loop .inv .2) (omega arith) (omega arith))
+
+returns : tie.Need-returns Inv-loop μ-loop
+returns c =
+    let l = c .before in
+    let e : l .before .before .args .cutouts .count ≡ l .loop .i = omega arith in
+    (rw e (l .loop .inv .2), omega arith)
+
+pub from-cutouts-spec : {M : Type 1} → statement M
+from-cutouts-spec =
+    tie.close
+    (tie.spec
+    Inv-loop
+    μ-loop
+    loop-holds
+    mul-at
+    array-copy-out-at
+    mul-at-2
+    array-set-from-at
+    add-i
+    loop-less
+    loop-again
+    returns)

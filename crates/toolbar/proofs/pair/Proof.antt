@@ -1,0 +1,174 @@
+-- The pass: what is left of it gives the whole answer. Its two searches: what they have not yet looked at does.
+use borrow.Author.Needs.{needs}
+use native.Mathlib.Omega.{arith}
+use mathlib.Core.Path.{_≡_, refl, sym, ap, _∙_}
+use mathlib.Core.Logic.{⊎-elim}
+use native.Mathlib.Nat.{sub-zero}
+use lib.Seq.{length-take-le}
+use borrow.Author.Tests.{not-true, not-false}
+use Rattle.toolbar.proofs.Scan.{Scanned, scan-open, scan-met, scan-next, scan-end, scan-first}
+use lib.ListN.{take, length}
+use Rattle.geometry.specs.Rect.{overlapsOf}
+use Rattle.toolbar.specs.Toolbar.{belowOf, moved, pass, pairOf}
+use Prim.Native.Nat.{suc, _+_, _-_, _≤_, zero-le}
+use Rattle.toolbar.proofs.pair.Statement.{statement}
+use Rattle.toolbar.proofs.pair.Tie as tie
+
+abbrev Inv-loop2 : tie.InvT-loop2
+Inv-loop2 x left width top height w h n obstacles bar c₀ met₀ i₀ counter end c met i =
+    Scanned (overlapsOf bar) (λ c. pass left w h (take n obstacles) (n - counter) (moved left w h (take n obstacles) bar c)) bar obstacles n (pairOf x left width top height w h (take n obstacles)) i (pass left w h (take n obstacles) (n - counter) (moved left w h (take n obstacles) bar c)) met
+
+abbrev μ-loop2 : tie.MeasureT-loop2
+μ-loop2 x left width top height w h n obstacles bar c₀ met₀ i₀ counter end c met i = n - i
+
+abbrev Inv-loop3 : tie.InvT-loop3
+Inv-loop3 x left width top height w h n obstacles bar c met i candidate blocked₀ j₀ counter end blocked j =
+    Scanned (overlapsOf candidate) (λ _. belowOf bar h c) candidate obstacles n (moved left w h (take n obstacles) bar c) j (belowOf bar h c) blocked
+
+abbrev μ-loop3 : tie.MeasureT-loop3
+μ-loop3 x left width top height w h n obstacles bar c met i candidate blocked₀ j₀ counter end blocked j =
+    n - j
+
+abbrev Inv-loop : tie.InvT-loop
+Inv-loop x left width top height w h n obstacles bar₀ counter₀ end bar counter =
+    (counter ≤ n + 1) × (end ≡ n + 1) × (n ≤ length obstacles) × (pairOf x left width top height w h (take n obstacles) ≡ pass left w h (take n obstacles) (n + 1 - counter) bar)
+
+abbrev μ-loop : tie.MeasureT-loop
+μ-loop x left width top height w h n obstacles bar₀ counter₀ end bar counter = n + 1 - counter
+
+add-end : tie.Need-add-end Inv-loop2 μ-loop2 Inv-loop3 μ-loop3 Inv-loop μ-loop
+add-end c = omega arith
+
+loop-holds : tie.Need-loop-holds Inv-loop2 μ-loop2 Inv-loop3 μ-loop3 Inv-loop μ-loop
+unfolding pairOf
+loop-holds c =
+    let k : length (c .args .t8) ≡ 31 = c .good .1 .1 .1 .1 .1 .1 .1 .0 .1 .0 .1 in
+    let e : length (take (c .args .n) (c .args .t8)) ≡ c .args .n = length-take-le _ _ (omega arith) in
+    (zero-le, refl, omega arith, rw (e, sub-zero))
+
+loop2-holds : tie.Need-loop2-holds Inv-loop2 μ-loop2 Inv-loop3 μ-loop3 Inv-loop μ-loop
+unfolding pass
+loop2-holds c =
+    let l = c .before .loop in
+    let e : c .before .before .args .n + 1 - l .counter ≡ suc (c .before .before .args .n - l .counter) = omega arith in
+    record { fits = l .inv .2; most = zero-le; answer = rw e at (l .inv .3) }
+
+mul-c : tie.Need-mul-c Inv-loop2 μ-loop2 Inv-loop3 μ-loop3 Inv-loop μ-loop
+mul-c c = omega arith
+
+array-copy-out-c : tie.Need-array-copy-out-c Inv-loop2 μ-loop2 Inv-loop3 μ-loop3 Inv-loop μ-loop
+array-copy-out-c c = omega (arith, scan-open (c .before .loop2 .inv) (c .loop2-test .taken))
+
+overlaps-requires : tie.Need-overlaps-requires Inv-loop2 μ-loop2 Inv-loop3 μ-loop3 Inv-loop μ-loop
+overlaps-requires c κs = search needs
+
+add-i : tie.Need-add-i Inv-loop2 μ-loop2 Inv-loop3 μ-loop3 Inv-loop μ-loop
+add-i c = omega arith
+
+loop2-less : tie.Need-loop2-less Inv-loop2 μ-loop2 Inv-loop3 μ-loop3 Inv-loop μ-loop
+loop2-less c = omega (arith, scan-open (c .before .before .before .loop2 .inv) (c .before .before .loop2-test .taken))
+
+loop2-again : tie.Need-loop2-again Inv-loop2 μ-loop2 Inv-loop3 μ-loop3 Inv-loop μ-loop
+loop2-again c =
+    let t = c .before .before in
+    scan-next _ (t .before .loop2 .inv) (t .loop2-test .taken) (c .overlaps .ensures)
+
+beside-requires : tie.Need-beside-requires Inv-loop2 μ-loop2 Inv-loop3 μ-loop3 Inv-loop μ-loop
+beside-requires c κs = search needs
+
+room-requires : tie.Need-room-requires Inv-loop2 μ-loop2 Inv-loop3 μ-loop3 Inv-loop μ-loop
+room-requires c κs = search needs
+
+loop3-holds : tie.Need-loop3-holds Inv-loop2 μ-loop2 Inv-loop3 μ-loop3 Inv-loop μ-loop
+unfolding moved
+loop3-holds c =
+    record { fits = c .before .before .before .before .loop2 .inv .fits; most = zero-le; answer = rw (← c .before .beside .ensures, ← c .room .ensures) (scan-first (overlapsOf (c .before .beside .result)) _ _ _ (c .room .result)) }
+
+mul-o : tie.Need-mul-o Inv-loop2 μ-loop2 Inv-loop3 μ-loop3 Inv-loop μ-loop
+mul-o c = omega arith
+
+array-copy-out-o : tie.Need-array-copy-out-o Inv-loop2 μ-loop2 Inv-loop3 μ-loop3 Inv-loop μ-loop
+array-copy-out-o c = omega (arith, scan-open (c .before .loop3 .inv) (c .loop3-test .taken))
+
+overlaps-requires-2 :
+    tie.Need-overlaps-requires-2 Inv-loop2 μ-loop2 Inv-loop3 μ-loop3 Inv-loop μ-loop
+overlaps-requires-2 c κs = search needs
+
+add-j : tie.Need-add-j Inv-loop2 μ-loop2 Inv-loop3 μ-loop3 Inv-loop μ-loop
+add-j c = omega arith
+
+loop3-less : tie.Need-loop3-less Inv-loop2 μ-loop2 Inv-loop3 μ-loop3 Inv-loop μ-loop
+loop3-less c = omega (arith, scan-open (c .before .before .before .loop3 .inv) (c .before .before .loop3-test .taken))
+
+loop3-again : tie.Need-loop3-again Inv-loop2 μ-loop2 Inv-loop3 μ-loop3 Inv-loop μ-loop
+loop3-again c =
+    let t = c .before .before in
+    scan-next _ (t .before .loop3 .inv) (t .loop3-test .taken) (c .overlaps2 .ensures)
+
+below-requires : tie.Need-below-requires Inv-loop2 μ-loop2 Inv-loop3 μ-loop3 Inv-loop μ-loop
+below-requires c κs = search needs
+
+add-counter : tie.Need-add-counter Inv-loop2 μ-loop2 Inv-loop3 μ-loop3 Inv-loop μ-loop
+add-counter c = omega arith
+
+loop-less : tie.Need-loop-less Inv-loop2 μ-loop2 Inv-loop3 μ-loop3 Inv-loop μ-loop
+loop-less c = omega arith
+
+loop-again : tie.Need-loop-again Inv-loop2 μ-loop2 Inv-loop3 μ-loop3 Inv-loop μ-loop
+loop-again c =
+    let b = c .before .before in
+    let m = b .before .before .before .before .before in
+    let s = m .before .before .before in
+    let e : s .args .n + 1 - (m .before .before .loop .counter + 1) ≡ s .args .n - m .before .before .loop .counter = omega arith in (
+      omega arith,
+      refl,
+      m .before .before .loop .inv .2,
+      rw e (scan-met (m .loop2 .inv) (not-false _ (b .before .before .before .if1 .left))
+          ∙ ap (pass _ _ _ _ _) (⊎-elim (λ t. scan-met (b .loop3 .inv) (t .0 .taken) ∙ sym (t .1 .ensures) ∙ sym (t .2)) (λ t. scan-end (b .loop3 .inv) (c .before .loop3-test .left) (t .0 .left) ∙ sym (t .1)) (c .if2 .came))),
+    )
+
+returns : tie.Need-returns Inv-loop2 μ-loop2 Inv-loop3 μ-loop3 Inv-loop μ-loop
+unfolding pass
+returns c =
+    let l = c .before .loop in
+    let e : c .before .before .args .n + 1 - l .counter ≡ 0 = omega arith in
+    sym (rw e at (l .inv .3))
+
+returns-2 : tie.Need-returns-2 Inv-loop2 μ-loop2 Inv-loop3 μ-loop3 Inv-loop μ-loop
+returns-2 c =
+    sym (scan-end (c .before .before .loop2 .inv) (c .before .loop2-test .left) (not-true _ (c .if1 .taken)))
+
+pub pair-spec : {M : Type 1} → statement M
+pair-spec =
+    tie.close
+    (tie.spec
+    Inv-loop2
+    μ-loop2
+    Inv-loop3
+    μ-loop3
+    Inv-loop
+    μ-loop
+    add-end
+    loop-holds
+    loop2-holds
+    mul-c
+    array-copy-out-c
+    overlaps-requires
+    add-i
+    loop2-less
+    loop2-again
+    beside-requires
+    room-requires
+    loop3-holds
+    mul-o
+    array-copy-out-o
+    overlaps-requires-2
+    add-j
+    loop3-less
+    loop3-again
+    below-requires
+    add-counter
+    loop-less
+    loop-again
+    returns
+    returns-2)

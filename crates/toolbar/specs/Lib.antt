@@ -1,0 +1,2 @@
+pub mod Toolbar
+pub mod ToolbarLaws

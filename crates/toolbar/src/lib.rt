@@ -1,0 +1,193 @@
+// The toolbar's four keys: playback and speed at the left, mute and pause at the right.
+ghost use mathlib.Core.Path.{_≡_};
+ghost use mathlib.Core.List.{_++_};
+ghost use Prim.Native.Nat.{_≤_};
+ghost use lib.ListN.{take};
+ghost use Rattle.layout.specs.Layout.{cutoutList, elementList};
+ghost use Rattle.toolbar.specs.Toolbar.{obstacleList, avoidedOf, besideOf, roomOf, belowOf, pairOf, anchorToolbarOf};
+use geometry::Rect;
+use layout::Cutouts;
+use layout::Elements;
+use layout::Layout;
+
+const TOOLBAR_HEIGHT: f32 = 18.0;
+
+// What the toolbar must not overlap: the first `count` of the array.
+pub struct Obstacles {
+    pub at: [Rect; 31],
+    pub count: usize,
+}
+
+// The bar moved past the obstacle c, away from its own edge of the screen.
+fn beside(bar: Rect, left: bool, c: Rect) -> Rect
+    ensures { λ r. ⌜ r ≡ besideOf bar left c ⌝ }
+{
+    let shifted = float::pick(left, c.x + c.w + 8.0, c.x - bar.w - 8.0);
+    Rect {
+        x: shifted,
+        y: bar.y,
+        w: bar.w,
+        h: bar.h,
+    }
+}
+
+// A bar may move across as far as the middle of the screen.
+fn room(bar: Rect, left: bool, w: f32) -> bool
+    ensures { λ r. ⌜ r ≡ roomOf bar left w ⌝ }
+{
+    bar.x >= 0.0
+        && (bar.x + bar.w <= w
+            && (if left {
+                bar.x + bar.w <= w / 2.0
+            } else {
+                bar.x >= w / 2.0
+            }))
+}
+
+// The bar moved below the obstacle c, as far as the screen goes.
+fn below(bar: Rect, h: f32, c: Rect) -> Rect
+    ensures { λ r. ⌜ r ≡ belowOf bar h c ⌝ }
+{
+    let y = float::min(c.y + c.h + 8.0, float::max(h - bar.h, 0.0));
+    Rect {
+        x: bar.x,
+        y,
+        w: bar.w,
+        h: bar.h,
+    }
+}
+
+// Where the bar of a pair of keys comes to lie. One that cannot pass an obstacle on its side of the screen goes below it.
+fn pair(
+    x: f32,
+    left: bool,
+    width: f32,
+    top: f32,
+    height: f32,
+    w: f32,
+    h: f32,
+    obstacles: [Rect; 31],
+    n: usize,
+) -> Rect
+    requires { ⌜ n ≤ 31 ⌝ }
+    ensures { λ r. ⌜ r ≡ pairOf x left width top height w h (take n obstacles) ⌝ }
+{
+    let mut bar = Rect {
+        x,
+        y: top,
+        w: width,
+        h: height,
+    };
+    for _ in 0..n + 1 {
+        let mut c = bar;
+        let mut met = false;
+        let mut i = 0;
+        while !met & (i < n) {
+            c = obstacles[i];
+            met = bar.overlaps(c);
+            i += 1;
+        }
+        if !met {
+            break;
+        }
+        let candidate = beside(bar, left, c);
+        let mut blocked = !room(candidate, left, w);
+        let mut j = 0;
+        while !blocked & (j < n) {
+            let o = obstacles[j];
+            blocked = candidate.overlaps(o);
+            j += 1;
+        }
+        if blocked {
+            bar = below(bar, h, c);
+        } else {
+            bar = candidate;
+        }
+    }
+    bar
+}
+
+// The camera holes, in an array that has room for the controls.
+fn from_cutouts(cutouts: Cutouts) -> Obstacles
+    requires { ⌜ cutouts .count ≤ 16 ⌝ }
+    ensures { λ r. ⌜ (obstacleList r ≡ cutoutList cutouts) × (r .count ≤ 16) ⌝ }
+{
+    let from = cutouts.at;
+    let n = cutouts.count;
+    let none = Rect {
+        x: 0.0,
+        y: 0.0,
+        w: 0.0,
+        h: 0.0,
+    };
+    let mut at = [none; 31];
+    for i in 0..n {
+        at[i] = from[i];
+    }
+    Obstacles { at, count: n }
+}
+
+// The elements after the obstacles.
+fn extended(obstacles: Obstacles, elements: Elements) -> Obstacles
+    requires { ⌜ (obstacles .count ≤ 16) × (elements .count ≤ 15) ⌝ }
+    ensures { λ r. ⌜ (obstacleList r ≡ obstacleList obstacles ++ elementList elements) × (r .count ≤ 31) ⌝ }
+{
+    let n = obstacles.count;
+    let more = elements.at;
+    let m = elements.count;
+    let mut at = obstacles.at;
+    for i in 0..m {
+        at[n + i] = more[i];
+    }
+    Obstacles { at, count: n + m }
+}
+
+// A revealed status bar can push the toolbar into the controls, which stay where they are.
+fn avoided(l: Layout, covered_top: f32, cutouts: Cutouts) -> Obstacles
+    requires { ⌜ (cutouts .count ≤ 16) × (l .count ≤ 12) × (l .stickcount ≤ 2) ⌝ }
+    ensures { λ r. ⌜ (obstacleList r ≡ avoidedOf l «covered_top» (cutoutList cutouts)) × (r .count ≤ 31) ⌝ }
+{
+    let holes = from_cutouts(cutouts);
+    if covered_top > 0.0 {
+        return extended(holes, l.controller_elements());
+    }
+    holes
+}
+
+// The keys stay in corner pairs in every profile. They use a clear camera margin only while the system shows no
+// decoration; a visible status bar pushes them down, and the game stays.
+pub fn anchor_toolbar(
+    l: Layout,
+    w: f32,
+    h: f32,
+    reusable_top: f32,
+    covered_top: f32,
+    cutouts: Cutouts,
+) -> Layout
+    requires { ⌜ (cutouts .count ≤ 16) × (l .count ≤ 12) × (l .stickcount ≤ 2) ⌝ }
+    ensures { λ r. ⌜ r ≡ anchorToolbarOf l w h «reusable_top» «covered_top» (cutoutList cutouts) ⌝ }
+{
+    let padding = float::min(28.0, w * 0.055);
+    let gap = float::min(8.0, w * 0.01);
+    let share = float::max((w - 2.0 * padding - 3.0 * gap) / 4.0, 1.0);
+    let size = float::min(float::min(float::min(40.0, share), h), w);
+    let height = float::min(size, TOOLBAR_HEIGHT);
+    let time_width = size * float::pick(w >= 320.0, 1.4, 1.0);
+    let bottom = float::max(h - height, 0.0);
+    let top = float::clamp(-reusable_top + covered_top, -reusable_top, bottom);
+    let obstacles = avoided(l, covered_top, cutouts);
+    let at = obstacles.at;
+    let n = obstacles.count;
+    let left_width = size + gap + time_width;
+    let right = w - padding - size;
+    let right_x = right - size - gap;
+    let right_width = 2.0 * size + gap;
+    let a = pair(padding, true, left_width, top, height, w, h, at, n);
+    let b = pair(right_x, false, right_width, top, height, w, h, at, n);
+    let mut anchored = l;
+    anchored.playback = Rect::new(a.x, a.y, size, height);
+    anchored.speed = Rect::new(a.x + size + gap, a.y, time_width, height);
+    anchored.mute = Rect::new(b.x, b.y, size, height);
+    anchored.pause = Rect::new(b.x + size + gap, b.y, size, height);
+    anchored
+}
