@@ -1,1 +1,3 @@
 pub mod Rect
+pub mod Answer
+pub mod Safe
