@@ -1,5 +1,6 @@
 -- `anchor_toolbar` of input.rs. Definitions only.
 use mathlib.Core.Bool.{Bool, true, false, cond, not, _&&_}
+use mathlib.Core.Path.{_≡_}
 use mathlib.Core.List.{List, _++_, map}
 use Prim.Native.Nat.{ℕ, zero, suc, _+_}
 use lib.Ieee.{Float, lt, le, neg}
@@ -12,6 +13,7 @@ use Rattle.layout.specs.declared.Layout.{Layout}
 use Rattle.layout.specs.Layout.{elementOf}
 use Rattle.layout.specs.Elements.{controllerElementsOf}
 use Rattle.layout.specs.Lists.{anyOf, find}
+use Rattle.toolbar.specs.declared.Bars.{Bars}
 use Rattle.toolbar.specs.declared.Obstacles.{Obstacles}
 
 abbrev pub toolbarHeight : Float
@@ -53,6 +55,11 @@ pairOf x left width top height w h obstacles = pass left w h obstacles (length o
 -- A revealed status bar can push the toolbar into the controls, which stay where they are.
 unfoldable pub avoidedOf : Layout → Float → List Rect → List Rect
 avoidedOf l coveredTop cutouts = cond (lt k0 coveredTop) (cutouts ++ map (elementOf l) (controllerElementsOf l)) cutouts
+
+-- where both bars come to lie from where they start
+pub record BarsOf (obstacles : List Rect) (a b : Rect) (w h : Float) (r : Bars) : Type 0 where
+  pub left : r .left ≡ pairOf (a .x) true (a .w) (a .y) (a .h) w h obstacles
+  pub right : r .right ≡ pairOf (b .x) false (b .w) (b .y) (b .h) w h obstacles
 
 -- the layout with other keys in its toolbar
 abbrev pub withToolbar : Layout → Rect → Rect → Rect → Rect → Layout

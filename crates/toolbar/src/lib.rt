@@ -4,7 +4,7 @@ ghost use mathlib.Core.List.{_++_};
 ghost use Prim.Native.Nat.{_≤_};
 ghost use lib.ListN.{take};
 ghost use Rattle.layout.specs.Layout.{cutoutList, elementList};
-ghost use Rattle.toolbar.specs.Toolbar.{obstacleList, avoidedOf, besideOf, roomOf, belowOf, pairOf, anchorToolbarOf};
+ghost use Rattle.toolbar.specs.Toolbar.{obstacleList, avoidedOf, BarsOf, besideOf, roomOf, belowOf, pairOf, anchorToolbarOf};
 use geometry::Rect;
 use layout::Cutouts;
 use layout::Elements;
@@ -142,16 +142,47 @@ fn extended(obstacles: Obstacles, elements: Elements) -> Obstacles
     Obstacles { at, count: n + m }
 }
 
-// A revealed status bar can push the toolbar into the controls, which stay where they are.
-fn avoided(l: Layout, covered_top: f32, cutouts: Cutouts) -> Obstacles
-    requires { ⌜ (cutouts .count ≤ 16) × (l .count ≤ 12) × (l .stickcount ≤ 2) ⌝ }
-    ensures { λ r. ⌜ (obstacleList r ≡ avoidedOf l «covered_top» (cutoutList cutouts)) × (r .count ≤ 31) ⌝ }
+// The bars of the two pairs of keys.
+pub struct Bars {
+    pub left: Rect,
+    pub right: Rect,
+}
+
+fn place_both(obstacles: Obstacles, left: Rect, right: Rect, w: f32, h: f32) -> Bars
+    requires { ⌜ obstacles .count ≤ 31 ⌝ }
+    ensures { λ r. ⌜ BarsOf (obstacleList obstacles) left right w h r ⌝ }
 {
-    let holes = from_cutouts(cutouts);
-    if covered_top > 0.0 {
-        return extended(holes, l.controller_elements());
+    let at = obstacles.at;
+    let n = obstacles.count;
+    Bars {
+        left: pair(left.x, true, left.w, left.y, left.h, w, h, at, n),
+        right: pair(right.x, false, right.w, right.y, right.h, w, h, at, n),
     }
-    holes
+}
+
+// A revealed status bar can push the toolbar into the controls, which stay where they are. Where there is no obstacle
+// the bars stay, and no array is made.
+fn place_bars(
+    l: Layout,
+    covered_top: f32,
+    cutouts: Cutouts,
+    left: Rect,
+    right: Rect,
+    w: f32,
+    h: f32,
+) -> Bars
+    requires { ⌜ (cutouts .count ≤ 16) × (l .count ≤ 12) × (l .stickcount ≤ 2) ⌝ }
+    ensures { λ r. ⌜ BarsOf (avoidedOf l «covered_top» (cutoutList cutouts)) left right w h r ⌝ }
+{
+    if covered_top > 0.0 {
+        let obstacles = extended(from_cutouts(cutouts), l.controller_elements());
+        return place_both(obstacles, left, right, w, h);
+    }
+    let n = cutouts.count;
+    if n < 1 {
+        return Bars { left, right };
+    }
+    place_both(from_cutouts(cutouts), left, right, w, h)
 }
 
 // The keys stay in corner pairs in every profile. They use a clear camera margin only while the system shows no
@@ -175,15 +206,28 @@ pub fn anchor_toolbar(
     let time_width = size * float::pick(w >= 320.0, 1.4, 1.0);
     let bottom = float::max(h - height, 0.0);
     let top = float::clamp(-reusable_top + covered_top, -reusable_top, bottom);
-    let obstacles = avoided(l, covered_top, cutouts);
-    let at = obstacles.at;
-    let n = obstacles.count;
-    let left_width = size + gap + time_width;
     let right = w - padding - size;
-    let right_x = right - size - gap;
-    let right_width = 2.0 * size + gap;
-    let a = pair(padding, true, left_width, top, height, w, h, at, n);
-    let b = pair(right_x, false, right_width, top, height, w, h, at, n);
+    let bars = place_bars(
+        l,
+        covered_top,
+        cutouts,
+        Rect {
+            x: padding,
+            y: top,
+            w: size + gap + time_width,
+            h: height,
+        },
+        Rect {
+            x: right - size - gap,
+            y: top,
+            w: 2.0 * size + gap,
+            h: height,
+        },
+        w,
+        h,
+    );
+    let a = bars.left;
+    let b = bars.right;
     let mut anchored = l;
     anchored.playback = Rect::new(a.x, a.y, size, height);
     anchored.speed = Rect::new(a.x + size + gap, a.y, time_width, height);

@@ -6,9 +6,8 @@ use Rattle.toolbar.proofs.anchor_toolbar.Tie as tie
 returns : tie.Need-returns
 unfolding anchorToolbarOf
 returns c =
-    let p = c .before .before .before .before .before .before .before in
-    let t = p .before .before .before in
-    let k = t .before .before .before in
+    let b = c .before .before .before .before .before .before .before .before in
+    let k = b .before .before .before .before in
     let q = k .before .before .before .before in
     rw (
       ← q .before .before .min .ensures,
@@ -18,12 +17,11 @@ returns c =
       ← k .before .before .min4 .ensures,
       ← k .before .min5 .ensures,
       ← k .min6 .ensures,
-      ← t .before .before .pick .ensures,
-      ← t .before .max2 .ensures,
-      ← t .clamp .ensures,
-      ← p .before .before .avoided .ensures .0,
-      ← p .pair .ensures,
-      ← c .before .before .before .before .before .before .pair2 .ensures,
+      ← b .before .before .before .pick .ensures,
+      ← b .before .before .max2 .ensures,
+      ← b .before .clamp .ensures,
+      ← b .place-bars .ensures .left,
+      ← b .place-bars .ensures .right,
       ← c .before .before .before .before .before .new .ensures,
       ← c .before .before .before .new2 .ensures,
       ← c .before .before .new3 .ensures,
@@ -34,8 +32,6 @@ pub anchor-toolbar-spec : {M : Type 1} → statement M
 anchor-toolbar-spec =
     tie.close
     (tie.spec
-    (λ c κs. search needs)
-    (λ c κs. search needs)
     (λ c κs. search needs)
     (λ c κs. search needs)
     (λ c κs. search needs)

@@ -1,0 +1,116 @@
+-- A turn of the loop over fields: what is left of the bytes, and what it gives.
+use mathlib.Core.Path.{_≡_, refl, ap, sym, _∙_}
+use mathlib.Core.Bool.{Bool, false, _&&_, _||_}
+use mathlib.Core.List.{List, [], _∷_}
+use Prim.Native.Nat.{ℕ, zero, suc, _+_, _-_, _<_, _≤_}
+use native.Mathlib.Omega.{arith}
+use borrow.Author.Tests.{lt-ltb, le-ltb, le-leb, lt-leb, eq-eqb, ne-eqb}
+use lib.Dec.{eqb, ltb, leb}
+use lib.ListN.{length, getD, take, drop, length-drop}
+use lib.Seq.{drop-cons, drop-drop}
+use Rattle.geometry.specs.Answer.{accepted, refused}
+use Rattle.settings.specs.declared.Settings.{Settings}
+use Rattle.reader.specs.declared.Reading.{Reading}
+use Rattle.reader.specs.declared.Tag.{Tag}
+use Rattle.reader.specs.Order.{answerOf, must, andThen, shortOf, fromByteOf, readFieldOf, fields, blankOf, readOrderOf}
+
+three-left : (l : List ℕ) (i : ℕ) → i + 3 ≤ length l → drop i l ≡ getD l i 0 ∷ getD l (i + 1) 0 ∷ getD l (i + 2) 0 ∷ drop (i + 3) l
+three-left l i h =
+    let a : i + 1 ≡ suc i = omega arith in
+    let b : i + 2 ≡ suc (suc i) = omega arith in
+    let c : i + 3 ≡ suc (suc (suc i)) = omega arith in
+    rw (a, b, c, drop-cons l i 0 (omega arith), drop-cons l (suc i) 0 (omega arith), drop-cons l (suc (suc i)) 0 (omega arith))
+
+-- the bytes from `at` on give the order's answer, in as many turns as tags may follow
+pub record Left (bytes : List ℕ) (at last : ℕ) (screen : Bool) (s : Settings) : Type 0 where
+  pub turns : ℕ
+  pub enough : 7 < turns + last
+  pub small : last ≤ 7
+  pub gives : fields turns last screen s (drop at bytes) ≡ readOrderOf bytes
+
+pub at-start : (bytes : List ℕ) {s : Settings} → s ≡ blankOf → Left bytes 0 0 false s
+unfolding readOrderOf
+at-start bytes e = record { turns = 8; enough = omega arith; small = omega arith; gives = rw e }
+
+module _ {bytes : List ℕ} {at last : ℕ} {screen : Bool} {s : Settings} (left : Left bytes at last screen s) where
+  all-read : (k : ℕ) (l : List ℕ) → 0 < k → length l ≡ 0 → fields k last screen s l ≡ must screen 4 (accepted s)
+  unfolding fields
+  all-read zero l h e = absurd (let z : ⊥ = omega arith in z)
+  all-read (suc k) [] h e = refl
+  all-read (suc k) (x ∷ l) h e = absurd (let z : ⊥ = omega arith in z)
+
+  pub at-end : length bytes ≤ at → must screen 4 (accepted s) ≡ readOrderOf bytes
+  at-end h = sym (all-read (left .turns) (drop at bytes) (omega arith) (simp length-drop (omega arith))) ∙ left .gives
+
+  short-header : (k : ℕ) (l : List ℕ) → 0 < k → 0 < length l → length l < 3 → fields k last screen s l ≡ refused 1
+  unfolding fields
+  short-header zero l h i j = absurd (let z : ⊥ = omega arith in z)
+  short-header (suc k) [] h i j = absurd (let z : ⊥ = omega arith in z)
+  short-header (suc k) (a ∷ []) h i j = refl
+  short-header (suc k) (a ∷ b ∷ []) h i j = refl
+  short-header (suc k) (a ∷ b ∷ c ∷ l) h i j = absurd (let z : ⊥ = omega arith in z)
+
+  pub cut-header : at < length bytes → length bytes - at < 3 → refused 1 ≡ readOrderOf bytes
+  cut-header h i =
+      sym (short-header (left .turns) (drop at bytes) (omega arith) (simp length-drop (omega arith)) (simp length-drop (omega arith)))
+      ∙ left .gives
+
+  one-turn : (k tag high low : ℕ) (rest : List ℕ) → 0 < k → fields k last screen s (tag ∷ high ∷ low ∷ rest)
+      ≡ must (ltb last tag && leb tag 7) 2 (must (leb (shortOf high low) (length rest)) 1
+      (andThen (readFieldOf (fromByteOf tag) (take (shortOf high low) rest) s) (λ t. fields (k - 1) tag (screen || eqb tag 1) t (drop (shortOf high low) rest))))
+  unfolding fields
+  one-turn zero tag high low rest h = absurd (let z : ⊥ = omega arith in z)
+  one-turn (suc k) tag high low rest h = let e : suc k - 1 ≡ k = omega arith in rw e
+
+  -- a whole header stands at `at`
+  module _ (header : at + 3 ≤ length bytes) where
+    abbrev tag : ℕ
+    tag = getD bytes at 0
+
+    abbrev n : ℕ
+    n = shortOf (getD bytes (at + 1) 0) (getD bytes (at + 2) 0)
+
+    abbrev rest : List ℕ
+    rest = drop (at + 3) bytes
+
+    turn : readOrderOf bytes ≡ must (ltb last tag && leb tag 7) 2 (must (leb n (length rest)) 1
+        (andThen (readFieldOf (fromByteOf tag) (take n rest) s) (λ t. fields (left .turns - 1) tag (screen || eqb tag 1) t (drop n rest))))
+    turn =
+        sym (left .gives) ∙ ap (fields (left .turns) last screen s) (three-left bytes at header)
+        ∙ one-turn (left .turns) tag (getD bytes (at + 1) 0) (getD bytes (at + 2) 0) rest (omega arith)
+
+    pub not-above : tag ≤ last → refused 2 ≡ readOrderOf bytes
+    unfolding must
+    not-above h = sym (turn ∙ rw (le-ltb last tag h))
+
+    pub not-a-tag : last < tag → 7 < tag → refused 2 ≡ readOrderOf bytes
+    unfolding must
+    not-a-tag h i = sym (turn ∙ rw (lt-ltb last tag h, lt-leb tag 7 i))
+
+    module _ (above : last < tag) (known : tag ≤ 7) where
+      pub cut-value : length bytes - (at + 3) < n → refused 1 ≡ readOrderOf bytes
+      unfolding must
+      cut-value h = sym (turn ∙ rw (lt-ltb last tag above, le-leb tag 7 known, lt-leb n (length rest) (simp length-drop (omega arith))))
+
+      -- the value is whole, and r is what reading it gave
+      module _ (r : Reading) {t : Tag} {k : ℕ} (short : k ≡ n) (whole : k ≤ length bytes - (at + 3)) (named : t ≡ fromByteOf tag)
+          (read : answerOf r ≡ readFieldOf t (take (at + 3 + k - (at + 3)) rest) s) where
+        read-on : readOrderOf bytes ≡ andThen (answerOf r) (λ t. fields (left .turns - 1) tag (screen || eqb tag 1) t (drop k rest))
+        unfolding must
+        read-on =
+            let e : at + 3 + k - (at + 3) ≡ k = omega arith in
+            let fits = le-leb k (length rest) (simp length-drop (omega arith)) in
+            turn ∙ rw (lt-ltb last tag above, le-leb tag 7 known, ← short, fits, read, named, e)
+
+        pub bad-value : (r .refusal ≡ 0 → ⊥) → answerOf r ≡ readOrderOf bytes
+        unfolding answerOf
+        bad-value h = let e = ne-eqb (r .refusal) 0 h in rw e (sym (read-on ∙ rw e))
+
+        pub next-field : r .refusal ≡ 0 → Left bytes (at + 3 + k) tag (screen || eqb tag 1) (r .settings)
+        unfolding answerOf
+        next-field h = record {
+          turns = left .turns - 1;
+          enough = omega arith;
+          small = known;
+          gives = rw (← drop-drop k (at + 3) bytes) (sym (read-on ∙ rw (eq-eqb (r .refusal) 0 h)));
+        }

@@ -1,0 +1,19 @@
+use mathlib.Core.Path.{sym}
+use lib.Ieee.{div, ofBits}
+use Rattle.reader.proofs.Bits.{no-nan, a-nan}
+use borrow.Author.Needs.{needs}
+use Rattle.reader.proofs.from_bits.Statement.{statement}
+use Rattle.reader.proofs.from_bits.Tie as tie
+
+float-from-bits-result : tie.Need-float-from-bits-result
+float-from-bits-result c = no-nan _ (c .if1 .left)
+
+returns : tie.Need-returns
+unfolding div ofBits
+returns c = sym (a-nan _ (c .if1 .taken))
+
+returns-2 : tie.Need-returns-2
+returns-2 c = search needs
+
+pub from-bits-spec : {M : Type 1} → statement M
+from-bits-spec = tie.close (tie.spec float-from-bits-result returns returns-2)

@@ -1,0 +1,51 @@
+use borrow.Author.Tests.{ne-eqb, eq-eqb, le-leb, lt-leb, not-true, not-false}
+use mathlib.Core.Path.{_∙_}
+use Rattle.reader.specs.Order.{answerOf, must, readCutoutsOf}
+use borrow.Author.Needs.{needs}
+use Rattle.reader.proofs.read_cutouts.Statement.{statement}
+use Rattle.reader.proofs.read_cutouts.Tie as tie
+
+refuse-requires : tie.Need-refuse-requires
+refuse-requires c κs = search needs
+
+returns : tie.Need-returns
+unfolding readCutoutsOf must
+returns c = c .refuse .ensures ∙ rw (ne-eqb _ _ (c .before .if1 .taken))
+
+refuse-requires-2 : tie.Need-refuse-requires-2
+refuse-requires-2 c κs = search needs
+
+returns-2 : tie.Need-returns-2
+unfolding readCutoutsOf must
+returns-2 c = c .refuse2 .ensures ∙ rw (eq-eqb _ _ (c .before .before .if1 .left), lt-leb _ _ (c .before .if2 .taken))
+
+cutout-rects-requires : tie.Need-cutout-rects-requires
+cutout-rects-requires c κs = search needs
+
+cutouts-in-limits-requires : tie.Need-cutouts-in-limits-requires
+cutouts-in-limits-requires c κs = search needs
+
+refuse-requires-3 : tie.Need-refuse-requires-3
+refuse-requires-3 c κs = search needs
+
+returns-3 : tie.Need-returns-3
+unfolding readCutoutsOf must
+returns-3 c = c .refuse3 .ensures ∙ rw (eq-eqb _ _ (c .before .before .before .before .before .if1 .left), le-leb _ _ (c .before .before .before .before .if2 .left), ← c .before .before .before .cutout-rects .ensures, ← c .before .before .cutouts-in-limits .ensures, not-true (c .before .before .cutouts-in-limits .result) (c .before .if3 .taken))
+
+returns-4 : tie.Need-returns-4
+unfolding readCutoutsOf must answerOf
+returns-4 c = rw (eq-eqb _ _ (c .before .before .before .before .if1 .left), le-leb _ _ (c .before .before .before .if2 .left), ← c .before .before .cutout-rects .ensures, ← c .before .cutouts-in-limits .ensures, not-false (c .before .cutouts-in-limits .result) (c .if3 .left))
+
+pub read-cutouts-spec : {M : Type 1} → statement M
+read-cutouts-spec =
+    tie.close
+    (tie.spec
+    refuse-requires
+    returns
+    refuse-requires-2
+    returns-2
+    cutout-rects-requires
+    cutouts-in-limits-requires
+    refuse-requires-3
+    returns-3
+    returns-4)

@@ -1,0 +1,42 @@
+use borrow.Author.Tests.{ne-eqb, eq-eqb, le-leb, lt-leb}
+use mathlib.Core.Path.{_∙_}
+use Rattle.reader.specs.Order.{answerOf, must, readFitOf}
+use borrow.Author.Needs.{needs}
+use Rattle.reader.proofs.read_fit.Statement.{statement}
+use Rattle.reader.proofs.read_fit.Tie as tie
+
+refuse-requires : tie.Need-refuse-requires
+refuse-requires c κs = search needs
+
+returns : tie.Need-returns
+unfolding readFitOf must
+returns c = c .refuse .ensures ∙ rw (ne-eqb _ _ (c .before .if1 .taken))
+
+shared-slice-read-b : tie.Need-shared-slice-read-b
+shared-slice-read-b c = search needs
+
+refuse-requires-2 : tie.Need-refuse-requires-2
+refuse-requires-2 c κs = search needs
+
+returns-2 : tie.Need-returns-2
+unfolding readFitOf must
+returns-2 c = c .refuse2 .ensures ∙ rw (eq-eqb _ _ (c .before .before .before .if1 .left), lt-leb _ _ (c .before .if2 .taken))
+
+fit-mark-requires : tie.Need-fit-mark-requires
+fit-mark-requires c κs = search needs
+
+returns-3 : tie.Need-returns-3
+unfolding readFitOf must answerOf
+returns-3 c = rw (eq-eqb _ _ (c .before .before .before .before .before .before .if1 .left), le-leb _ _ (c .before .before .before .before .if2 .left), ← c .fit-mark .ensures)
+
+pub read-fit-spec : {M : Type 1} → statement M
+read-fit-spec =
+    tie.close
+    (tie.spec
+    refuse-requires
+    returns
+    shared-slice-read-b
+    refuse-requires-2
+    returns-2
+    fit-mark-requires
+    returns-3)

@@ -1,0 +1,36 @@
+use borrow.Author.Tests.{ne-eqb, eq-eqb}
+use mathlib.Core.Path.{_∙_}
+use Rattle.reader.specs.Order.{answerOf, must, readModeOf}
+use lib.ListN.{getD}
+use Rattle.reader.proofs.Bits.{test-bit}
+use borrow.Author.Needs.{needs}
+use Rattle.reader.proofs.read_mode.Statement.{statement}
+use Rattle.reader.proofs.read_mode.Tie as tie
+
+refuse-requires : tie.Need-refuse-requires
+refuse-requires c κs = search needs
+
+returns : tie.Need-returns
+unfolding readModeOf must
+returns c = c .refuse .ensures ∙ rw (ne-eqb _ _ (c .before .if1 .taken))
+
+shared-slice-read-b : tie.Need-shared-slice-read-b
+shared-slice-read-b c = search needs
+
+refuse-requires-2 : tie.Need-refuse-requires-2
+refuse-requires-2 c κs = search needs
+
+returns-2 : tie.Need-returns-2
+unfolding readModeOf must
+returns-2 c = c .refuse2 .ensures ∙ rw (eq-eqb _ _ (c .before .before .before .if1 .left), ne-eqb _ _ (c .before .if2 .taken))
+
+returns-3 : tie.Need-returns-3
+unfolding readModeOf must answerOf
+returns-3 c =
+    let b = getD (c .before .before .before .before .before .args .value .now) 0 0 in
+    rw (eq-eqb _ _ (c .before .before .before .if1 .left), eq-eqb _ _ (c .before .if2 .left), ← test-bit b 0, ← test-bit b 1, ← test-bit b 2)
+
+pub read-mode-spec : {M : Type 1} → statement M
+read-mode-spec =
+    tie.close
+    (tie.spec refuse-requires returns shared-slice-read-b refuse-requires-2 returns-2 returns-3)

@@ -1,0 +1,42 @@
+use borrow.Author.Tests.{ne-eqb, eq-eqb, not-true, not-false}
+use mathlib.Core.Path.{_∙_}
+use Rattle.reader.specs.Order.{answerOf, must, readPictureOf}
+use borrow.Author.Needs.{needs}
+use Rattle.reader.proofs.read_picture.Statement.{statement}
+use Rattle.reader.proofs.read_picture.Tie as tie
+
+refuse-requires : tie.Need-refuse-requires
+refuse-requires c κs = search needs
+
+returns : tie.Need-returns
+unfolding readPictureOf must
+returns c = c .refuse .ensures ∙ rw (ne-eqb _ _ (c .before .if1 .taken))
+
+rect-at-requires : tie.Need-rect-at-requires
+rect-at-requires c κs = search needs
+
+rect-in-limits-requires : tie.Need-rect-in-limits-requires
+rect-in-limits-requires c κs = search needs
+
+refuse-requires-2 : tie.Need-refuse-requires-2
+refuse-requires-2 c κs = search needs
+
+returns-2 : tie.Need-returns-2
+unfolding readPictureOf must
+returns-2 c = c .refuse2 .ensures ∙ rw (eq-eqb _ _ (c .before .before .before .before .if1 .left), ← c .before .before .before .rect-at .ensures, ← c .before .before .rect-in-limits .ensures, not-true (c .before .before .rect-in-limits .result) (c .before .if2 .taken))
+
+returns-3 : tie.Need-returns-3
+unfolding readPictureOf must answerOf
+returns-3 c = rw (eq-eqb _ _ (c .before .before .before .if1 .left), ← c .before .before .rect-at .ensures, ← c .before .rect-in-limits .ensures, not-false (c .before .rect-in-limits .result) (c .if2 .left))
+
+pub read-picture-spec : {M : Type 1} → statement M
+read-picture-spec =
+    tie.close
+    (tie.spec
+    refuse-requires
+    returns
+    rect-at-requires
+    rect-in-limits-requires
+    refuse-requires-2
+    returns-2
+    returns-3)

@@ -1,0 +1,50 @@
+use borrow.Author.Tests.{ne-eqb, eq-eqb, not-true, not-false}
+use mathlib.Core.Path.{_∙_}
+use Rattle.reader.specs.Order.{answerOf, must, readPlaceOf}
+use borrow.Author.Needs.{needs}
+use Rattle.reader.proofs.read_place.Statement.{statement}
+use Rattle.reader.proofs.read_place.Tie as tie
+
+refuse-requires : tie.Need-refuse-requires
+refuse-requires c κs = search needs
+
+returns : tie.Need-returns
+unfolding readPlaceOf must
+returns c = c .refuse .ensures ∙ rw (ne-eqb _ _ (c .before .if1 .taken))
+
+number-at-requires : tie.Need-number-at-requires
+number-at-requires c κs = search needs
+
+number-at-requires-2 : tie.Need-number-at-requires-2
+number-at-requires-2 c κs = search needs
+
+number-at-requires-3 : tie.Need-number-at-requires-3
+number-at-requires-3 c κs = search needs
+
+place-in-limits-requires : tie.Need-place-in-limits-requires
+place-in-limits-requires c κs = search needs
+
+refuse-requires-2 : tie.Need-refuse-requires-2
+refuse-requires-2 c κs = search needs
+
+returns-2 : tie.Need-returns-2
+unfolding readPlaceOf must
+returns-2 c = c .refuse2 .ensures ∙ rw (eq-eqb _ _ (c .before .before .before .before .before .before .if1 .left), ← c .before .before .before .before .before .number-at .ensures, ← c .before .before .before .before .number-at2 .ensures, ← c .before .before .before .number-at3 .ensures, ← c .before .before .place-in-limits .ensures, not-true (c .before .before .place-in-limits .result) (c .before .if2 .taken))
+
+returns-3 : tie.Need-returns-3
+unfolding readPlaceOf must answerOf
+returns-3 c = rw (eq-eqb _ _ (c .before .before .before .before .before .before .if1 .left), ← c .before .before .before .before .before .number-at .ensures, ← c .before .before .before .before .number-at2 .ensures, ← c .before .before .before .number-at3 .ensures, ← c .before .before .place-in-limits .ensures, not-false (c .before .before .place-in-limits .result) (c .before .if2 .left))
+
+pub read-place-spec : {M : Type 1} → statement M
+read-place-spec =
+    tie.close
+    (tie.spec
+    refuse-requires
+    returns
+    number-at-requires
+    number-at-requires-2
+    number-at-requires-3
+    place-in-limits-requires
+    refuse-requires-2
+    returns-2
+    returns-3)

@@ -1,0 +1,213 @@
+-- An accepted order gives settings in document 01's limits, each number of which is a value of binary32.
+use mathlib.Core.Path.{_≡_, refl, _∙_}
+use mathlib.Core.Bool.{Bool, true, false, _&&_, _||_, cond}
+use mathlib.Core.List.{List, [], _∷_, _++_}
+use Prim.Native.Nat.{ℕ, zero, suc, _+_, _-_, _*_, _/_}
+use native.Mathlib.Omega.{arith}
+use lib.Dec.{T, eqb, ltb, leb}
+use lib.Ieee.{Float, binary32, ofBits, fits, lt, le, eq, ne, neg}
+use lib.Ieee.Bits.{is-true, ofBits-fits}
+use lib.ListN.{length, take, drop, replicate, length-append}
+use lib.Seq.{take-at}
+use Rattle.float.specs.Float.{k0, k1}
+use Rattle.float.specs.MinMax.{maxOf}
+use Rattle.geometry.specs.declared.Rect.{Rect}
+use Rattle.geometry.specs.Answer.{Answer, accepted, refused}
+use Rattle.geometry.specs.Rect.{newOf, emptyRect}
+use Rattle.layout.specs.declared.Cutouts.{Cutouts}
+use Rattle.layout.specs.Layout.{cutoutList}
+use Rattle.layout.specs.Lists.{allOf}
+use Rattle.search.specs.declared.Offset.{Offset}
+use Rattle.settings.specs.declared.Settings.{Settings}
+use Rattle.settings.specs.Settings.{defaultOf, least, inLimitsOf, screenInLimitsOf, rectInLimitsOf, placeInLimitsOf, cutoutsInLimitsOf, acceptedOf, rectIsF32, IsF32}
+use Rattle.settings.specs.Accepted.{both}
+use Rattle.reader.specs.declared.Tag.{Tag}
+use Rattle.reader.specs.declared.Tag.the-variants as Tag
+use Rattle.reader.specs.Order.{must, andThen, shortOf, numberAtOf, rectAtOf, rects, filled, readScreenOf, readPictureOf, readModeOf, readFitOf, readPlaceOf, readCutoutsOf, readSavedOf, fromByteOf, readFieldOf, fields, blankOf, readOrderOf}
+
+-- ---- a property of the value that an answer accepts
+module _ {A : Type 0} (P : A → Type 0) where
+  unfoldable Holds : Answer A → Type 0
+  Holds (accepted x) = P x
+  Holds (refused n) = T true
+
+  holds : (x : A) → P x → Holds (accepted x)
+  unfolding Holds
+  holds x p = p
+
+  refusal-holds : (n : ℕ) → Holds (refused n)
+  unfolding Holds
+  refusal-holds n = tt
+
+  holds-must : (test : Bool) (n : ℕ) (a : Answer A) → (test ≡ true → Holds a) → Holds (must test n a)
+  unfolding must
+  holds-must true n a h = h refl
+  holds-must false n a h = refusal-holds n
+
+  holds-then : (a : Answer A) (f : A → Answer A) → Holds a → ((x : A) → P x → Holds (f x)) → Holds (andThen a f)
+  unfolding Holds
+  holds-then (accepted x) f p h = h x p
+  holds-then (refused n) f p h = tt
+
+  holds-of : {a : Answer A} {x : A} → Holds a → a ≡ accepted x → P x
+  unfolding Holds
+  holds-of h e = rw e at h
+
+-- what holds of the settings that are blank, and after each field, holds of the order's
+module _ (P : Settings → Type 0) (each : (tag : Tag) (v : List ℕ) (s : Settings) → P s → Holds P (readFieldOf tag v s)) where
+  fields-hold : (turns last : ℕ) (screen : Bool) (s : Settings) (bytes : List ℕ) → P s → Holds P (fields turns last screen s bytes)
+  unfolding fields
+  fields-hold zero last screen s bytes p = refusal-holds P 2
+  fields-hold (suc turns) last screen s [] p = holds-must P screen _ _ (λ _. holds P s p)
+  fields-hold (suc turns) last screen s (a ∷ []) p = refusal-holds P 1
+  fields-hold (suc turns) last screen s (a ∷ b ∷ []) p = refusal-holds P 1
+  fields-hold (suc turns) last screen s (tag ∷ high ∷ low ∷ rest) p =
+      let n = shortOf high low in
+      holds-must P (ltb last tag && leb tag 7) _ _ (λ _.
+      holds-must P (leb n (length rest)) _ _ (λ _.
+      holds-then P (readFieldOf (fromByteOf tag) (take n rest) s) _ (each (fromByteOf tag) (take n rest) s p)
+      (λ t q. fields-hold turns tag (screen || eqb tag 1) t (drop n rest) q)))
+
+  order-holds : P blankOf → (bytes : List ℕ) {s : Settings} → readOrderOf bytes ≡ accepted s → P s
+  unfolding readOrderOf
+  order-holds p bytes e = holds-of P (fields-hold 8 0 false blankOf bytes p) e
+
+-- ---- a property of each part of the settings
+record Parts (Screen : Float → Float → Type 0) (Picture : Rect → Type 0) (Place : Float → Offset → Type 0) (Cut : Cutouts → Type 0) (Saved : List Rect → ℕ → Type 0) (s : Settings) : Type 0 where
+  screen : Screen (s .w) (s .h)
+  picture : Picture (s .picture)
+  place : Place (s .preset .scale) (s .preset .offset)
+  cutouts : Cut (s .cutouts)
+  saved : Saved (s .preset .elements) (s .preset .count)
+
+-- the numbers of a value for tags 1 and 5
+abbrev wide : List ℕ → Float
+wide v = numberAtOf v 0
+
+abbrev high : List ℕ → Float
+high v = numberAtOf v 1
+
+abbrev offsetAt : List ℕ → Offset
+offsetAt v = record { x = numberAtOf v 1; y = numberAtOf v 2 }
+
+abbrev cutoutsAt : List ℕ → ℕ → Cutouts
+cutoutsAt v n = record { at = filled 16 v n; count = n }
+
+-- what holds of the blank settings' parts, and of each value's where its tests are met, holds of the order's
+module _ (Screen : Float → Float → Type 0) (Picture : Rect → Type 0) (Place : Float → Offset → Type 0) (Cut : Cutouts → Type 0) (Saved : List Rect → ℕ → Type 0)
+    (start : Parts Screen Picture Place Cut Saved blankOf)
+    (on-screen : (v : List ℕ) → screenInLimitsOf (wide v) (high v) ≡ true → Screen (wide v) (high v) × Picture (newOf k0 k0 (maxOf (wide v) k1) (maxOf (high v) k1)))
+    (on-picture : (v : List ℕ) → rectInLimitsOf k0 (rectAtOf v 0) ≡ true → Picture (rectAtOf v 0))
+    (on-place : (v : List ℕ) → placeInLimitsOf (numberAtOf v 0) (offsetAt v) ≡ true → Place (numberAtOf v 0) (offsetAt v))
+    (on-cutouts : (v : List ℕ) (n : ℕ) → leb n 16 ≡ true → cutoutsInLimitsOf (cutoutsAt v n) ≡ true → Cut (cutoutsAt v n))
+    (on-saved : (v : List ℕ) (n : ℕ) → leb n 32 ≡ true → Saved (filled 32 v n) n) where
+  abbrev P : Settings → Type 0
+  P = Parts Screen Picture Place Cut Saved
+
+  each : (tag : Tag) (v : List ℕ) (s : Settings) → P s → Holds P (readFieldOf tag v s)
+  unfolding readFieldOf readScreenOf readPictureOf readModeOf readFitOf readPlaceOf readCutoutsOf readSavedOf
+  each Tag.Screen v s p = holds-must P _ _ _ (λ _. holds-must P _ _ _ (λ e. let q = on-screen v e in holds P _ (record { screen = q .0; picture = q .1; place = p .place; cutouts = p .cutouts; saved = p .saved })))
+  each Tag.Picture v s p = holds-must P _ _ _ (λ _. holds-must P _ _ _ (λ e. holds P _ (record { screen = p .screen; picture = on-picture v e; place = p .place; cutouts = p .cutouts; saved = p .saved })))
+  each Tag.Mode v s p = holds-must P _ _ _ (λ _. holds-must P _ _ _ (λ _. holds P _ (record { screen = p .screen; picture = p .picture; place = p .place; cutouts = p .cutouts; saved = p .saved })))
+  each Tag.Fit v s p = holds-must P _ _ _ (λ _. holds-must P _ _ _ (λ _. holds P _ (record { screen = p .screen; picture = p .picture; place = p .place; cutouts = p .cutouts; saved = p .saved })))
+  each Tag.Place v s p = holds-must P _ _ _ (λ _. holds-must P _ _ _ (λ e. holds P _ (record { screen = p .screen; picture = p .picture; place = on-place v e; cutouts = p .cutouts; saved = p .saved })))
+  each Tag.Cutouts v s p =
+      holds-must P _ _ _ (λ _. holds-must P _ _ _ (λ few. holds-must P _ _ _ (λ e. holds P _ (record { screen = p .screen; picture = p .picture; place = p .place; cutouts = on-cutouts v (length v / 16) few e; saved = p .saved }))))
+  each Tag.Saved v s p = holds-must P _ _ _ (λ _. holds-must P _ _ _ (λ few. holds P _ (record { screen = p .screen; picture = p .picture; place = p .place; cutouts = p .cutouts; saved = on-saved v (length v / 16) few })))
+
+  parts : (bytes : List ℕ) {s : Settings} → readOrderOf bytes ≡ accepted s → P s
+  parts bytes e = order-holds P each start bytes e
+
+-- ---- limits
+either : {A : Type 0} (P : A → Type 0) (b : Bool) {x y : A} → P x → P y → P (cond b x y)
+either P true p q = p
+either P false p q = q
+
+zero-in-limits : inLimitsOf least k0 ≡ true
+unfolding inLimitsOf le lt eq neg ofBits
+zero-in-limits = refl
+
+one-in-limits : inLimitsOf k0 k1 ≡ true
+unfolding inLimitsOf le lt eq ofBits
+one-in-limits = refl
+
+raised : (x : Float) → inLimitsOf k0 x ≡ true → inLimitsOf k0 (maxOf x k1) ≡ true
+unfolding maxOf
+raised x e =
+    either (λ y. inLimitsOf k0 y ≡ true) (ne x x) one-in-limits (either (λ y. inLimitsOf k0 y ≡ true) (lt x k1) one-in-limits e)
+
+default-picture : (w h : Float) → screenInLimitsOf w h ≡ true → rectInLimitsOf k0 (newOf k0 k0 (maxOf w k1) (maxOf h k1)) ≡ true
+unfolding screenInLimitsOf rectInLimitsOf
+default-picture w h e = let b = both _ _ e in rw (zero-in-limits, raised w (b .0), raised h (b .1))
+
+abbrev InLimits : Settings → Type 0
+InLimits = Parts (λ w h. screenInLimitsOf w h ≡ true) (λ r. rectInLimitsOf k0 r ≡ true) (λ scale offset. placeInLimitsOf scale offset ≡ true)
+    (λ c. (leb (c .count) 16 ≡ true) × (cutoutsInLimitsOf c ≡ true)) (λ l n. leb n 32 ≡ true)
+
+blank-limits : InLimits blankOf
+unfolding blankOf defaultOf screenInLimitsOf rectInLimitsOf placeInLimitsOf cutoutsInLimitsOf inLimitsOf allOf le lt eq neg ofBits
+blank-limits = record { screen = refl; picture = refl; place = refl; cutouts = (refl, refl); saved = refl }
+
+pub accepted-order : (bytes : List ℕ) {s : Settings} → readOrderOf bytes ≡ accepted s → acceptedOf s ≡ true
+unfolding acceptedOf
+accepted-order bytes e =
+    let q = parts _ _ _ _ _
+    blank-limits (λ v e. (e, default-picture (wide v) (high v) e)) (λ v e. e) (λ v e. e) (λ v n few e. (few, e)) (λ v n few. few) bytes e in
+    rw (q .screen, q .picture, q .place, q .cutouts .0, q .cutouts .1, q .saved)
+
+-- ---- values of binary32
+bits-f32 : (n : ℕ) → fits binary32 (ofBits binary32 n) ≡ true
+bits-f32 n = is-true _ (ofBits-fits binary32 n)
+
+number-f32 : (v : List ℕ) (i : ℕ) → fits binary32 (numberAtOf v i) ≡ true
+unfolding numberAtOf
+number-f32 v i = bits-f32 _
+
+rect-f32 : (v : List ℕ) (i : ℕ) → rectIsF32 (rectAtOf v i) ≡ true
+unfolding rectIsF32 rectAtOf
+rect-f32 v i = rw (number-f32 v (4 * i), number-f32 v (4 * i + 1), number-f32 v (4 * i + 2), number-f32 v (4 * i + 3))
+
+raised-f32 : (x : Float) → fits binary32 x ≡ true → fits binary32 (maxOf x k1) ≡ true
+unfolding maxOf
+raised-f32 x e =
+    let one = bits-f32 0x3f80_0000 in
+    either (λ y. fits binary32 y ≡ true) (ne x x) one (either (λ y. fits binary32 y ≡ true) (lt x k1) one e)
+
+default-f32 : (w h : Float) → fits binary32 w ≡ true → fits binary32 h ≡ true → rectIsF32 (newOf k0 k0 (maxOf w k1) (maxOf h k1)) ≡ true
+unfolding rectIsF32
+default-f32 w h p q = rw (bits-f32 0, raised-f32 w p, raised-f32 h q)
+
+all-snoc : {A : Type 0} (p : A → Bool) (l : List A) (x : A) → allOf p l ≡ true → p x ≡ true → allOf p (l ++ (x ∷ [])) ≡ true
+unfolding allOf
+all-snoc p [] x a b = rw b
+all-snoc p (y ∷ l) x a b = let h = both (p y) (allOf p l) a in rw (h .0) (all-snoc p l x (h .1) b)
+
+pub length-rects : (v : List ℕ) (n : ℕ) → length (rects v n) ≡ n
+unfolding rects
+length-rects v zero = refl
+length-rects v (suc n) = length-append (rects v n) (rectAtOf v n ∷ []) ∙ rw (length-rects v n) (omega arith)
+
+rects-f32 : (v : List ℕ) (n : ℕ) → allOf rectIsF32 (rects v n) ≡ true
+unfolding rects allOf
+rects-f32 v zero = refl
+rects-f32 v (suc n) = all-snoc rectIsF32 (rects v n) (rectAtOf v n) (rects-f32 v n) (rect-f32 v n)
+
+filled-f32 : (size : ℕ) (v : List ℕ) (n : ℕ) → allOf rectIsF32 (take n (filled size v n)) ≡ true
+unfolding filled
+filled-f32 size v n = rw (take-at (rects v n) (replicate (size - n) emptyRect) n (length-rects v n)) (rects-f32 v n)
+
+abbrev InF32 : Settings → Type 0
+InF32 = Parts (λ w h. (fits binary32 w ≡ true) × (fits binary32 h ≡ true)) (λ r. rectIsF32 r ≡ true)
+    (λ scale offset. (fits binary32 scale ≡ true) × (fits binary32 (offset .x) ≡ true) × (fits binary32 (offset .y) ≡ true))
+    (λ c. allOf rectIsF32 (cutoutList c) ≡ true) (λ l n. allOf rectIsF32 (take n l) ≡ true)
+
+blank-f32 : InF32 blankOf
+unfolding blankOf defaultOf rectIsF32 allOf fits ofBits
+blank-f32 = record { screen = (refl, refl); picture = refl; place = (refl, refl, refl); cutouts = refl; saved = refl }
+
+pub order-f32 : (bytes : List ℕ) {s : Settings} → readOrderOf bytes ≡ accepted s → IsF32 s
+order-f32 bytes e =
+    let q = parts _ _ _ _ _
+    blank-f32 (λ v _. ((number-f32 v 0, number-f32 v 1), default-f32 (wide v) (high v) (number-f32 v 0) (number-f32 v 1))) (λ v _. rect-f32 v 0)
+    (λ v _. (number-f32 v 0, number-f32 v 1, number-f32 v 2)) (λ v n _ _. filled-f32 16 v n) (λ v n _. filled-f32 32 v n) bytes e in
+    record { w = q .screen .0; h = q .screen .1; picture = q .picture; scale = q .place .0; across = q .place .1; down = q .place .2; cutouts = q .cutouts; saved = q .saved }

@@ -1,0 +1,385 @@
+// The reader of orders: bytes to settings, or the number of their first fault.
+ghost use mathlib.Core.Path.{_≡_};
+ghost use Prim.Native.Nat.{_+_, _*_, _≤_, _<_};
+ghost use lib.Ieee.{binary32, ofBits};
+ghost use lib.ListN.{length};
+ghost use Rattle.geometry.specs.Answer.{refused};
+ghost use Rattle.reader.specs.Order.{answerOf, shortOf, numberAtOf, rectAtOf, filled, readScreenOf, readPictureOf, readModeOf, fitMarkOf, readFitOf, readPlaceOf, readCutoutsOf, readSavedOf, fromByteOf, readFieldOf, blankOf, readOrderOf};
+use geometry::Rect;
+use layout::Cutouts;
+use search::Offset;
+use settings::Fit;
+use settings::Preset;
+use settings::Settings;
+
+// Refusal 0 is none; with any other the settings mean nothing.
+pub struct Reading {
+    pub refusal: u8,
+    pub settings: Settings,
+}
+
+pub enum Tag {
+    Screen,
+    Picture,
+    Mode,
+    Fit,
+    Place,
+    Cutouts,
+    Saved,
+}
+
+fn refuse(refusal: u8, settings: Settings) -> Reading
+    requires { ⌜ 0 < refusal ⌝ }
+    ensures { λ r. ⌜ answerOf r ≡ refused refusal ⌝ }
+{
+    Reading { refusal, settings }
+}
+
+fn short(high: u8, low: u8) -> usize
+    ensures { λ r. ⌜ (r ≡ shortOf high low) × (r < 65536) ⌝ }
+{
+    high as usize * 256 + low as usize
+}
+
+fn word(a: u8, b: u8, c: u8, d: u8) -> u32
+    ensures { λ r. ⌜ r ≡ ((a * 256 + b) * 256 + c) * 256 + d ⌝ }
+{
+    ((a as u32 * 256 + b as u32) * 256 + c as u32) * 256 + d as u32
+}
+
+// The f32 with the bit pattern n; each NaN pattern gives the one NaN.
+fn from_bits(n: u32) -> f32
+    ensures { λ r. ⌜ r ≡ ofBits binary32 n ⌝ }
+{
+    if 0x7f80_0000 < n % 0x8000_0000 {
+        0.0 / 0.0
+    } else {
+        f32::from_bits(n)
+    }
+}
+
+fn number_at(value: &[u8], i: usize) -> f32
+    requires { ⌜ 4 * i + 4 ≤ length (now value) ⌝ }
+    ensures { λ r. ⌜ r ≡ numberAtOf (now (value .entry)) i ⌝ }
+{
+    let at = 4 * i;
+    from_bits(word(value[at], value[at + 1], value[at + 2], value[at + 3]))
+}
+
+fn rect_at(value: &[u8], i: usize) -> Rect
+    requires { ⌜ 16 * i + 16 ≤ length (now value) ⌝ }
+    ensures { λ r. ⌜ r ≡ rectAtOf (now (value .entry)) i ⌝ }
+{
+    Rect {
+        x: number_at(value, 4 * i),
+        y: number_at(value, 4 * i + 1),
+        w: number_at(value, 4 * i + 2),
+        h: number_at(value, 4 * i + 3),
+    }
+}
+
+fn read_screen(value: &[u8], s: Settings) -> Reading
+    ensures { λ r. ⌜ answerOf r ≡ readScreenOf (now (value .entry)) s ⌝ }
+{
+    if value.len() != 8 {
+        return refuse(3, s);
+    }
+    let w = number_at(value, 0);
+    let h = number_at(value, 1);
+    if !settings::screen_in_limits(w, h) {
+        return refuse(6, s);
+    }
+    let picture = Rect {
+        x: 0.0,
+        y: 0.0,
+        w: float::max(w, 1.0),
+        h: float::max(h, 1.0),
+    };
+    let mut t = s;
+    t.w = w;
+    t.h = h;
+    t.picture = picture;
+    Reading {
+        refusal: 0,
+        settings: t,
+    }
+}
+
+fn read_picture(value: &[u8], s: Settings) -> Reading
+    ensures { λ r. ⌜ answerOf r ≡ readPictureOf (now (value .entry)) s ⌝ }
+{
+    if value.len() != 16 {
+        return refuse(3, s);
+    }
+    let picture = rect_at(value, 0);
+    if !settings::rect_in_limits(0.0, picture) {
+        return refuse(6, s);
+    }
+    let mut t = s;
+    t.picture = picture;
+    Reading {
+        refusal: 0,
+        settings: t,
+    }
+}
+
+// Bit 0 psp, bit 1 analog, bit 2 allow_overlap.
+fn read_mode(value: &[u8], s: Settings) -> Reading
+    ensures { λ r. ⌜ answerOf r ≡ readModeOf (now (value .entry)) s ⌝ }
+{
+    if value.len() != 1 {
+        return refuse(3, s);
+    }
+    let b = value[0];
+    if b >> 3 != 0 {
+        return refuse(5, s);
+    }
+    let mut preset = s.preset;
+    preset.psp = b & 1 != 0;
+    preset.analog = b & 2 != 0;
+    preset.overlap = b & 4 != 0;
+    let mut t = s;
+    t.preset = preset;
+    Reading {
+        refusal: 0,
+        settings: t,
+    }
+}
+
+fn fit_mark(b: u8) -> Fit
+    ensures { λ r. ⌜ r ≡ fitMarkOf b ⌝ }
+{
+    match b {
+        0 => Fit::Unset,
+        1 => Fit::Maximum,
+        _ => Fit::KeepClear,
+    }
+}
+
+fn read_fit(value: &[u8], s: Settings) -> Reading
+    ensures { λ r. ⌜ answerOf r ≡ readFitOf (now (value .entry)) s ⌝ }
+{
+    if value.len() != 1 {
+        return refuse(3, s);
+    }
+    let b = value[0];
+    if 2 < b {
+        return refuse(5, s);
+    }
+    let p = s.preset;
+    let offset = p.offset;
+    let elements = p.elements;
+    let preset = Preset {
+        psp: p.psp,
+        analog: p.analog,
+        overlap: p.overlap,
+        fit: fit_mark(b),
+        scale: p.scale,
+        offset,
+        elements,
+        count: p.count,
+    };
+    let mut t = s;
+    t.preset = preset;
+    Reading {
+        refusal: 0,
+        settings: t,
+    }
+}
+
+fn read_place(value: &[u8], s: Settings) -> Reading
+    ensures { λ r. ⌜ answerOf r ≡ readPlaceOf (now (value .entry)) s ⌝ }
+{
+    if value.len() != 12 {
+        return refuse(3, s);
+    }
+    let scale = number_at(value, 0);
+    let offset = Offset {
+        x: number_at(value, 1),
+        y: number_at(value, 2),
+    };
+    if !settings::place_in_limits(scale, offset) {
+        return refuse(6, s);
+    }
+    let mut preset = s.preset;
+    preset.scale = scale;
+    preset.offset = offset;
+    let mut t = s;
+    t.preset = preset;
+    Reading {
+        refusal: 0,
+        settings: t,
+    }
+}
+
+fn cutout_rects(value: &[u8], n: usize) -> [Rect; 16]
+    requires { ⌜ (n ≤ 16) × (16 * n ≤ length (now value)) ⌝ }
+    ensures { λ r. ⌜ r ≡ filled 16 (now (value .entry)) n ⌝ }
+{
+    let mut at = [Rect {
+        x: 0.0,
+        y: 0.0,
+        w: 0.0,
+        h: 0.0,
+    }; 16];
+    for i in 0..n {
+        at[i] = rect_at(value, i);
+    }
+    at
+}
+
+fn saved_rects(value: &[u8], n: usize) -> [Rect; 32]
+    requires { ⌜ (n ≤ 32) × (16 * n ≤ length (now value)) ⌝ }
+    ensures { λ r. ⌜ r ≡ filled 32 (now (value .entry)) n ⌝ }
+{
+    let mut at = [Rect {
+        x: 0.0,
+        y: 0.0,
+        w: 0.0,
+        h: 0.0,
+    }; 32];
+    for i in 0..n {
+        at[i] = rect_at(value, i);
+    }
+    at
+}
+
+fn read_cutouts(value: &[u8], s: Settings) -> Reading
+    ensures { λ r. ⌜ answerOf r ≡ readCutoutsOf (now (value .entry)) s ⌝ }
+{
+    if value.len() % 16 != 0 {
+        return refuse(3, s);
+    }
+    let count = value.len() / 16;
+    if 16 < count {
+        return refuse(7, s);
+    }
+    let at = cutout_rects(value, count);
+    let cutouts = Cutouts { at, count };
+    if !settings::cutouts_in_limits(cutouts) {
+        return refuse(6, s);
+    }
+    let mut t = s;
+    t.cutouts = cutouts;
+    Reading {
+        refusal: 0,
+        settings: t,
+    }
+}
+
+// Any f32 may stand in a saved rectangle.
+fn read_saved(value: &[u8], s: Settings) -> Reading
+    ensures { λ r. ⌜ answerOf r ≡ readSavedOf (now (value .entry)) s ⌝ }
+{
+    if value.len() % 16 != 0 {
+        return refuse(3, s);
+    }
+    let count = value.len() / 16;
+    if 32 < count {
+        return refuse(7, s);
+    }
+    let elements = saved_rects(value, count);
+    let mut preset = s.preset;
+    preset.elements = elements;
+    preset.count = count;
+    let mut t = s;
+    t.preset = preset;
+    Reading {
+        refusal: 0,
+        settings: t,
+    }
+}
+
+impl Tag {
+    fn from_byte(b: u8) -> Tag
+        ensures { λ r. ⌜ r ≡ fromByteOf b ⌝ }
+    {
+        match b {
+            1 => Tag::Screen,
+            2 => Tag::Picture,
+            3 => Tag::Mode,
+            4 => Tag::Fit,
+            5 => Tag::Place,
+            6 => Tag::Cutouts,
+            _ => Tag::Saved,
+        }
+    }
+}
+
+fn read_field(tag: Tag, value: &[u8], s: Settings) -> Reading
+    ensures { λ r. ⌜ answerOf r ≡ readFieldOf tag (now (value .entry)) s ⌝ }
+{
+    match tag {
+        Tag::Screen => read_screen(value, s),
+        Tag::Picture => read_picture(value, s),
+        Tag::Mode => read_mode(value, s),
+        Tag::Fit => read_fit(value, s),
+        Tag::Place => read_place(value, s),
+        Tag::Cutouts => read_cutouts(value, s),
+        Tag::Saved => read_saved(value, s),
+    }
+}
+
+// The table's values for absent fields.
+fn blank() -> Settings
+    ensures { λ r. ⌜ r ≡ blankOf ⌝ }
+{
+    let none = Rect {
+        x: 0.0,
+        y: 0.0,
+        w: 0.0,
+        h: 0.0,
+    };
+    Settings {
+        w: 0.0,
+        h: 0.0,
+        picture: none,
+        preset: Preset::default(),
+        cutouts: Cutouts {
+            at: [none; 16],
+            count: 0,
+        },
+    }
+}
+
+pub fn read_order(bytes: &[u8]) -> Reading
+    ensures { λ r. ⌜ answerOf r ≡ readOrderOf (now (bytes .entry)) ⌝ }
+{
+    let mut s = blank();
+    let mut screen = false;
+    let mut last = 0;
+    let mut at = 0;
+    while at < bytes.len() {
+        if bytes.len() - at < 3 {
+            return refuse(1, s);
+        }
+        let tag = bytes[at];
+        if tag <= last {
+            return refuse(2, s);
+        }
+        if 7 < tag {
+            return refuse(2, s);
+        }
+        let start = at + 3;
+        let n = short(bytes[at + 1], bytes[at + 2]);
+        if bytes.len() - start < n {
+            return refuse(1, s);
+        }
+        let end = start + n;
+        let r = read_field(Tag::from_byte(tag), &bytes[start..end], s);
+        if r.refusal != 0 {
+            return r;
+        }
+        s = r.settings;
+        screen = screen | (tag == 1);
+        last = tag;
+        at = end;
+    }
+    if !screen {
+        return refuse(4, s);
+    }
+    Reading {
+        refusal: 0,
+        settings: s,
+    }
+}

@@ -1,0 +1,29 @@
+-- What accepted settings hold, part by part.
+use mathlib.Core.Path.{_≡_, refl}
+use mathlib.Core.Bool.{Bool, true, false, _&&_}
+use lib.Dec.{leb}
+use Rattle.float.specs.Float.{k0}
+use Rattle.settings.specs.declared.Settings.{Settings}
+use Rattle.settings.specs.Settings.{screenInLimitsOf, rectInLimitsOf, placeInLimitsOf, cutoutsInLimitsOf, acceptedOf}
+
+pub record Accepted (s : Settings) : Type 0 where
+  pub screen : screenInLimitsOf (s .w) (s .h) ≡ true
+  pub picture : rectInLimitsOf k0 (s .picture) ≡ true
+  pub place : placeInLimitsOf (s .preset .scale) (s .preset .offset) ≡ true
+  pub few-cutouts : leb (s .cutouts .count) 16 ≡ true
+  pub cutouts : cutoutsInLimitsOf (s .cutouts) ≡ true
+  pub few-saved : leb (s .preset .count) 32 ≡ true
+
+pub both : (a b : Bool) → (a && b) ≡ true → (a ≡ true) × (b ≡ true)
+both true b e = (refl, e)
+both false b e = (e, cc)
+
+pub accepted-parts : (s : Settings) → acceptedOf s ≡ true → Accepted s
+unfolding acceptedOf
+accepted-parts s e =
+    let a = both _ _ e in
+    let b = both _ _ (a .1) in
+    let c = both _ _ (b .1) in
+    let d = both _ _ (c .1) in
+    let f = both _ _ (d .0) in
+    record { screen = a .0; picture = b .0; place = c .0; few-cutouts = f .0; cutouts = f .1; few-saved = d .1 }

@@ -1,0 +1,94 @@
+-- The settings of an order, their limits, and `Preset::picture_fit` of input.rs. Definitions only.
+use mathlib.Core.Path.{_≡_}
+use mathlib.Core.Bool.{Bool, true, false, _&&_, cond}
+use mathlib.Core.List.{List}
+use lib.Dec.{leb}
+use lib.Ieee.{Float, binary32, fits, le, eq, neg}
+use lib.ListN.{take, replicate}
+use Rattle.float.specs.Float.{k0, k0·5, k1, k8192}
+use Rattle.geometry.specs.declared.Rect.{Rect}
+use Rattle.geometry.specs.Rect.{emptyRect}
+use Rattle.layout.specs.declared.Cutouts.{Cutouts}
+use Rattle.layout.specs.Layout.{cutoutList}
+use Rattle.layout.specs.Lists.{allOf}
+use Rattle.search.specs.declared.Offset.{Offset}
+use Rattle.settings.specs.declared.Fit.{Fit}
+use Rattle.settings.specs.declared.Fit.the-variants.{Unset, Maximum, KeepClear}
+use Rattle.settings.specs.declared.Preset.{Preset}
+use Rattle.settings.specs.declared.Settings.{Settings}
+
+-- the list that `elements` and `count` stand for
+abbrev pub savedList : Preset → List Rect
+savedList p = take (p .count) (p .elements)
+
+-- `Preset::default()`
+unfoldable pub defaultOf : Preset
+defaultOf = record {
+  psp = false;
+  analog = false;
+  overlap = false;
+  fit = Maximum;
+  scale = k1;
+  offset = record { x = k0·5; y = k0·5 };
+  elements = replicate 32 emptyRect;
+  count = 0;
+}
+
+-- `fit.unwrap_or(other)`
+abbrev pub unwrapOr : Fit → Fit → Fit
+unwrapOr Unset other = other
+unwrapOr Maximum other = Maximum
+unwrapOr KeepClear other = KeepClear
+
+-- the game at its whole size, in the middle
+unfoldable pub untouchedOf : Preset → Bool
+untouchedOf p = eq (p .scale) k1 && (eq (p .offset .x) k0·5 && eq (p .offset .y) k0·5)
+
+-- A profile from before fits were kept is unset; where its game was sized or moved, that stays so.
+unfoldable pub pictureFitOf : Preset → Fit
+pictureFitOf p = unwrapOr (p .fit) (cond (untouchedOf p) Maximum KeepClear)
+
+-- ---- document 01's limits of the numbers in tags 1, 2, 5 and 6
+abbrev pub least : Float
+least = neg k8192
+
+-- from low to 8,192; no NaN
+unfoldable pub inLimitsOf : Float → Float → Bool
+inLimitsOf low x = le low x && le x k8192
+
+unfoldable pub screenInLimitsOf : Float → Float → Bool
+screenInLimitsOf w h = inLimitsOf k0 w && inLimitsOf k0 h
+
+-- a rectangle whose w and h are at least low
+unfoldable pub rectInLimitsOf : Float → Rect → Bool
+rectInLimitsOf low r =
+    inLimitsOf least (r .x) && (inLimitsOf least (r .y) && (inLimitsOf low (r .w) && inLimitsOf low (r .h)))
+
+unfoldable pub placeInLimitsOf : Float → Offset → Bool
+placeInLimitsOf scale offset =
+    inLimitsOf least scale && (inLimitsOf least (offset .x) && inLimitsOf least (offset .y))
+
+unfoldable pub cutoutsInLimitsOf : Cutouts → Bool
+cutoutsInLimitsOf c = allOf (rectInLimitsOf least) (cutoutList c)
+
+-- the settings that an order may give
+unfoldable pub acceptedOf : Settings → Bool
+acceptedOf s =
+    screenInLimitsOf (s .w) (s .h)
+    && (rectInLimitsOf k0 (s .picture)
+    && (placeInLimitsOf (s .preset .scale) (s .preset .offset)
+    && ((leb (s .cutouts .count) 16 && cutoutsInLimitsOf (s .cutouts)) && leb (s .preset .count) 32)))
+
+-- ---- every number is a value of binary32, as the f32 of a program are
+unfoldable pub rectIsF32 : Rect → Bool
+rectIsF32 r = fits binary32 (r .x) && (fits binary32 (r .y) && (fits binary32 (r .w) && fits binary32 (r .h)))
+
+pub record IsF32 (s : Settings) : Type 0 where
+  pub w : fits binary32 (s .w) ≡ true
+  pub h : fits binary32 (s .h) ≡ true
+  pub picture : rectIsF32 (s .picture) ≡ true
+  pub scale : fits binary32 (s .preset .scale) ≡ true
+  pub across : fits binary32 (s .preset .offset .x) ≡ true
+  pub down : fits binary32 (s .preset .offset .y) ≡ true
+  pub cutouts : allOf rectIsF32 (cutoutList (s .cutouts)) ≡ true
+  pub saved : allOf rectIsF32 (savedList (s .preset)) ≡ true

@@ -1,0 +1,121 @@
+// What an order sets: the screen, the picture's area, the preset of input.rs, the cutouts.
+ghost use mathlib.Core.Path.{_≡_};
+ghost use Prim.Native.Nat.{_≤_};
+ghost use Rattle.settings.specs.Settings.{defaultOf, untouchedOf, pictureFitOf, inLimitsOf, screenInLimitsOf, rectInLimitsOf, placeInLimitsOf, cutoutsInLimitsOf};
+use geometry::Rect;
+use layout::Cutouts;
+use search::Offset;
+
+// `Option<PictureFit>`
+pub enum Fit {
+    Unset,
+    Maximum,
+    KeepClear,
+}
+
+// The saved rectangles are the first `count` of `elements`.
+pub struct Preset {
+    pub psp: bool,
+    pub analog: bool,
+    pub overlap: bool,
+    pub fit: Fit,
+    pub scale: f32,
+    pub offset: Offset,
+    pub elements: [Rect; 32],
+    pub count: usize,
+}
+
+pub struct Settings {
+    pub w: f32,
+    pub h: f32,
+    pub picture: Rect,
+    pub preset: Preset,
+    pub cutouts: Cutouts,
+}
+
+impl Preset {
+    pub fn default() -> Self
+        ensures { λ r. ⌜ r ≡ defaultOf ⌝ }
+    {
+        Self {
+            psp: false,
+            analog: false,
+            overlap: false,
+            fit: Fit::Maximum,
+            scale: 1.0,
+            offset: Offset { x: 0.5, y: 0.5 },
+            elements: [Rect {
+                x: 0.0,
+                y: 0.0,
+                w: 0.0,
+                h: 0.0,
+            }; 32],
+            count: 0,
+        }
+    }
+
+    // The game at its whole size, in the middle.
+    fn untouched(self) -> bool
+        ensures { λ r. ⌜ r ≡ untouchedOf self ⌝ }
+    {
+        self.scale == 1.0 && (self.offset.x == 0.5 && self.offset.y == 0.5)
+    }
+
+    // Never unset.
+    pub fn picture_fit(self) -> Fit
+        ensures { λ r. ⌜ r ≡ pictureFitOf self ⌝ }
+    {
+        let fit = self.fit;
+        match fit {
+            Fit::Unset => {
+                if self.untouched() {
+                    Fit::Maximum
+                } else {
+                    Fit::KeepClear
+                }
+            }
+            Fit::Maximum => Fit::Maximum,
+            Fit::KeepClear => Fit::KeepClear,
+        }
+    }
+}
+
+// A number's limits; no NaN is in them.
+fn in_limits(low: f32, x: f32) -> bool
+    ensures { λ r. ⌜ r ≡ inLimitsOf low x ⌝ }
+{
+    low <= x && x <= 8192.0
+}
+
+pub fn screen_in_limits(w: f32, h: f32) -> bool
+    ensures { λ r. ⌜ r ≡ screenInLimitsOf w h ⌝ }
+{
+    in_limits(0.0, w) && in_limits(0.0, h)
+}
+
+pub fn rect_in_limits(low: f32, r: Rect) -> bool
+    ensures { λ b. ⌜ b ≡ rectInLimitsOf low r ⌝ }
+{
+    in_limits(-8192.0, r.x)
+        && (in_limits(-8192.0, r.y) && (in_limits(low, r.w) && in_limits(low, r.h)))
+}
+
+pub fn place_in_limits(scale: f32, offset: Offset) -> bool
+    ensures { λ r. ⌜ r ≡ placeInLimitsOf scale offset ⌝ }
+{
+    in_limits(-8192.0, scale) && (in_limits(-8192.0, offset.x) && in_limits(-8192.0, offset.y))
+}
+
+pub fn cutouts_in_limits(c: Cutouts) -> bool
+    requires { ⌜ c .count ≤ 16 ⌝ }
+    ensures { λ r. ⌜ r ≡ cutoutsInLimitsOf c ⌝ }
+{
+    let n = c.count;
+    let at = c.at;
+    for i in 0..n {
+        if !rect_in_limits(-8192.0, at[i]) {
+            return false;
+        }
+    }
+    true
+}

@@ -1,0 +1,88 @@
+use mathlib.Core.Path.{refl, ap, _∙_, _≡_}
+use lib.ListN.{length, take}
+use Rattle.layout.specs.Lists.{flatMap}
+use Rattle.layout.proofs.Loops.{sized}
+use Rattle.writer.specs.Bytes.{maskBytes, stored}
+use Rattle.writer.specs.Length.{length-mask}
+use Rattle.writer.proofs.Stores.{no-items, next-item, length-stored}
+use Rattle.layout.specs.Layout.{anyControl}
+use borrow.Author.Needs.{needs}
+use native.Mathlib.Omega.{arith}
+use Prim.Native.Nat.{_-_, _≤_}
+use Rattle.writer.proofs.put_masks.Statement.{statement}
+use Rattle.writer.proofs.put_masks.Tie as tie
+
+abbrev Inv-loop : tie.InvT-loop
+Inv-loop out₀ at n controls i₀ out i = (i ≤ n) × (length out ≡ length out₀) × (out ≡ stored out₀ at (flatMap maskBytes (take i controls)))
+
+abbrev μ-loop : tie.MeasureT-loop
+μ-loop out₀ at n controls i₀ out i = n - i
+
+loop-holds : tie.Need-loop-holds Inv-loop μ-loop
+loop-holds c = (omega arith, refl, no-items maskBytes _ _)
+
+mul-c : tie.Need-mul-c Inv-loop μ-loop
+mul-c c = omega arith
+
+array-copy-out-c : tie.Need-array-copy-out-c Inv-loop μ-loop
+array-copy-out-c c = omega arith
+
+mul-put-short : tie.Need-mul-put-short Inv-loop μ-loop
+mul-put-short c = omega arith
+
+add-put-short : tie.Need-add-put-short Inv-loop μ-loop
+add-put-short c = omega arith
+
+mask-requires : tie.Need-mask-requires Inv-loop μ-loop
+mask-requires c κs = search needs
+
+cast-put-short : tie.Need-cast-put-short Inv-loop μ-loop
+cast-put-short c = search needs
+
+put-short-requires : tie.Need-put-short-requires Inv-loop μ-loop
+put-short-requires c κs = search needs
+
+add-i : tie.Need-add-i Inv-loop μ-loop
+add-i c = omega arith
+
+loop-less : tie.Need-loop-less Inv-loop μ-loop
+loop-less c = omega arith
+
+loop-again : tie.Need-loop-again Inv-loop μ-loop
+unfolding maskBytes
+loop-again c =
+    let s = c .before .before .before .before .before .before .before .before .before in
+    let l = c .before .before .before .before .before .before .before .loop in
+    let put = c .before .before .put-short in
+    let m : length (s .args .t3) ≡ 12 = search sized in
+    let e : length (put .last .0) ≡ length (l .out) = ap length (put .ensures) ∙ simp length-stored in
+    (omega arith, e ∙ l .inv .1, next-item maskBytes 2 length-mask _ _ (s .args .t3) (l .i) anyControl (omega arith) (l .inv .2) (rw (← c .before .before .before .mask .ensures) (put .ensures)))
+
+same-length : tie.Need-same-length Inv-loop μ-loop
+same-length c = search needs
+
+returns : tie.Need-returns Inv-loop μ-loop
+returns c =
+    let l = c .before .loop in
+    let e : c .before .before .before .args .n ≡ l .i = omega arith in
+    rw e (l .inv .2)
+
+pub put-masks-spec : {M : Type 1} → statement M
+put-masks-spec =
+    tie.close
+    (tie.spec
+    Inv-loop
+    μ-loop
+    loop-holds
+    mul-c
+    array-copy-out-c
+    mul-put-short
+    add-put-short
+    mask-requires
+    cast-put-short
+    put-short-requires
+    add-i
+    loop-less
+    loop-again
+    same-length
+    returns)

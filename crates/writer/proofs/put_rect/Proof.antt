@@ -1,0 +1,48 @@
+use denote.Ref.{now}
+use Rattle.writer.proofs.Stores.{rect-run}
+use borrow.Author.Needs.{needs}
+use Rattle.writer.proofs.put_rect.Statement.{statement}
+use Rattle.writer.proofs.put_rect.Tie as tie
+
+put-number-requires : tie.Need-put-number-requires
+put-number-requires c κs = search needs
+
+add-put-number : tie.Need-add-put-number
+add-put-number c = search needs
+
+put-number-requires-2 : tie.Need-put-number-requires-2
+put-number-requires-2 c κs = search needs
+
+add-put-number-2 : tie.Need-add-put-number-2
+add-put-number-2 c = search needs
+
+put-number-requires-3 : tie.Need-put-number-requires-3
+put-number-requires-3 c κs = search needs
+
+add-put-number-3 : tie.Need-add-put-number-3
+add-put-number-3 c = search needs
+
+put-number-requires-4 : tie.Need-put-number-requires-4
+put-number-requires-4 c κs = search needs
+
+same-length : tie.Need-same-length
+same-length c = search needs
+
+returns : tie.Need-returns
+returns c =
+    let a = c .before .before .before .before .before .before .before .before .before .before .before .before .before .before .before .before .before .args in
+    rect-run (now (a .out)) (a .at) (a .r) (c .before .before .before .before .before .before .before .before .before .before .before .before .before .before .put-number .ensures) (c .before .before .before .before .before .before .before .before .before .before .put-number2 .ensures) (c .before .before .before .before .before .before .put-number3 .ensures) (c .before .before .put-number4 .ensures)
+
+pub put-rect-spec : {M : Type 1} → statement M
+put-rect-spec =
+    tie.close
+    (tie.spec
+    put-number-requires
+    add-put-number
+    put-number-requires-2
+    add-put-number-2
+    put-number-requires-3
+    add-put-number-3
+    put-number-requires-4
+    same-length
+    returns)
