@@ -22,16 +22,16 @@ screen = 1 ∷ 0 ∷ 8 ∷ 0x46 ∷ 0 ∷ 0 ∷ 0 ∷ 0x46 ∷ 0 ∷ 0 ∷ 0 ∷
 
 abbrev cases : List (List ℕ × ℕ)
 cases =
-    ([], 4) -- no screen
+    ([], 4)  -- no screen
     ∷ (screen, 0)
-    ∷ (1 ∷ 0 ∷ 8 ∷ 0x46 ∷ 0 ∷ 0 ∷ 1 ∷ 0x46 ∷ 0 ∷ 0 ∷ 0 ∷ [], 6) -- the next f32
-    ∷ (screen ++ (6 ∷ 1 ∷ 0 ∷ replicate 256 0), 0) -- sixteen cutouts
-    ∷ (screen ++ (6 ∷ 1 ∷ 16 ∷ replicate 272 0), 7) -- seventeen
+    ∷ (1 ∷ 0 ∷ 8 ∷ 0x46 ∷ 0 ∷ 0 ∷ 1 ∷ 0x46 ∷ 0 ∷ 0 ∷ 0 ∷ [], 6)  -- the next f32
+    ∷ (screen ++ (6 ∷ 1 ∷ 0 ∷ replicate 256 0), 0)  -- sixteen cutouts
+    ∷ (screen ++ (6 ∷ 1 ∷ 16 ∷ replicate 272 0), 7)  -- seventeen
     ∷ (3 ∷ 0 ∷ 1 ∷ 7 ∷ [], 4)
-    ∷ (9 ∷ 0 ∷ [], 1) -- a header cut off, before its tag is looked at
-    ∷ (9 ∷ 0 ∷ 8 ∷ [], 2) -- a tag out of turn, before its value
+    ∷ (9 ∷ 0 ∷ [], 1)  -- a header cut off, before its tag is looked at
+    ∷ (9 ∷ 0 ∷ 8 ∷ [], 2)  -- a tag out of turn, before its value
     ∷ (screen ++ screen, 2)
-    ∷ (1 ∷ 0 ∷ 9 ∷ 0 ∷ [], 1) -- a value cut off, before its length
+    ∷ (1 ∷ 0 ∷ 9 ∷ 0 ∷ [], 1)  -- a value cut off, before its length
     ∷ (1 ∷ 0 ∷ 1 ∷ 0 ∷ [], 3)
     ∷ (screen ++ (3 ∷ 0 ∷ 1 ∷ 8 ∷ []), 5)
     ∷ (screen ++ (4 ∷ 0 ∷ 1 ∷ 3 ∷ []), 5)
