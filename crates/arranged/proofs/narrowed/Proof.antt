@@ -1,0 +1,65 @@
+-- `narrowed` is the fold of `narrowOf`.
+use borrow.Author.Needs.{needs}
+use mathlib.Core.Path.{refl, _≡_}
+use mathlib.Core.List.{foldl}
+use lib.ListN.{length, take}
+use Rattle.layout.specs.Layout.{anyRect}
+use Rattle.layout.proofs.Loops.{sized, fold-next}
+use Rattle.arranged.specs.Arranged.{narrowOf}
+use native.Mathlib.Omega.{arith}
+use Prim.Native.Nat.{_-_, _<_, _≤_}
+use Rattle.arranged.proofs.narrowed.Statement.{statement}
+use Rattle.arranged.proofs.narrowed.Tie as tie
+
+abbrev Inv-loop : tie.InvT-loop
+Inv-loop w h requested at count cluster₀ i₀ cluster i = (i ≤ count) × (cluster ≡ foldl (narrowOf w h requested) requested (take i at))
+
+abbrev μ-loop : tie.MeasureT-loop
+μ-loop w h requested at count cluster₀ i₀ cluster i = count - i
+
+loop-holds : tie.Need-loop-holds Inv-loop μ-loop
+loop-holds c = (omega arith, refl)
+
+mul-c : tie.Need-mul-c Inv-loop μ-loop
+mul-c c = omega arith
+
+array-copy-out-c : tie.Need-array-copy-out-c Inv-loop μ-loop
+array-copy-out-c c = omega arith
+
+narrow-requires : tie.Need-narrow-requires Inv-loop μ-loop
+narrow-requires c κs = search needs
+
+add-i : tie.Need-add-i Inv-loop μ-loop
+add-i c = omega arith
+
+loop-less : tie.Need-loop-less Inv-loop μ-loop
+loop-less c = omega arith
+
+loop-again : tie.Need-loop-again Inv-loop μ-loop
+loop-again c =
+    let l = c .before .before .before in
+    let a = l .before .before .args in
+    let k : length (a .cutouts .at) ≡ 16 = search sized in
+    let h : l .loop .i < length (a .cutouts .at) = omega arith in
+    (omega arith, fold-next _ _ _ _ anyRect h (l .loop .inv .1) refl (c .narrow .ensures))
+
+returns : tie.Need-returns Inv-loop μ-loop
+returns c =
+    let l = c .before in
+    let e : l .before .before .args .cutouts .count ≡ l .loop .i = omega arith in
+    rw e (l .loop .inv .1)
+
+pub narrowed-spec : {M : Type 1} → statement M
+narrowed-spec =
+    tie.close
+    (tie.spec
+    Inv-loop
+    μ-loop
+    loop-holds
+    mul-c
+    array-copy-out-c
+    narrow-requires
+    add-i
+    loop-less
+    loop-again
+    returns)

@@ -1,0 +1,12 @@
+-- `rail_places` is `railPlacesOf`.
+use borrow.Author.Needs.{needs}
+use Rattle.arranged.specs.Arranged.{railPlacesOf}
+use Rattle.arranged.proofs.rail_places.Statement.{statement}
+use Rattle.arranged.proofs.rail_places.Tie as tie
+
+returns : tie.Need-returns
+unfolding railPlacesOf
+returns c = rw (← c .before .before .before .before .before .before .before .before .before .before .place-faces .ensures)
+
+pub rail-places-spec : {M : Type 1} → statement M
+rail-places-spec = tie.close (tie.spec (λ c κs. search needs) returns)

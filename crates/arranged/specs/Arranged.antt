@@ -1,0 +1,167 @@
+-- `Layout::arranged` and `Layout::side_rails` of input.rs. Definitions only.
+use mathlib.Core.Bool.{Bool, true, false, cond, _||_}
+use mathlib.Core.List.{List, _∷_, [], foldl}
+use lib.Ieee.{Float, lt}
+use lib.ListN.{replicate}
+use Rattle.float.specs.Float.{_⊕_, _⊖_, _⊗_, _⊘_, k0, k0·4, k0·5, k1, k2, k3, k4, k8, k16, k20, k24, k32, k48, k56, k64, k76, k80, k84, k96, k100, k112, k122, k128, k140, k160, k168, k196, k200, k224, √2}
+use Rattle.float.specs.MinMax.{minOf, maxOf, clampOf}
+use Rattle.geometry.specs.declared.Rect.{Rect}
+use Rattle.geometry.specs.Rect.{newOf, emptyRect, overlapsOf}
+use Rattle.layout.specs.declared.Control.{Control}
+use Rattle.layout.specs.declared.Label.{Label}
+use Rattle.layout.specs.declared.Label.the-variants.{Tri, O, X, Sq, L1, L2, R2, R1, Select, Start}
+use Rattle.layout.specs.declared.Layout.{Layout}
+use Rattle.layout.specs.Layout.{withDpad}
+use Rattle.search.specs.declared.Offset.{Offset}
+use Rattle.search.specs.Search.{placeGameOf}
+use Rattle.toolbar.specs.Toolbar.{anchorToolbarOf}
+use Rattle.arranged.specs.declared.Wells.{Wells}
+use Rattle.arranged.specs.declared.Dock.{Dock}
+use Rattle.arranged.specs.declared.Rails.{Rails}
+use Rattle.arranged.specs.declared.Places.{Places}
+use Rattle.arranged.specs.Places.{capOf, placeFacesOf, placedOf}
+
+-- `[0.5; 2]`
+abbrev pub middle : Offset
+middle = record { x = k0·5; y = k0·5 }
+
+-- with the toolbar at its place and the largest game that is clear of all elements: what arrangements end with
+unfoldable pub finishedOf : Layout → Float → Float → Layout
+finishedOf l w h = placeGameOf (anchorToolbarOf l w h k0 k0 []) w h false k1 middle
+
+-- ---- `arranged`: the controls in a dock of their own below the picture
+
+-- the thumb wells: their width, the size of a face cap, their height
+unfoldable pub sizeWellsOf : Float → Float → Bool → Wells
+sizeWellsOf w h compact =
+    let cluster = minOf (clampOf (w ⊘ k2 ⊖ k20) k128 k224) (maxOf (h ⊖ k140) k128) in
+    let size = clampOf (cluster ⊗ k0·4) k48 k84 in
+    -- Triangle and Cross keep a gap in the compact dock too.
+    let height = cond compact (maxOf (minOf cluster k200) (size ⊗ k2 ⊕ k16)) cluster in
+    record { cluster = cluster; size = size; height = height }
+
+-- Where the centre line of the wells, the shoulders and the system keys lie: between the wells where the dock is
+-- compact, else above and below them. `select` and `start` are the x of the system keys below the wells.
+unfoldable pub placeDockOf : Bool → Float → Float → Wells → Float → Float → Dock
+placeDockOf true w h wells select start =
+    let fy = h ⊖ k32 ⊖ wells .height ⊘ k2 in
+    let top = fy ⊖ wells .height ⊘ k2 in
+    let left = k16 ⊕ wells .cluster ⊕ k8 in
+    let right = w ⊖ k16 ⊖ wells .cluster ⊖ k8 ⊖ (wells .cluster ⊖ k8) ⊘ k2 in
+    record { fy = fy; l1 = left; l2 = left; r2 = right; r1 = right; y1 = top ⊕ k56; y2 = top ⊕ k0; select = left; start = right; row = h ⊖ k56 }
+placeDockOf false w h wells select start =
+    let fy = h ⊖ k76 ⊖ wells .height ⊘ k2 in
+    let top = fy ⊖ wells .height ⊘ k2 in
+    let shoulder = (wells .cluster ⊖ k8) ⊘ k2 in
+    record { fy = fy; l1 = k16; l2 = k24 ⊕ shoulder; r2 = w ⊖ k16 ⊖ wells .cluster; r1 = w ⊖ k16 ⊖ shoulder; y1 = top ⊖ k56; y2 = top ⊖ k56; select = select; start = start; row = h ⊖ k64 }
+
+abbrev pub control : Rect → Label → Control
+control bounds label = record { bounds = bounds; label = label }
+
+abbrev pub noControl : Control
+noControl = control emptyRect Tri
+
+unfoldable pub composedOf : Float → Wells → Dock → Layout
+composedOf w wells dock =
+    let size = wells .size in
+    let offset = (wells .cluster ⊖ size) ⊘ k2 in
+    let fx = w ⊖ k16 ⊖ wells .cluster ⊘ k2 in
+    let fy = dock .fy in
+    let vertical = (wells .height ⊖ size) ⊘ k2 in
+    let faces = placeFacesOf fx fy offset vertical size in
+    let shoulder = (wells .cluster ⊖ k8) ⊘ k2 in
+    record {
+      game = emptyRect;
+      dpad = newOf k16 (fy ⊖ wells .height ⊘ k2) (wells .cluster) (wells .height);
+      controls =
+          control (faces .tri) Tri
+          ∷ control (faces .o) O
+          ∷ control (faces .x) X
+          ∷ control (faces .sq) Sq
+          ∷ control (newOf (dock .l1) (dock .y1) shoulder k48) L1
+          ∷ control (newOf (dock .l2) (dock .y2) shoulder k48) L2
+          ∷ control (newOf (dock .r2) (dock .y2) shoulder k48) R2
+          ∷ control (newOf (dock .r1) (dock .y1) shoulder k48) R1
+          ∷ control (newOf (dock .select) (dock .row) k96 k48) Select
+          ∷ control (newOf (dock .start) (dock .row) k96 k48) Start
+          ∷ noControl ∷ noControl ∷ [];
+      count = 10;
+      pause = newOf (w ⊖ k56) k4 k48 k48;
+      playback = newOf (w ⊖ k224) k4 k48 k48;
+      speed = newOf (w ⊖ k168) k4 k48 k48;
+      mute = newOf (w ⊖ k112) k4 k48 k48;
+      sticks = replicate 2 emptyRect;
+      stickcount = 0;
+    }
+
+unfoldable pub arrangedOf : Float → Float → Bool → Layout
+arrangedOf w h compact =
+    let wells = sizeWellsOf w h compact in
+    let dock = placeDockOf compact w h wells (maxOf (w ⊘ k2 ⊖ k196) k16) (minOf (w ⊘ k2 ⊕ k100) (w ⊖ k112)) in
+    finishedOf (composedOf w wells dock) w h
+
+-- ---- `side_rails`: the wells in rails beside a picture of full height
+
+unfoldable pub measureRailsOf : Float → Float → Float → Rails
+measureRailsOf w h cluster =
+    let size = capOf cluster in
+    let y = h ⊖ k4 ⊖ cluster in
+    let shoulder = minOf ((cluster ⊖ k8) ⊘ k2) k64 in
+    record {
+      w = w;
+      cluster = cluster;
+      y = y;
+      size = size;
+      offset = (cluster ⊖ size) ⊘ k2;
+      fx = w ⊖ k16 ⊖ cluster ⊘ k2;
+      fy = y ⊕ cluster ⊘ k2;
+      shoulder = shoulder;
+      shoulderx = k16 ⊕ cluster ⊖ k2 ⊗ shoulder ⊖ k8;
+      shouldery = y ⊖ k112;
+      systemx = k16 ⊕ cluster ⊖ k80;
+      systemy = y ⊖ k56;
+    }
+
+unfoldable pub railPlacesOf : Rails → Places
+railPlacesOf r =
+    let faces = placeFacesOf (r .fx) (r .fy) (r .offset) (r .offset) (r .size) in
+    let start = newOf (r .w ⊖ r .systemx ⊖ k80) (r .systemy) k80 k48 in
+    record {
+      tri = faces .tri;
+      o = faces .o;
+      x = faces .x;
+      sq = faces .sq;
+      l1 = newOf (r .shoulderx) (r .shouldery) (r .shoulder) k48;
+      l2 = newOf (r .shoulderx ⊕ r .shoulder ⊕ k8) (r .shouldery) (r .shoulder) k48;
+      r2 = newOf (r .w ⊖ r .shoulderx ⊖ k2 ⊗ r .shoulder ⊖ k8) (r .shouldery) (r .shoulder) k48;
+      r1 = newOf (r .w ⊖ r .shoulderx ⊖ r .shoulder) (r .shouldery) (r .shoulder) k48;
+      select = newOf (r .systemx) (r .systemy) k80 k48;
+      start = start;
+      l3 = start;
+      r3 = start;
+    }
+
+unfoldable pub railedOf : Float → Float → Float → Layout
+railedOf w h cluster =
+    let rails = measureRailsOf w h cluster in
+    finishedOf (withDpad (placedOf (arrangedOf w h false) (railPlacesOf rails)) (newOf k16 (rails .y) cluster cluster)) w h
+
+unfoldable pub requestedOf : Float → Float → Float → Float
+requestedOf w h pictureHeight =
+    let clearance = maxOf ((w ⊖ pictureHeight ⊗ k4 ⊘ k3) ⊘ k2 ⊖ k16) k160 in
+    minOf (clampOf (h ⊖ k168) k122 k200) clearance
+
+-- what one cutout leaves of the wells' width: both sides give way alike
+unfoldable pub narrowOf : Float → Float → Float → Float → Rect → Float
+narrowOf w h requested cluster c =
+    let y = h ⊖ k4 ⊖ requested in
+    let left = newOf k16 y requested requested in
+    let right = newOf (w ⊖ k16 ⊖ requested) y requested requested in
+    cond (overlapsOf left c || overlapsOf right c) (minOf cluster (h ⊖ k4 ⊖ c .y ⊖ c .h ⊖ k8)) cluster
+
+-- `arranged` stands in where a camera leaves the rails no room.
+unfoldable pub sideRailsOf : Float → Float → Float → List Rect → Layout
+sideRailsOf w h pictureHeight cutouts =
+    let requested = requestedOf w h pictureHeight in
+    let cluster = foldl (narrowOf w h requested) requested cutouts in
+    cond (lt cluster k122) (arrangedOf w h false) (railedOf w h cluster)

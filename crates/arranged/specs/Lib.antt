@@ -1,0 +1,4 @@
+pub mod Places
+pub mod Arranged
+pub mod Blank
+pub mod ArrangedLabels

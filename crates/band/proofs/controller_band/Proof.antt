@@ -1,0 +1,64 @@
+-- `controller_band` is `controllerBandOf`.
+use native.Mathlib.Omega.{arith}
+use borrow.Author.Needs.{needs}
+use Rattle.band.specs.Band.{controllerBandOf}
+use Rattle.band.proofs.Counts.{Counted, anchor-counts, game-counts}
+use Rattle.band.proofs.controller_band.Statement.{statement}
+use Rattle.band.proofs.controller_band.Tie as tie
+
+returns : tie.Need-returns
+unfolding controllerBandOf
+returns c = (rw (c .before .if1 .taken) (c .no-layout .ensures .0), omega arith, omega arith)
+
+returns-2 : tie.Need-returns-2
+unfolding controllerBandOf
+returns-2 c =
+    let p = c .before .before .before in
+    (rw (p .before .if1 .left, ← p .find-room .ensures, c .before .if2 .taken) (c .no-layout2 .ensures .0), omega arith, omega arith)
+
+with-inputs-requires : tie.Need-with-inputs-requires
+with-inputs-requires c κs =
+    let b = c .before .before .before .banded in
+    let k : Counted (c .anchor-toolbar .result) = rw (c .anchor-toolbar .ensures) (anchor-counts (b .result) _ _ _ _ _ (b .ensures .1, b .ensures .2)) in
+    k
+
+returns-3 : tie.Need-returns-3
+unfolding controllerBandOf
+returns-3 c =
+    let i = c .before .before in
+    let p = i .before .before .before .before in
+    let t = p .before .before in
+    let k : Counted (c .place-game-in-aspect .result) = rw (c .place-game-in-aspect .ensures) (game-counts (i .with-inputs .result) _ _ _ _ _ (i .with-inputs .ensures .1, i .with-inputs .ensures .2)) in (
+      rw (
+        t .before .before .before .if1 .left,
+        ← t .before .before .find-room .ensures,
+        t .if2 .left,
+        ← p .before .measure-band .ensures,
+        ← p .banded .ensures .0,
+        ← i .before .before .max .ensures,
+        ← i .before .anchor-toolbar .ensures,
+        ← i .with-inputs .ensures .0,
+        ← c .before .aspect .ensures,
+        ← c .place-game-in-aspect .ensures,
+      ),
+      k .0,
+      k .1,
+    )
+
+pub controller-band-spec : {M : Type 1} → statement M
+controller-band-spec =
+    tie.close
+    (tie.spec
+    (λ c κs. search needs)
+    returns
+    (λ c κs. search needs)
+    (λ c κs. search needs)
+    returns-2
+    (λ c κs. search needs)
+    (λ c κs. search needs)
+    (λ c κs. search needs)
+    (λ c κs. search needs)
+    with-inputs-requires
+    (λ c κs. search needs)
+    (λ c κs. search needs)
+    returns-3)

@@ -1,0 +1,22 @@
+-- `with_inputs` is `pspInputsOf` for a psp.
+use mathlib.Core.Path.{_≡_}
+use lib.ListN.{length}
+use borrow.Author.Needs.{needs}
+use Rattle.layout.proofs.Loops.{sized}
+use Rattle.band.proofs.Counts.{psp-counts}
+use Rattle.band.proofs.with_inputs.Statement.{statement}
+use Rattle.band.proofs.with_inputs.Tie as tie
+
+returns : tie.Need-returns
+returns c =
+    let a = c .before .before in
+    let n : length (a .args .l .controls) ≡ 12 = search sized in
+    let k = psp-counts (a .args .l) n (a .pre) in
+    let e = c .psp-inputs .ensures in
+    (rw (c .before .if1 .taken) e, rw e (k .0), rw e (k .1))
+
+returns-2 : tie.Need-returns-2
+returns-2 c = (rw (c .if1 .left), c .before .pre .0, c .before .pre .1)
+
+pub with-inputs-spec : {M : Type 1} → statement M
+with-inputs-spec = tie.close (tie.spec (λ c κs. search needs) returns returns-2)

@@ -1,0 +1,151 @@
+-- `Layout::controller_band` of input.rs: mirrored controls in the room that a picture of full width leaves. Definitions only.
+use mathlib.Core.Bool.{Bool, true, false, cond, _&&_, _||_}
+use mathlib.Core.List.{List, _∷_, []}
+use mathlib.Core.Option.{Option, some, none}
+use Prim.Native.Nat.{_+_}
+use lib.Ieee.{Float, lt, le, neg}
+use lib.ListN.{set}
+use Rattle.float.specs.Float.{_⊕_, _⊖_, _⊗_, _⊘_, k0, k0·75, k1, k1·35, k2, k3, k4, k8, k16, k18, k24, k28, k48, k52, k56, k64, k72, k80, k100, k104, k112, k122, k128, k136, k160, k176, k184, k192, k204, k272, k288, k480, k600, k800}
+use Rattle.float.specs.MinMax.{minOf, maxOf, clampOf}
+use Rattle.geometry.specs.declared.Rect.{Rect}
+use Rattle.geometry.specs.Rect.{newOf, emptyRect}
+use Rattle.layout.specs.declared.Label.the-variants.{L3, R3}
+use Rattle.layout.specs.declared.Layout.{Layout}
+use Rattle.layout.specs.Layout.{withDpad}
+use Rattle.layout.specs.Psp.{pspInputsOf}
+use Rattle.search.specs.Search.{placeGameInAspectOf}
+use Rattle.toolbar.specs.Toolbar.{anchorToolbarOf}
+use Rattle.arranged.specs.declared.Faces.{Faces}
+use Rattle.arranged.specs.declared.Places.{Places}
+use Rattle.arranged.specs.Places.{capOf, placeFacesOf, placedOf}
+use Rattle.arranged.specs.Arranged.{arrangedOf, control, middle}
+use Rattle.band.specs.declared.Room.{Room}
+use Rattle.band.specs.declared.Band.{Band}
+
+-- the picture's shape: 480 to 272 for psp, else 4 to 3
+abbrev pub aspectOf : Bool → Float
+aspectOf psp = cond psp (k480 ⊘ k272) (k4 ⊘ k3)
+
+-- the room below the whole picture and the width of a digital well in it
+unfoldable pub findRoomOf : Float → Float → Bool → Bool → Rect → Room
+findRoomOf w h analog psp picture =
+    let pictureHeight = cond psp (w ⊗ k272 ⊘ k480) (w ⊗ k0·75) in
+    let headroom = h ⊖ (picture .y ⊕ k18 ⊕ pictureHeight) in
+    let available = headroom ⊖ k4 in
+    let deep = analog && le k192 headroom in
+    let outer = cond deep k8 k28 in
+    let widthLimit = cond analog ((w ⊖ k2 ⊗ outer ⊖ k16 ⊖ k204) ⊘ k4) ((w ⊖ k2 ⊗ outer ⊖ k288) ⊘ k2) in
+    record { available = available; deep = deep; outer = outer; face = cond deep k128 (minOf (minOf available widthLimit) k184) }
+
+unfoldable pub measureBandOf : Float → Float → Bool → Room → Band
+measureBandOf w h analog room =
+    let face = room .face in
+    let stick = cond (room .deep) k176 face in
+    let digitalGap = clampOf (room .available ⊖ face ⊖ k48) k8 k16 in
+    let mainY = cond (room .deep) (h ⊖ k4 ⊖ k48 ⊖ digitalGap ⊖ face) (h ⊖ k4 ⊖ face) in
+    let digitalX = cond analog (room .outer ⊕ stick ⊕ k8) (room .outer) in
+    let cap = capOf face in
+    record {
+      w = w;
+      h = h;
+      outer = room .outer;
+      face = face;
+      stick = stick;
+      x = digitalX;
+      y = mainY;
+      faces = placeFacesOf (w ⊖ digitalX ⊖ face ⊘ k2) (mainY ⊕ face ⊘ k2) ((face ⊖ cap) ⊘ k2) ((face ⊖ cap) ⊘ k2) cap;
+    }
+
+-- without sticks: shoulders beside the wells, square system keys
+unfoldable pub plainPlacesOf : Band → Places
+plainPlacesOf b =
+    let shoulderX = b .outer ⊕ b .face ⊕ k8 in
+    record {
+      tri = b .faces .tri;
+      o = b .faces .o;
+      x = b .faces .x;
+      sq = b .faces .sq;
+      l1 = newOf shoulderX (b .y) k64 k64;
+      l2 = newOf (shoulderX ⊕ k72) (b .y) k64 k64;
+      r1 = newOf (b .w ⊖ shoulderX ⊖ k64) (b .y) k64 k64;
+      r2 = newOf (b .w ⊖ shoulderX ⊖ k136) (b .y) k64 k64;
+      select = newOf (b .w ⊘ k2 ⊖ k104) (b .h ⊖ k4 ⊖ k80) k80 k80;
+      start = newOf (b .w ⊘ k2 ⊕ k24) (b .h ⊖ k4 ⊖ k80) k80 k80;
+      l3 = emptyRect;
+      r3 = emptyRect;
+    }
+
+-- deep: a row of keys below the wells
+unfoldable pub deepPlacesOf : Band → Places
+deepPlacesOf b =
+    let rowY = b .h ⊖ k4 ⊖ k48 in
+    record {
+      tri = b .faces .tri;
+      o = b .faces .o;
+      x = b .faces .x;
+      sq = b .faces .sq;
+      l1 = newOf (b .x) rowY k48 k48;
+      l2 = newOf (b .x ⊕ k56) rowY k48 k48;
+      l3 = newOf (b .x ⊕ k112) rowY k48 k48;
+      r1 = newOf (b .w ⊖ b .x ⊖ k48) rowY k48 k48;
+      r2 = newOf (b .w ⊖ b .x ⊖ k104) rowY k48 k48;
+      r3 = newOf (b .w ⊖ b .x ⊖ k160) rowY k48 k48;
+      select = newOf (b .w ⊘ k2 ⊖ k52) (rowY ⊖ k48) k48 k48;
+      start = newOf (b .w ⊘ k2 ⊕ k4) (rowY ⊖ k48) k48 k48;
+    }
+
+-- else: two rows of four keys in the middle
+unfoldable pub rowPlacesOf : Band → Places
+rowPlacesOf b =
+    let auxiliaryX = (b .w ⊖ k204) ⊘ k2 in
+    let auxiliaryY = b .h ⊖ k4 ⊖ k100 in
+    let upper = auxiliaryY ⊕ k0 ⊗ k52 in
+    let lower = auxiliaryY ⊕ k1 ⊗ k52 in
+    record {
+      tri = b .faces .tri;
+      o = b .faces .o;
+      x = b .faces .x;
+      sq = b .faces .sq;
+      l1 = newOf (auxiliaryX ⊕ k0 ⊗ k52) upper k48 k48;
+      l2 = newOf (auxiliaryX ⊕ k1 ⊗ k52) upper k48 k48;
+      r2 = newOf (auxiliaryX ⊕ k2 ⊗ k52) upper k48 k48;
+      r1 = newOf (auxiliaryX ⊕ k3 ⊗ k52) upper k48 k48;
+      l3 = newOf (auxiliaryX ⊕ k0 ⊗ k52) lower k48 k48;
+      select = newOf (auxiliaryX ⊕ k1 ⊗ k52) lower k48 k48;
+      start = newOf (auxiliaryX ⊕ k2 ⊗ k52) lower k48 k48;
+      r3 = newOf (auxiliaryX ⊕ k3 ⊗ k52) lower k48 k48;
+    }
+
+abbrev pub bandPlacesOf : Bool → Bool → Band → Places
+bandPlacesOf analog deep b = cond analog (cond deep (deepPlacesOf b) (rowPlacesOf b)) (plainPlacesOf b)
+
+-- L3, R3 and the two sticks added
+unfoldable pub withAnalogOf : Layout → Rect → Rect → Rect → Rect → Layout
+withAnalogOf l l3 r3 left right =
+    record {
+      game = l .game;
+      dpad = l .dpad;
+      controls = set (set (l .controls) (l .count) (control l3 L3)) (l .count + 1) (control r3 R3);
+      count = l .count + 2;
+      pause = l .pause;
+      playback = l .playback;
+      speed = l .speed;
+      mute = l .mute;
+      sticks = left ∷ right ∷ [];
+      stickcount = 2;
+    }
+
+unfoldable pub bandedOf : Float → Float → Bool → Bool → Band → Layout
+bandedOf w h analog deep b =
+    let places = bandPlacesOf analog deep b in
+    let layout = withDpad (placedOf (arrangedOf w h false) places) (newOf (b .x) (b .y) (b .face) (b .face)) in
+    let y = h ⊖ k4 ⊖ b .stick in
+    cond analog (withAnalogOf layout (places .l3) (places .r3) (newOf (b .outer) y (b .stick) (b .stick)) (newOf (w ⊖ b .outer ⊖ b .stick) y (b .stick) (b .stick))) layout
+
+unfoldable pub controllerBandOf : Float → Float → Bool → Bool → Rect → Option Layout
+controllerBandOf w h analog psp picture =
+    let room = findRoomOf w h analog psp picture in
+    let anchored = anchorToolbarOf (bandedOf w h analog (room .deep) (measureBandOf w h analog room)) w h (maxOf (neg (picture .y)) k0) k0 [] in
+    cond (lt w k800 || (lt h k600 || lt (h ⊗ k1·35) w)) none
+    (cond (lt (room .face) k122) none
+    (some (placeGameInAspectOf (cond psp (pspInputsOf anchored) anchored) picture false k1 middle (aspectOf psp))))
