@@ -1,0 +1,129 @@
+-- Groups by index: the indices are within the elements, ranges of indices, the faces, and a group that moves.
+use mathlib.Core.Path.{_≡_, refl, ap, sym, _∙_}
+use mathlib.Core.Bool.{Bool, true, false, cond}
+use mathlib.Core.List.{List, [], _∷_, _++_, map, foldl, foldl-append}
+use Prim.Native.Nat.{ℕ, zero, suc, _+_, _-_, _<_, _≤_}
+use native.Mathlib.Omega.{arith}
+use borrow.Author.Tests.{lt-ltb, ltb-true}
+use lib.Dec.{ltb}
+use lib.ListN.{length, take, drop, getD, set, length-append, take-append-drop}
+use lib.Seq.{getD-take, length-take-le, take-all, take-set-lt}
+use Rattle.geometry.specs.declared.Rect.{Rect}
+use Rattle.layout.specs.Elements.{countFrom, range}
+use Rattle.layout.specs.declared.Control.{Control}
+use Rattle.layout.specs.declared.Layout.{Layout}
+use Rattle.layout.specs.Actions.{actionElementsOf}
+use Rattle.layout.specs.Label.{isFaceOf}
+use Rattle.layout.specs.Layout.{anyRect, anyControl, controlsOf}
+use Rattle.layout.specs.Lists.{allOf, filterMap, enumerateFrom}
+use Rattle.layout.proofs.Filters.{one-more}
+use Rattle.layout.proofs.Loops.{filterMap-append}
+use Rattle.cutouts.specs.Cutouts.{belowAll}
+use Rattle.cutouts.specs.CutoutLaws.{both}
+
+-- ---- indices below n
+below-at : (n : ℕ) (g : List ℕ) (k : ℕ) → belowAll n g ≡ true → k < length g → getD g k 0 < n
+unfolding belowAll allOf
+below-at n [] k e h = absurd (let z : ⊥ = omega arith in z)
+below-at n (x ∷ g) zero e h = ltb-true x n (both (ltb x n) (allOf (λ i. ltb i n) g) e .0)
+below-at n (x ∷ g) (suc k) e h = below-at n g k (both (ltb x n) (allOf (λ i. ltb i n) g) e .1) (omega arith)
+
+-- an index of a group that is held in an array
+pub below-index : (n : ℕ) (at : List ℕ) (m k : ℕ) → belowAll n (take m at) ≡ true → m ≤ length at → k < m → getD at k 0 < n
+below-index n at m k e h j =
+    let l : length (take m at) ≡ m = length-take-le m at h in
+    let b : getD (take m at) k 0 < n = below-at n (take m at) k e (omega arith) in
+    omega (arith, getD-take m at k 0 j)
+
+pub below-one : (n i : ℕ) (g : List ℕ) → i < n → g ≡ i ∷ [] → belowAll n g ≡ true
+unfolding belowAll allOf
+below-one n i g h e = rw (e, lt-ltb i n h)
+
+-- rectangles at such indices are among the first n
+pub members-first : (n : ℕ) (el : List Rect) (g : List ℕ) → belowAll n g ≡ true → map (λ i. getD el i anyRect) g ≡ map (λ i. getD (take n el) i anyRect) g
+unfolding belowAll allOf
+members-first n el [] e = refl
+members-first n el (x ∷ g) e =
+    let b = both (ltb x n) (allOf (λ i. ltb i n) g) e in
+    rw (getD-take n el x anyRect (ltb-true x n (b .0)), members-first n el g (b .1))
+
+-- ---- ranges
+length-count : (a k : ℕ) → length (countFrom a k) ≡ k
+length-count a zero = refl
+length-count a (suc k) = ap suc (length-count (suc a) k)
+
+count-at : (a k i : ℕ) → i < k → getD (countFrom a k) i 0 ≡ a + i
+count-at a zero i h = absurd (let z : ⊥ = omega arith in z)
+count-at a (suc k) zero h = omega arith
+count-at a (suc k) (suc i) h = count-at (suc a) k i (omega arith) ∙ (let e : suc a + i ≡ a + suc i = omega arith in e)
+
+module _ (n : ℕ) where
+  pub length-range : length (range 0 n) ≡ n
+  length-range = length-count 0 (n - 0) ∙ (let e : n - 0 ≡ n = omega arith in e)
+
+  pub range-at : (i : ℕ) → i < n → getD (range 0 n) i 0 ≡ i
+  range-at i h = count-at 0 (n - 0) i (omega arith) ∙ (let e : 0 + i ≡ i = omega arith in e)
+
+  pub below-range : (i : ℕ) → i < n → i < length (range 0 n)
+  below-range i h = omega (arith, length-range)
+
+  pub range-whole : (i k : ℕ) → i ≡ n → k ≡ n → take i (range 0 n) ≡ range 0 k
+  range-whole i k e f = rw (e, f) (take-all n (range 0 n) (omega (arith, length-range)))
+
+-- ---- enumerated elements
+pub length-enumerate : {A : Type 0} (j : ℕ) (l : List A) → length (enumerateFrom j l) ≡ length l
+length-enumerate j [] = refl
+length-enumerate j (x ∷ l) = ap suc (length-enumerate (suc j) l)
+
+pub enumerate-at : {A : Type 0} (j : ℕ) (l : List A) (i : ℕ) (d : A) → i < length l → getD (enumerateFrom j l) i (0, d) ≡ (j + i, getD l i d)
+enumerate-at j [] i d h = absurd (let z : ⊥ = omega arith in z)
+enumerate-at j (x ∷ l) zero d h = let e : j ≡ j + 0 = omega arith in ap (λ (k : ℕ). (k, x)) e
+enumerate-at j (x ∷ l) (suc i) d h = let e : suc j + i ≡ j + suc i = omega arith in enumerate-at (suc j) l i d (omega arith) ∙ ap (λ (k : ℕ). (k, getD l i d)) e
+
+-- the face controls, with their elements' indices
+module _ (controls : List Control) (n : ℕ) (h : n ≤ length controls) where
+  pub length-faces : length (enumerateFrom 1 (take n controls)) ≡ n
+  length-faces = length-enumerate 1 (take n controls) ∙ length-take-le n controls h
+
+  pub face-at : (i : ℕ) → i < n → getD (enumerateFrom 1 (take n controls)) i (0, anyControl) ≡ (i + 1, getD controls i anyControl)
+  face-at i j =
+      let l : length (take n controls) ≡ n = length-take-le n controls h in
+      let e : 1 + i ≡ i + 1 = omega arith in
+      enumerate-at 1 (take n controls) i anyControl (omega arith) ∙ rw (e, getD-take n controls i anyControl j)
+
+enumerate-below : {A : Type 0} (p : ℕ × A → Bool) (n j : ℕ) (l : List A) → j + length l ≤ n → belowAll n (filterMap p (λ e. e .0) (enumerateFrom j l)) ≡ true
+unfolding belowAll allOf
+enumerate-below p n j [] h = refl
+enumerate-below p n j (x ∷ l) h = go (p (j, x)) (filterMap p (λ e. e .0) (enumerateFrom (suc j) l)) (enumerate-below p n (suc j) l (omega arith)) (lt-ltb j n (omega arith))
+  where
+    go : (b : Bool) (r : List ℕ) → belowAll n r ≡ true → ltb j n ≡ true → belowAll n (cond b (j ∷ r) r) ≡ true
+    go true r e t = rw t e
+    go false r e t = e
+
+pub faces-below : (l : Layout) (n : ℕ) → l .count + 1 ≤ n → l .count ≤ length (l .controls) → belowAll n (actionElementsOf l) ≡ true
+unfolding actionElementsOf
+faces-below l n h k =
+    let e : length (controlsOf l) ≡ l .count = length-take-le (l .count) (l .controls) k in
+    enumerate-below (λ e. isFaceOf (e .1 .label)) n 1 (controlsOf l) (omega arith)
+
+-- the first elements give no more than all of them
+pub fewer : {A B : Type 0} (p : A → Bool) (f : A → B) (l : List A) (i : ℕ) → length (filterMap p f (take i l)) ≤ length (filterMap p f l)
+fewer p f l i =
+    let e : length (filterMap p f (take i l)) + length (filterMap p f (drop i l)) ≡ length (filterMap p f l) =
+    sym (length-append (filterMap p f (take i l)) (filterMap p f (drop i l))) ∙ ap length (sym (filterMap-append p f (take i l) (drop i l)) ∙ ap (filterMap p f) (take-append-drop i l)) in
+    omega arith
+
+-- where at most m elements pass, there is room for the next that does
+pub room : {A B : Type 0} (p : A → Bool) (f : A → B) (l : List A) (i : ℕ) (d : A) (out : List B) (count m : ℕ) {flag : Bool} → i < length l → flag ≡ p (getD l i d) → flag ≡ true
+    → count ≤ length out → take count out ≡ filterMap p f (take i l) → length (filterMap p f l) ≤ m → count < m
+room p f l i d out count m h e t k q r =
+    let a : length (take count out) ≡ count = length-take-le count out k in
+    let b : length (filterMap p f (take (i + 1) l)) ≡ length (filterMap p f (take i l)) + 1 = ap length (one-more p f l i d h e t) ∙ length-append (filterMap p f (take i l)) (f (getD l i d) ∷ []) in
+    omega (arith, ap length q, fewer p f l (i + 1))
+
+-- ---- one more step of a fold, and one rectangle of the first n put anew
+pub fold-more : {A B : Type 0} (s : B → A → B) (z acc acc' : B) (xs xs' : List A) (g : A) → acc ≡ foldl s z xs → xs' ≡ xs ++ (g ∷ []) → acc' ≡ s acc g → acc' ≡ foldl s z xs'
+fold-more s z acc acc' xs xs' g p e q = rw (e, foldl-append, ← p) q
+
+pub put-first : (f : Rect → Rect) (old l : List Rect) (n i : ℕ) (v : Rect) → i < n → v ≡ f (getD old i anyRect) → take n (set l i v) ≡ set (take n l) i (f (getD (take n old) i anyRect))
+put-first f old l n i v h e = rw (e, take-set-lt n l i (f (getD old i anyRect)) h, getD-take n old i anyRect h)

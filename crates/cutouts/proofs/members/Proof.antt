@@ -1,0 +1,92 @@
+use Prim.Native.Nat.{_-_, _<_, _≤_}
+use mathlib.Core.List.{[], map}
+use Rattle.cutouts.proofs.Groups.{members-first, below-index}
+use Rattle.layout.proofs.Stores.{map-put}
+use mathlib.Core.Path.{refl, _∙_, _≡_}
+use lib.ListN.{length, take, getD, length-set}
+use Rattle.cutouts.specs.Cutouts.{groupList}
+use Rattle.layout.proofs.Loops.{sized}
+use Rattle.layout.specs.Layout.{anyRect}
+use native.Mathlib.Omega.{arith}
+use Rattle.cutouts.proofs.members.Statement.{statement}
+use Rattle.cutouts.proofs.members.Tie as tie
+
+abbrev Inv-loop : tie.InvT-loop
+Inv-loop el at n out₀ k₀ out k = ((k ≤ n) × ((length at ≡ 4) × (length out ≡ 4))) × (take k out ≡ map (λ i. getD el i anyRect) (take k at))
+
+abbrev μ-loop : tie.MeasureT-loop
+μ-loop el at n out₀ k₀ out k = n - k
+
+array-copy-out-out : tie.Need-array-copy-out-out Inv-loop μ-loop
+array-copy-out-out c = omega arith
+
+loop-holds : tie.Need-loop-holds Inv-loop μ-loop
+loop-holds c = ((omega arith, (search sized, refl)), refl)
+
+mul-i : tie.Need-mul-i Inv-loop μ-loop
+mul-i c = omega arith
+
+array-read-i : tie.Need-array-read-i Inv-loop μ-loop
+array-read-i c = omega arith
+
+mul-out : tie.Need-mul-out Inv-loop μ-loop
+mul-out c =
+    let s = c .before .before .before .before .before in
+    let l = c .before .loop in
+    let g = l .inv .0 in
+    let b : getD (s .args .group .at) (l .k) 0 < s .args .elements .count = below-index (s .args .elements .count) (s .args .group .at) (s .args .group .count) (l .k) (s .pre .1) (omega arith) (c .loop-test .taken) in
+    omega arith
+
+array-copy-out-out-2 : tie.Need-array-copy-out-out-2 Inv-loop μ-loop
+array-copy-out-out-2 c =
+    let s = c .before .before .before .before .before in
+    let l = c .before .loop in
+    let g = l .inv .0 in
+    let b : getD (s .args .group .at) (l .k) 0 < s .args .elements .count = below-index (s .args .elements .count) (s .args .group .at) (s .args .group .count) (l .k) (s .pre .1) (omega arith) (c .loop-test .taken) in
+    omega arith
+
+mul-out-2 : tie.Need-mul-out-2 Inv-loop μ-loop
+mul-out-2 c = omega arith
+
+array-set-from-out : tie.Need-array-set-from-out Inv-loop μ-loop
+array-set-from-out c = omega arith
+
+add-k : tie.Need-add-k Inv-loop μ-loop
+add-k c = omega arith
+
+loop-less : tie.Need-loop-less Inv-loop μ-loop
+loop-less c = omega arith
+
+loop-again : tie.Need-loop-again Inv-loop μ-loop
+loop-again c =
+    let s = c .before .before .before .before .before .before in
+    let l = c .before .before .loop in
+    let g = l .inv .0 in
+    ((omega arith, (l .inv .0 .1 .0, length-set (l .out) (l .k) (getD (s .args .elements .at) (getD (s .args .group .at) (l .k) 0) anyRect) ∙ l .inv .0 .1 .1)), map-put (λ i. getD (s .args .elements .at) i anyRect) (s .args .group .at) (l .k) 0 [] (l .out) (l .k) (omega arith) (omega arith) (l .inv .1))
+
+returns : tie.Need-returns Inv-loop μ-loop
+returns c =
+    let s = c .before .before .before .before .before in
+    let l = c .before .loop in
+    let e : s .args .group .count ≡ l .k = omega arith in
+    let q : take (s .args .group .count) (l .out) ≡ map (λ i. getD (s .args .elements .at) i anyRect) (groupList (s .args .group)) = rw e (l .inv .1) in
+    q ∙ members-first (s .args .elements .count) (s .args .elements .at) (groupList (s .args .group)) (s .pre .1)
+
+pub members-spec : {M : Type 1} → statement M
+members-spec =
+    tie.close
+    (tie.spec
+    Inv-loop
+    μ-loop
+    array-copy-out-out
+    loop-holds
+    mul-i
+    array-read-i
+    mul-out
+    array-copy-out-out-2
+    mul-out-2
+    array-set-from-out
+    add-k
+    loop-less
+    loop-again
+    returns)

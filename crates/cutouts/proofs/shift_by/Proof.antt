@@ -1,0 +1,108 @@
+use Rattle.geometry.specs.declared.Rect.{Rect}
+use Prim.Native.Nat.{ℕ, _-_, _<_, _≤_}
+use mathlib.Core.List.{List}
+use Rattle.cutouts.proofs.Groups.{below-index, put-first}
+use mathlib.Core.Path.{refl, _∙_, _≡_}
+use lib.ListN.{length, take, getD, set, length-set}
+use Rattle.moves.specs.declared.Move.the-variants.{Go}
+use Rattle.moves.specs.Moves.{movedOf}
+use Rattle.cutouts.specs.Cutouts.{shiftByOf}
+use Rattle.layout.proofs.Loops.{fold-next, sized}
+use Rattle.layout.specs.Layout.{anyRect}
+use borrow.Author.Needs.{needs}
+use native.Mathlib.Omega.{arith}
+use Rattle.cutouts.proofs.shift_by.Statement.{statement}
+use Rattle.cutouts.proofs.shift_by.Tie as tie
+
+abbrev Inv-loop : tie.InvT-loop
+Inv-loop elements dx dy old at n el₀ k₀ el k = ((k ≤ n) × ((length at ≡ 4) × (length el ≡ 19))) × (take (elements .count) el ≡ shiftByOf (take (elements .count) old) (take k at) dx dy)
+
+abbrev μ-loop : tie.MeasureT-loop
+μ-loop elements dx dy old at n el₀ k₀ el k = n - k
+
+loop-holds : tie.Need-loop-holds Inv-loop μ-loop
+loop-holds c = ((omega arith, (search sized, search sized)), refl)
+
+mul-i : tie.Need-mul-i Inv-loop μ-loop
+mul-i c = omega arith
+
+array-read-i : tie.Need-array-read-i Inv-loop μ-loop
+array-read-i c = omega arith
+
+mul-moved : tie.Need-mul-moved Inv-loop μ-loop
+mul-moved c =
+    let s = c .before .before .before .before in
+    let l = c .before .loop in
+    let g = l .inv .0 in
+    let b : getD (s .args .group .at) (l .k) 0 < s .args .elements .count = below-index (s .args .elements .count) (s .args .group .at) (s .args .group .count) (l .k) (s .pre .1) (omega arith) (c .loop-test .taken) in
+    omega arith
+
+array-copy-out-moved : tie.Need-array-copy-out-moved Inv-loop μ-loop
+array-copy-out-moved c =
+    let s = c .before .before .before .before in
+    let l = c .before .loop in
+    let g = l .inv .0 in
+    let b : getD (s .args .group .at) (l .k) 0 < s .args .elements .count = below-index (s .args .elements .count) (s .args .group .at) (s .args .group .count) (l .k) (s .pre .1) (omega arith) (c .loop-test .taken) in
+    omega arith
+
+moved-requires : tie.Need-moved-requires Inv-loop μ-loop
+moved-requires c κs = search needs
+
+mul-el : tie.Need-mul-el Inv-loop μ-loop
+mul-el c =
+    let s = c .before .before .before .before .before .before in
+    let l = c .before .before .before .loop in
+    let g = l .inv .0 in
+    let b : getD (s .args .group .at) (l .k) 0 < s .args .elements .count = below-index (s .args .elements .count) (s .args .group .at) (s .args .group .count) (l .k) (s .pre .1) (omega arith) (c .before .before .loop-test .taken) in
+    omega arith
+
+array-set-from-el : tie.Need-array-set-from-el Inv-loop μ-loop
+array-set-from-el c =
+    let s = c .before .before .before .before .before .before in
+    let l = c .before .before .before .loop in
+    let g = l .inv .0 in
+    let b : getD (s .args .group .at) (l .k) 0 < s .args .elements .count = below-index (s .args .elements .count) (s .args .group .at) (s .args .group .count) (l .k) (s .pre .1) (omega arith) (c .before .before .loop-test .taken) in
+    omega arith
+
+add-k : tie.Need-add-k Inv-loop μ-loop
+add-k c = omega arith
+
+loop-less : tie.Need-loop-less Inv-loop μ-loop
+loop-less c = omega arith
+
+loop-again : tie.Need-loop-again Inv-loop μ-loop
+loop-again c =
+    let s = c .before .before .before .before .before .before in
+    let l = c .before .before .before .loop in
+    let g = l .inv .0 in
+    let b : getD (s .args .group .at) (l .k) 0 < s .args .elements .count = below-index (s .args .elements .count) (s .args .group .at) (s .args .group .count) (l .k) (s .pre .1) (omega arith) (c .before .before .loop-test .taken) in (
+      (omega arith, (l .inv .0 .1 .0, length-set (l .el) (getD (s .args .group .at) (l .k) 0) (c .moved .result) ∙ l .inv .0 .1 .1)),
+      fold-next (λ (es : List Rect) (i : ℕ). set es i (movedOf (Go (s .args .dx) (s .args .dy)) (getD (take (s .args .elements .count) (s .args .elements .at)) i anyRect))) (take (s .args .elements .count) (s .args .elements .at)) (s .args .group .at) (l .k) 0 (omega arith) (l .inv .1) refl
+          (put-first (movedOf (Go (s .args .dx) (s .args .dy))) (s .args .elements .at) (l .el) (s .args .elements .count) (getD (s .args .group .at) (l .k) 0) (c .moved .result) b (c .moved .ensures)),
+    )
+
+returns : tie.Need-returns Inv-loop μ-loop
+returns c =
+    let s = c .before .before .before .before in
+    let l = c .before .loop in
+    let e : s .args .group .count ≡ l .k = omega arith in
+    (rw e (l .inv .1), refl)
+
+pub shift-by-spec : {M : Type 1} → statement M
+shift-by-spec =
+    tie.close
+    (tie.spec
+    Inv-loop
+    μ-loop
+    loop-holds
+    mul-i
+    array-read-i
+    mul-moved
+    array-copy-out-moved
+    moved-requires
+    mul-el
+    array-set-from-el
+    add-k
+    loop-less
+    loop-again
+    returns)

@@ -1,0 +1,93 @@
+use Prim.Native.Nat.{_-_, _≤_}
+use borrow.Author.Tests.{not-true, not-false}
+use mathlib.Core.Path.{refl, _∙_, _≡_}
+use lib.ListN.{length, take, getD, length-set}
+use Rattle.cutouts.specs.Cutouts.{hasAreaOf}
+use Rattle.layout.proofs.Loops.{filterMap-put, filterMap-skip, sized}
+use Rattle.layout.specs.Layout.{anyRect}
+use Rattle.layout.specs.Lists.{retain}
+use borrow.Author.Needs.{needs}
+use native.Mathlib.Omega.{arith}
+use Rattle.cutouts.proofs.with_area.Statement.{statement}
+use Rattle.cutouts.proofs.with_area.Tie as tie
+
+abbrev Inv-loop : tie.InvT-loop
+Inv-loop at n out₀ count₀ i₀ out count i = ((i ≤ n) × (count ≤ i)) × (((length at ≡ 16) × (length out ≡ 16)) × (take count out ≡ retain hasAreaOf (take i at)))
+
+abbrev μ-loop : tie.MeasureT-loop
+μ-loop at n out₀ count₀ i₀ out count i = n - i
+
+loop-holds : tie.Need-loop-holds Inv-loop μ-loop
+loop-holds c = ((omega arith, omega arith), ((search sized, search sized), refl))
+
+mul-c : tie.Need-mul-c Inv-loop μ-loop
+mul-c c = omega arith
+
+array-copy-out-c : tie.Need-array-copy-out-c Inv-loop μ-loop
+array-copy-out-c c = omega arith
+
+has-area-requires : tie.Need-has-area-requires Inv-loop μ-loop
+has-area-requires c κs = search needs
+
+add-i : tie.Need-add-i Inv-loop μ-loop
+add-i c = omega arith
+
+loop-less : tie.Need-loop-less Inv-loop μ-loop
+loop-less c = omega arith
+
+loop-again : tie.Need-loop-again Inv-loop μ-loop
+loop-again c =
+    let s = c .before .before .before .before .before .before in
+    let l = c .before .before .before .before .loop in
+    let a = l .inv .1 .0 .0 in
+    ((omega arith, omega arith), (l .inv .1 .0, filterMap-skip hasAreaOf (λ x. x) (s .args .cutouts .at) (l .i) anyRect (l .out) (l .count) (omega arith) (l .inv .1 .1) (c .before .has-area .ensures) (not-true _ (c .if1 .taken))))
+
+mul-out : tie.Need-mul-out Inv-loop μ-loop
+mul-out c = omega arith
+
+array-set-from-out : tie.Need-array-set-from-out Inv-loop μ-loop
+array-set-from-out c = omega arith
+
+add-count : tie.Need-add-count Inv-loop μ-loop
+add-count c = omega arith
+
+add-i-2 : tie.Need-add-i-2 Inv-loop μ-loop
+add-i-2 c = omega arith
+
+loop-less-2 : tie.Need-loop-less-2 Inv-loop μ-loop
+loop-less-2 c = omega arith
+
+loop-again-2 : tie.Need-loop-again-2 Inv-loop μ-loop
+loop-again-2 c =
+    let s = c .before .before .before .before .before .before in
+    let l = c .before .before .before .before .loop in
+    let a = l .inv .1 .0 in
+    ((omega arith, omega arith), ((l .inv .1 .0 .0, length-set (l .out) (l .count) (getD (s .args .cutouts .at) (l .i) anyRect) ∙ l .inv .1 .0 .1), filterMap-put hasAreaOf (λ x. x) (s .args .cutouts .at) (l .i) anyRect (l .out) (l .count) (omega arith) (omega arith) (l .inv .1 .1) (c .before .has-area .ensures) (not-false _ (c .if1 .left)) refl))
+
+returns : tie.Need-returns Inv-loop μ-loop
+returns c =
+    let s = c .before .before .before in
+    let l = c .before .loop in
+    let e : s .args .cutouts .count ≡ l .i = omega arith in
+    (rw e (l .inv .1 .1), omega arith)
+
+pub with-area-spec : {M : Type 1} → statement M
+with-area-spec =
+    tie.close
+    (tie.spec
+    Inv-loop
+    μ-loop
+    loop-holds
+    mul-c
+    array-copy-out-c
+    has-area-requires
+    add-i
+    loop-less
+    loop-again
+    mul-out
+    array-set-from-out
+    add-count
+    add-i-2
+    loop-less-2
+    loop-again-2
+    returns)

@@ -1,0 +1,3 @@
+pub mod Cutouts
+pub mod Settled
+pub mod CutoutLaws

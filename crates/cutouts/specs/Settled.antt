@@ -1,0 +1,24 @@
+-- Where an element can be after the cutout pass. Definitions only.
+use mathlib.Core.Path.{_≡_}
+use mathlib.Core.Bool.{true}
+use mathlib.Core.List.{List, [], _∷_}
+use mathlib.Core.Logic.{_⊎_}
+use lib.Ieee.{Float}
+use Rattle.geometry.specs.declared.Rect.{Rect}
+use Rattle.moves.specs.Moves.{insideOf}
+
+-- on a screen of w by h as f32 reckons, and as large as it was
+pub record Moved (w h : Float) (old new : Rect) : Type 0 where
+  pub inside : insideOf new w h ≡ true
+  pub width : new .w ≡ old .w
+  pub height : new .h ≡ old .h
+
+abbrev pub Settled : Float → Float → Rect → Rect → Type 0
+Settled w h old new = (new ≡ old) ⊎ Moved w h old new
+
+-- two lists of one length, element by element
+abbrev pub Each : (Rect → Rect → Type 0) → List Rect → List Rect → Type 0
+Each R [] [] = Unit
+Each R [] (y ∷ ys) = ⊥
+Each R (x ∷ xs) [] = ⊥
+Each R (x ∷ xs) (y ∷ ys) = R x y × Each R xs ys

@@ -1,0 +1,152 @@
+-- A move inserted into arrays: its place, each array opened there, the moves that the arrays then hold.
+use mathlib.Core.Path.{_≡_, refl, ap, sym, _∙_}
+use mathlib.Core.Bool.{Bool, true, false, cond}
+use mathlib.Core.List.{List, [], _∷_, map, foldl, foldl-append, zipWith}
+use Prim.Native.Nat.{ℕ, zero, suc, _+_, _<_, _≤_}
+use native.Mathlib.Numerals.{add-one}
+use native.Mathlib.Omega.{arith}
+use lib.Ieee.{Float}
+use lib.ListN.{length, take, drop, getD, set, length-take, drop-of-length-le}
+use lib.Seq.{drop-cons, drop-at, getD-take, length-take-le, set-split, take-set-le, take-set-lt, take-take}
+use Rattle.geometry.specs.declared.Rect.{Rect}
+use Rattle.geometry.specs.Rect.{overlapsOf}
+use Rattle.layout.specs.Lists.{flatMap}
+use Rattle.moves.specs.declared.Move.{Move}
+use Rattle.moves.specs.declared.Move.the-variants.{Go}
+use Rattle.moves.specs.Moves.{Holds, awayOf, pairOf, lengthOf, shorterOf, placeOf, insertAtOf, insertOf, movesIn}
+
+-- ---- the place, as a search: p is the place from the start, l what is left of the list, i how many were passed
+module _ (k : Float) (l : List Float) (i p : ℕ) (g : i + placeOf l k ≡ p) where
+  pub place-hit : (t : List Float) (x : Float) (b : Bool) → l ≡ x ∷ t → b ≡ shorterOf k x → b ≡ true → i ≡ p
+  unfolding placeOf
+  place-hit t x b e q h =
+      let z : placeOf l k ≡ 0 = rw (e, ← q, h) in
+      omega arith
+
+  pub place-miss : (t : List Float) (x : Float) (b : Bool) → l ≡ x ∷ t → b ≡ shorterOf k x → b ≡ false → i + 1 + placeOf t k ≡ p
+  unfolding placeOf
+  place-miss t x b e q h =
+      let z : placeOf l k ≡ suc (placeOf t k) = rw (e, ← q, h) in
+      omega arith
+
+  pub place-end : l ≡ [] → i ≡ p
+  unfolding placeOf
+  place-end e =
+      let z : placeOf l k ≡ 0 = rw e in
+      omega arith
+
+-- ---- an array opened from its end: the first j are as before, those from j on stand one place further
+module _ {A : Type 0} (old : List A) (n : ℕ) where
+  pub record Opened (new : List A) (j : ℕ) : Type 0 where
+    pub before : take j new ≡ take j old
+    pub after : drop (j + 1) (take (n + 1) new) ≡ drop j (take n old)
+
+  all-taken : (k : ℕ) (l : List A) → drop k (take k l) ≡ []
+  all-taken k l = drop-of-length-le (take k l) {i = k} (rw length-take (omega arith))
+
+  pub open-start : Opened old n
+  open-start = record { before = refl; after = all-taken (n + 1) old ∙ sym (all-taken n old) }
+
+  drop-set : (l : List A) (i : ℕ) (v : A) → i < length l → drop i (set l i v) ≡ v ∷ drop (i + 1) l
+  drop-set l i v h =
+      let e : length (take i l) ≡ i = length-take-le i l (omega arith) in
+      rw (set-split l i v h, add-one) (drop-at (take i l) (v ∷ drop (suc i) l) i e)
+
+  pub open-step : (new : List A) (j k : ℕ) (d : A) → j ≡ k + 1 → j ≤ n → n < length new → n ≤ length old → Opened new j → Opened (set new j (getD new k d)) k
+  open-step new j k d e h hn ho o =
+      let s : k ≤ j = omega arith in
+      let v : getD new k d ≡ getD old k d = sym (getD-take j new k d (omega arith)) ∙ ap (λ (l : List A). getD l k d) (o .before) ∙ getD-take j old k d (omega arith) in
+      let t : length (take (n + 1) new) ≡ n + 1 = length-take-le (n + 1) new (omega arith) in
+      let u : length (take n old) ≡ n = length-take-le n old ho in
+      record {
+        before = take-set-le k new j (getD new k d) s ∙ sym (take-take k j new s) ∙ ap (take k) (o .before) ∙ take-take k j old s;
+        after =
+            rw (← e, take-set-lt (n + 1) new j (getD new k d) (omega arith), drop-set (take (n + 1) new) j (getD new k d) (omega arith), o .after, v)
+            (rw (drop-cons (take n old) k d (omega arith), getD-take n old k d (omega arith), ← add-one, ← e));
+      }
+
+  pub open-put : (new : List A) (at : ℕ) (v : A) → at ≤ n → n < length new → Opened new at → take (n + 1) (set new at v) ≡ insertAtOf (take n old) at v
+  open-put new at v h hn o =
+      let t : length (take (n + 1) new) ≡ n + 1 = length-take-le (n + 1) new (omega arith) in
+      let a : drop (suc at) (take (n + 1) new) ≡ drop at (take n old) = rw (add-one at) at (o .after) in
+      rw (take-set-lt (n + 1) new at v (omega arith), set-split (take (n + 1) new) at v (omega arith), a, take-take at (n + 1) new (omega arith), o .before, take-take at n old h)
+
+-- ---- an insertion at the place is the insertion in front of the first longer move
+insert-place : (l : List Move) (m : Move) → insertOf l m ≡ insertAtOf l (placeOf (map lengthOf l) (lengthOf m)) m
+unfolding insertOf placeOf
+insert-place [] m = refl
+insert-place (y ∷ ys) m = go (shorterOf (lengthOf m) (lengthOf y)) (placeOf (map lengthOf ys) (lengthOf m)) (insert-place ys m)
+  where
+    go : (b : Bool) (p : ℕ) → insertOf ys m ≡ insertAtOf ys p m → cond b (m ∷ y ∷ ys) (y ∷ insertOf ys m) ≡ insertAtOf (y ∷ ys) (cond b 0 (suc p)) m
+    go true p e = refl
+    go false p e = ap (λ (l : List Move). y ∷ l) e
+
+map-insert : {A B : Type 0} (f : A → B) (l : List A) (p : ℕ) (v : A) → map f (insertAtOf l p v) ≡ insertAtOf (map f l) p (f v)
+map-insert f l zero v = refl
+map-insert f [] (suc p) v = refl
+map-insert f (x ∷ l) (suc p) v = ap (λ t. f x ∷ t) (map-insert f l p v)
+
+zip-insert : {A B C : Type 0} (f : A → B → C) (xs : List A) (ys : List B) (p : ℕ) (x : A) (y : B) → length xs ≡ length ys
+    → zipWith f (insertAtOf xs p x) (insertAtOf ys p y) ≡ insertAtOf (zipWith f xs ys) p (f x y)
+unfolding zipWith
+zip-insert f xs ys zero x y e = refl
+zip-insert f [] [] (suc p) x y e = refl
+zip-insert f [] (b ∷ ys) (suc p) x y e = absurd (let z : ⊥ = omega arith in z)
+zip-insert f (a ∷ xs) [] (suc p) x y e = absurd (let z : ⊥ = omega arith in z)
+zip-insert f (a ∷ xs) (b ∷ ys) (suc p) x y e = ap (λ t. f a b ∷ t) (zip-insert f xs ys p x y (omega arith))
+
+-- the three arrays, each opened at the place of the new length
+pub insert-holds : (dxs dys lens dxs' dys' lens' : List Float) (n p : ℕ) (dx dy : Float) → n ≤ 256 → Holds dxs dys lens n (movesIn dxs dys n)
+    → p ≡ placeOf (take n lens) (lengthOf (Go dx dy)) → (take (n + 1) dxs' ≡ insertAtOf (take n dxs) p dx) × (length dxs' ≡ 256)
+    → (take (n + 1) dys' ≡ insertAtOf (take n dys) p dy) × (length dys' ≡ 256) → (take (n + 1) lens' ≡ insertAtOf (take n lens) p (lengthOf (Go dx dy))) × (length lens' ≡ 256)
+    → Holds dxs' dys' lens' (n + 1) (insertOf (movesIn dxs dys n) (Go dx dy))
+unfolding movesIn
+insert-holds dxs dys lens dxs' dys' lens' n p dx dy hn o e ex ey el =
+    let m : Move = Go dx dy in
+    let ms : List Move = zipWith Go (take n dxs) (take n dys) in
+    let q : insertOf ms m ≡ insertAtOf ms p m = insert-place ms m ∙ rw (← o .lengths, e) in
+    let lx : length (take n dxs) ≡ n = length-take-le n dxs (omega arith) in
+    let ly : length (take n dys) ≡ n = length-take-le n dys (omega arith) in
+    record {
+      dxsize = ex .1;
+      dysize = ey .1;
+      lensize = el .1;
+      offsets = rw (ex .0, ey .0) (zip-insert Go (take n dxs) (take n dys) p dx dy (omega arith)) ∙ sym q;
+      lengths = el .0 ∙ rw (o .lengths) (sym (map-insert lengthOf ms p m)) ∙ ap (map lengthOf) (sym q);
+    }
+
+-- no move yet
+pub holds-none : (dxs dys lens : List Float) → length dxs ≡ 256 → length dys ≡ 256 → length lens ≡ 256 → Holds dxs dys lens 0 (movesIn dxs dys 0)
+unfolding movesIn zipWith
+holds-none dxs dys lens x y k = record { dxsize = x; dysize = y; lensize = k; offsets = refl; lengths = refl }
+
+-- what arrays hold, read off them
+pub held : {dxs dys lens : List Float} {n : ℕ} {moves : List Move} → Holds dxs dys lens n moves → Holds dxs dys lens n (movesIn dxs dys n)
+held o = record { dxsize = o .dxsize; dysize = o .dysize; lensize = o .lensize; offsets = refl; lengths = o .lengths ∙ ap (map lengthOf) (sym (o .offsets)) }
+
+-- one more
+pub holds-next : {dxs dys lens dxs' dys' lens' : List Float} {n k : ℕ} {moves : List Move} (m : Move) → Holds dxs dys lens n moves
+    → Holds dxs' dys' lens' k (insertOf (movesIn dxs dys n) m) → Holds dxs' dys' lens' k (insertOf moves m)
+holds-next m o q = rw (o .offsets) at q
+
+pub recount : {dxs dys lens : List Float} {n : ℕ} (k : ℕ) {moves : List Move} → n ≡ k → Holds dxs dys lens n moves → Holds dxs dys lens k moves
+recount k e o = rw e at o
+
+-- ---- the loops that gather the moves: s is the order so far, k the order of all
+module _ {A B C : Type 0} (g : C → B → C) (f : A → List B) (s k : C) (l : List A) (o : foldl g s (flatMap f l) ≡ k) where
+  pub gather-step : (s' : C) (t : List A) (x : A) → l ≡ x ∷ t → s' ≡ foldl g s (f x) → foldl g s' (flatMap f t) ≡ k
+  unfolding flatMap
+  gather-step s' t x e p = rw p (rw (e, foldl-append) at o)
+
+  pub gather-end : l ≡ [] → s ≡ k
+  unfolding flatMap
+  gather-end e = rw e at o
+
+module _ (s : List Move) (r c : Rect) (b : Bool) (e : b ≡ overlapsOf r c) where
+  pub pair-hit : (s' : List Move) → b ≡ true → s' ≡ foldl insertOf s (awayOf r c) → s' ≡ foldl insertOf s (pairOf r c)
+  unfolding pairOf
+  pair-hit s' h q = rw (← e, h) q
+
+  pub pair-miss : b ≡ false → s ≡ foldl insertOf s (pairOf r c)
+  unfolding pairOf
+  pair-miss h = rw (← e, h)

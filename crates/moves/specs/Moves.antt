@@ -1,0 +1,107 @@
+-- The moves that take a group of elements off the cutouts, and the choice among them, as in `Layout::avoid_cutouts` of input.rs. Definitions only.
+use mathlib.Core.Path.{_≡_}
+use mathlib.Core.Bool.{Bool, cond, not, _&&_}
+use mathlib.Core.List.{List, [], _∷_, _++_, map, foldl, zipWith}
+use Prim.Native.Nat.{ℕ, suc, _+_, _-_}
+use lib.Dec.{ltb}
+use lib.Ieee.{Float, le, toBits, binary32}
+use lib.ListN.{length, take, drop}
+use Rattle.float.specs.Float.{_⊕_, _⊖_, _⊗_, k0, k8}
+use Rattle.geometry.specs.declared.Rect.{Rect}
+use Rattle.geometry.specs.Rect.{newOf, overlapsOf}
+use Rattle.layout.specs.Lists.{anyOf, allOf, find, flatMap}
+use Rattle.moves.specs.declared.Move.{Move}
+use Rattle.moves.specs.declared.Move.the-variants.{Stay, Go}
+
+-- ---- which moves there are
+
+-- two moves across, then two down
+abbrev pub four : Float → Float → Float → Float → List Move
+four left right up down = Go left k0 ∷ Go right k0 ∷ Go k0 up ∷ Go k0 down ∷ []
+
+-- The moves that take r off a cutout, 8 away from it: to its left, to its right, above it and below it.
+abbrev pub awayOf : Rect → Rect → List Move
+awayOf r c =
+    four
+    (c .x ⊖ r .w ⊖ k8 ⊖ r .x)
+    (c .x ⊕ c .w ⊕ k8 ⊖ r .x)
+    (c .y ⊖ r .h ⊖ k8 ⊖ r .y)
+    (c .y ⊕ c .h ⊕ k8 ⊖ r .y)
+
+-- the moves for one rectangle of a group and one cutout: none where they do not overlap
+unfoldable pub pairOf : Rect → Rect → List Move
+pairOf r c = cond (overlapsOf r c) (awayOf r c) []
+
+-- the moves of a group, in the order in which they arise: for each of its rectangles, for each cutout
+unfoldable pub candidatesOf : List Rect → List Rect → List Move
+candidatesOf original holes = flatMap (λ r. flatMap (pairOf r) holes) original
+
+-- ---- the order in which they are tried
+
+-- A move's length, squared.
+abbrev pub lengthOf : Move → Float
+lengthOf Stay = k0
+lengthOf (Go dx dy) = dx ⊗ dx ⊕ dy ⊗ dy
+
+-- A number's place in the order of Rust's `total_cmp`, which goes by the bit patterns: those of a clear sign upward, after those of a set
+-- sign downward. The logic has one NaN, whose pattern 7FC00000 comes after the infinity.
+unfoldable pub rankOf : Float → ℕ
+rankOf x = let b = toBits binary32 x in cond (ltb b 0x8000_0000) (b + 0x8000_0000) (0xffff_ffff - b)
+
+unfoldable pub shorterOf : Float → Float → Bool
+shorterOf a b = ltb (rankOf a) (rankOf b)
+
+-- A move among others: in front of the first longer one.
+unfoldable pub insertOf : List Move → Move → List Move
+insertOf [] m = m ∷ []
+insertOf (y ∷ ys) m = cond (shorterOf (lengthOf m) (lengthOf y)) (m ∷ y ∷ ys) (y ∷ insertOf ys m)
+
+-- The order in which moves are tried: the shorter first, and of equal length the one that arose first.
+unfoldable pub orderedOf : List Move → List Move
+orderedOf moves = foldl insertOf [] moves
+
+-- ---- the first that leaves the whole group clear
+
+abbrev pub movedOf : Move → Rect → Rect
+movedOf Stay r = r
+movedOf (Go dx dy) r = newOf (r .x ⊕ dx) (r .y ⊕ dy) (r .w) (r .h)
+
+-- on the screen
+unfoldable pub insideOf : Rect → Float → Float → Bool
+insideOf r w h = le k0 (r .x) && (le k0 (r .y) && (le (r .x ⊕ r .w) w && le (r .y ⊕ r .h) h))
+
+-- on the screen, off the cutouts, and off the elements outside the group
+unfoldable pub clearOf : Float → Float → List Rect → List Rect → Rect → Bool
+clearOf w h holes others r = insideOf r w h && (not (anyOf (overlapsOf r) holes) && not (anyOf (overlapsOf r) others))
+
+abbrev pub allClearOf : Float → Float → List Rect → List Rect → List Rect → Move → Bool
+allClearOf w h holes others original m = allOf (λ r. clearOf w h holes others (movedOf m r)) original
+
+abbrev pub firstClearOf : Float → Float → List Rect → List Rect → List Rect → List Move → Move
+firstClearOf w h holes others original moves = find (allClearOf w h holes others original) (λ m. m) Stay moves
+
+-- What becomes of a group.
+unfoldable pub searchOf : Float → Float → List Rect → List Rect → List Rect → Move
+searchOf w h holes others original = firstClearOf w h holes others original (orderedOf (candidatesOf original holes))
+
+-- ---- moves in arrays of numbers
+
+-- where a length belongs: how many stand in front of the first longer one
+unfoldable pub placeOf : List Float → Float → ℕ
+placeOf [] k = 0
+placeOf (y ∷ ys) k = cond (shorterOf k y) 0 (suc (placeOf ys k))
+
+abbrev pub insertAtOf : {A : Type 0} → List A → ℕ → A → List A
+insertAtOf l at v = take at l ++ (v ∷ drop at l)
+
+-- the first n moves of two arrays of offsets
+unfoldable pub movesIn : List Float → List Float → ℕ → List Move
+movesIn dxs dys n = zipWith Go (take n dxs) (take n dys)
+
+-- the first n of three arrays of 256 hold moves and their lengths
+pub record Holds (dxs dys lens : List Float) (n : ℕ) (moves : List Move) : Type 0 where
+  pub dxsize : length dxs ≡ 256
+  pub dysize : length dys ≡ 256
+  pub lensize : length lens ≡ 256
+  pub offsets : movesIn dxs dys n ≡ moves
+  pub lengths : take n lens ≡ map lengthOf moves

@@ -1,0 +1,203 @@
+// The search for a move that takes a group of elements off the cutouts, as in `Layout::avoid_cutouts` of input.rs.
+ghost use mathlib.Core.Path.{_≡_};
+ghost use mathlib.Core.List.{foldl};
+ghost use Prim.Native.Nat.{_+_, _<_, _≤_};
+ghost use lib.ListN.{length, take};
+ghost use Rattle.layout.specs.Layout.{cutoutList, elementList};
+ghost use Rattle.moves.specs.Moves.{Holds, four, rankOf, shorterOf, placeOf, insertAtOf, insertOf, movesIn, movedOf, insideOf, firstClearOf, searchOf};
+use geometry::Rect;
+use layout::Cutouts;
+use layout::Elements;
+
+// What becomes of a group.
+pub enum Move {
+    Stay,
+    Go(f32, f32),
+}
+
+// A number's place in the order of `total_cmp`.
+fn rank(x: f32) -> u32
+    ensures { λ r. ⌜ r ≡ rankOf x ⌝ }
+{
+    if x != x {
+        return 0xffc0_0000;
+    }
+    let b = f32::to_bits(x);
+    if b < 0x8000_0000 {
+        b + 0x8000_0000
+    } else {
+        0xffff_ffff - b
+    }
+}
+
+fn shorter(a: f32, b: f32) -> bool
+    ensures { λ r. ⌜ r ≡ shorterOf a b ⌝ }
+{
+    rank(a) < rank(b)
+}
+
+// Where a length belongs among the first n: in front of the first longer one.
+fn place(lens: &[f32; 256], n: usize, len: f32) -> usize
+    requires { ⌜ (n ≤ 256) × (length (now lens) ≡ 256) ⌝ }
+    ensures { λ r. ⌜ (r ≡ placeOf (take n (now (lens .entry))) len) × (r ≤ n) ⌝ }
+{
+    for i in 0..n {
+        if shorter(len, lens[i]) {
+            return i;
+        }
+    }
+    n
+}
+
+// v at a place among the first n, and what stood from there on one place further.
+fn insert_at(a: &mut [f32; 256], n: usize, at: usize, v: f32)
+    requires { ⌜ (at ≤ n) × ((n < 256) × (length (now a) ≡ 256)) ⌝ }
+    ensures { λ r. ⌜ (take (n + 1) (now (a .exit)) ≡ insertAtOf (take n (now (a .entry))) at v) × (length (now (a .exit)) ≡ 256) ⌝ }
+{
+    let mut j = n;
+    while at < j {
+        a[j] = a[j - 1];
+        j = j - 1;
+    }
+    a[at] = v;
+}
+
+// A move among the first n, in front of the first longer one.
+fn insert(
+    dxs: &mut [f32; 256],
+    dys: &mut [f32; 256],
+    lens: &mut [f32; 256],
+    n: usize,
+    dx: f32,
+    dy: f32,
+)
+    requires { ⌜ (n < 256) × Holds (now dxs) (now dys) (now lens) n (movesIn (now dxs) (now dys) n) ⌝ }
+    ensures { λ r. ⌜ Holds (now (dxs .exit)) (now (dys .exit)) (now (lens .exit)) (n + 1) (insertOf (movesIn (now (dxs .entry)) (now (dys .entry)) n) (Move.Go dx dy)) ⌝ }
+{
+    let len = dx * dx + dy * dy;
+    let at = place(lens, n, len);
+    insert_at(dxs, n, at, dx);
+    insert_at(dys, n, at, dy);
+    insert_at(lens, n, at, len);
+}
+
+// Two moves across and two down, among the first n.
+fn insert_four(
+    dxs: &mut [f32; 256],
+    dys: &mut [f32; 256],
+    lens: &mut [f32; 256],
+    n: usize,
+    left: f32,
+    right: f32,
+    up: f32,
+    down: f32,
+)
+    requires { ⌜ (n + 4 ≤ 256) × Holds (now dxs) (now dys) (now lens) n (movesIn (now dxs) (now dys) n) ⌝ }
+    ensures { λ q. ⌜ Holds (now (dxs .exit)) (now (dys .exit)) (now (lens .exit)) (n + 4) (foldl insertOf (movesIn (now (dxs .entry)) (now (dys .entry)) n) (four left right up down)) ⌝ }
+{
+    insert(dxs, dys, lens, n, left, 0.0);
+    insert(dxs, dys, lens, n + 1, right, 0.0);
+    insert(dxs, dys, lens, n + 2, 0.0, up);
+    insert(dxs, dys, lens, n + 3, 0.0, down);
+}
+
+pub fn moved(r: Rect, dx: f32, dy: f32) -> Rect
+    ensures { λ q. ⌜ q ≡ movedOf (Move.Go dx dy) r ⌝ }
+{
+    Rect {
+        x: r.x + dx,
+        y: r.y + dy,
+        w: r.w,
+        h: r.h,
+    }
+}
+
+fn inside(r: Rect, w: f32, h: f32) -> bool
+    ensures { λ q. ⌜ q ≡ insideOf r w h ⌝ }
+{
+    r.x >= 0.0 && (r.y >= 0.0 && (r.x + r.w <= w && r.y + r.h <= h))
+}
+
+// The first move that leaves each rectangle of the group on the screen, off the cutouts and off the other elements.
+fn first_clear(
+    dxs: &[f32; 256],
+    dys: &[f32; 256],
+    n: usize,
+    w: f32,
+    h: f32,
+    holes: Cutouts,
+    others: Elements,
+    original: [Rect; 4],
+    m: usize,
+) -> Move
+    requires { ⌜ ((length (now dxs) ≡ 256) × (length (now dys) ≡ 256)) × ((n ≤ 256) × ((m ≤ 4) × ((holes .count ≤ 16) × (others .count ≤ 19)))) ⌝ }
+    ensures { λ r. ⌜ r ≡ firstClearOf w h (cutoutList holes) (elementList others) (take m original) (movesIn (now (dxs .entry)) (now (dys .entry)) n) ⌝ }
+{
+    let hole = holes.at;
+    let holecount = holes.count;
+    let other = others.at;
+    let othercount = others.count;
+    'moves: for i in 0..n {
+        let dx = dxs[i];
+        let dy = dys[i];
+        for j in 0..m {
+            let r = moved(original[j], dx, dy);
+            if !inside(r, w, h) {
+                continue 'moves;
+            }
+            for k in 0..holecount {
+                if r.overlaps(hole[k]) {
+                    continue 'moves;
+                }
+            }
+            for k in 0..othercount {
+                if r.overlaps(other[k]) {
+                    continue 'moves;
+                }
+            }
+        }
+        return Move::Go(dx, dy);
+    }
+    Move::Stay
+}
+
+// What becomes of a group of m rectangles.
+pub fn search(
+    w: f32,
+    h: f32,
+    holes: Cutouts,
+    others: Elements,
+    original: [Rect; 4],
+    m: usize,
+) -> Move
+    requires { ⌜ (m ≤ 4) × ((holes .count ≤ 16) × (others .count ≤ 19)) ⌝ }
+    ensures { λ r. ⌜ r ≡ searchOf w h (cutoutList holes) (elementList others) (take m original) ⌝ }
+{
+    let hole = holes.at;
+    let holecount = holes.count;
+    let mut dxs = [0.0f32; 256];
+    let mut dys = [0.0f32; 256];
+    let mut lens = [0.0f32; 256];
+    let mut n = 0;
+    for i in 0..m {
+        let r = original[i];
+        for k in 0..holecount {
+            let c = hole[k];
+            if !r.overlaps(c) {
+                continue;
+            }
+            insert_four(
+                &mut dxs,
+                &mut dys,
+                &mut lens,
+                n,
+                c.x - r.w - 8.0 - r.x,
+                c.x + c.w + 8.0 - r.x,
+                c.y - r.h - 8.0 - r.y,
+                c.y + c.h + 8.0 - r.y,
+            );
+            n = n + 4;
+        }
+    }
+    first_clear(&dxs, &dys, n, w, h, holes, others, original, m)
+}
