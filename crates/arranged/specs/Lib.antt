@@ -2,3 +2,5 @@ pub mod Places
 pub mod Arranged
 pub mod Blank
 pub mod ArrangedLabels
+pub mod PlaceRanges
+pub mod ArrangedRanges

@@ -1,2 +1,3 @@
 pub mod Band
 pub mod BandLabels
+pub mod BandRanges

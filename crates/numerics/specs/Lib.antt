@@ -10,3 +10,4 @@ pub mod Bounds
 pub mod Ranges
 pub mod Products
 pub mod Literals
+pub mod Shrunk

@@ -237,6 +237,10 @@ pub i4√2 : In (k4 ⊗ √2) (limit + 1448) (limit + 1449)
 i4√2 = unfold ofBits mul magnitude posPart negPart eps in (literal refl tt tt)
 
 -- ---- fractions
+pub f0·01 : Fraction k0·01 5368709 536870912
+unfolding ofBits magnitude
+f0·01 = record { whole = refl; plus = refl; is = refl; above = lit≤ tt; below = lit≤ tt }
+
 pub f0·055 : Fraction k0·055 7381975 134217728
 unfolding ofBits magnitude
 f0·055 = record { whole = refl; plus = refl; is = refl; above = lit≤ tt; below = lit≤ tt }

@@ -12,13 +12,14 @@ use lib.Ieee.Order.{drop, kept}
 use lib.Ieee.Fits.{and-l, and-r, mul-fits, round-is}
 use lib.Ieee.Scale.{finite}
 use Rattle.float.specs.Float.{_⊕_, _⊖_, _⊗_, _⊘_, k0}
+use Rattle.geometry.specs.declared.Rect.{Rect}
 use Rattle.geometry.specs.Rect.{newOf}
 use Rattle.float.specs.MinMax.{minOf, maxOf, clampOf}
 use Rattle.numerics.specs.Value.{magnitude, Whole, posPart, negPart, eps, top, limit, AtMost, Fraction, P, N, Le}
-use Rattle.numerics.specs.Rects.{maxCorner, maxSide, Element}
-use Rattle.numerics.specs.Range.{In, reach}
+use Rattle.numerics.specs.Rects.{maxCorner, maxSide, Element, maxArea, Placed}
+use Rattle.numerics.specs.Range.{In, at, minus, reach}
 use Rattle.numerics.specs.Operations.{Near, fits-whole, neg-whole, neg-swaps, one-zero, add-near, sub-near, mul-near, div-near, mul-flip}
-use Rattle.numerics.specs.Bounds.{room, room-mul, lt-not, le-law, min-ind, max-ind, zero-most}
+use Rattle.numerics.specs.Bounds.{room, room-mul, lt-not, le-law, min-ind, max-ind, zero-most, most-more}
 
 pub in-most : (x : Float) (a b n : ℕ) → In x a b → limit ≤ a + n → b ≤ limit + n → AtMost x n
 in-most x a b n i h k = record { whole = i .whole; size = go (one-zero x) (mul-le-mul-left eps h) (mul-le-mul-left eps k) }
@@ -334,3 +335,30 @@ element-in {a = a} {b = b} {a' = a'} {b' = b'} {c = c} {d = d} {c' = c'} {d' = d
     let s = and-l (t1 && t2) (t3 && t4) t in
     let u = and-r (t1 && t2) (t3 && t4) t in
     record { x = range-most maxCorner i (and-l t1 t2 s); y = range-most maxCorner j (and-r t1 t2 s); w = range-most maxSide k (and-l t3 t4 u); h = range-most maxSide l (and-r t3 t4 u) }
+
+abbrev pub inside : ℕ → ℕ → ℕ → ℕ → Bool
+inside a' b' a b = leb a' a && leb b b'
+
+in-wide : {x : Float} {a b a' b' : ℕ} → In x a b → T (inside a' b' a b) → In x a' b'
+in-wide {a = a} {b = b} {a' = a'} {b' = b'} i t = in-more a' b' i (and-l (leb a' a) (leb b b') t) (and-r (leb a' a) (leb b b') t)
+
+-- the same for an element of an arrangement
+pub placed-in : {above m : ℕ} {x y w h : Float} {a b a' b' c d c' d' : ℕ} → In x a b → In y a' b' → In w c d → In h c' d'
+    → T ((inside (minus m) (at (8192 + m)) a b && inside (minus (above + m)) (at (8192 + m)) a' b') && (small (maxArea + m) c d && small (maxArea + m) c' d')) → Placed above m (newOf x y w h)
+placed-in {above} {m} {a = a} {b = b} {a' = a'} {b' = b'} {c = c} {d = d} {c' = c'} {d' = d'} i j k l t =
+    let t1 : Bool = inside (minus m) (at (8192 + m)) a b in
+    let t2 : Bool = inside (minus (above + m)) (at (8192 + m)) a' b' in
+    let t3 : Bool = small (maxArea + m) c d in
+    let t4 : Bool = small (maxArea + m) c' d' in
+    let s = and-l (t1 && t2) (t3 && t4) t in
+    let u = and-r (t1 && t2) (t3 && t4) t in
+    record { x = in-wide i (and-l t1 t2 s); y = in-wide j (and-r t1 t2 s); w = range-most (maxArea + m) k (and-l t3 t4 u); h = range-most (maxArea + m) l (and-r t3 t4 u) }
+
+pub placed-element : {above m : ℕ} {e : Rect} → Placed above m e → T ((small maxCorner (minus m) (at (8192 + m)) && small maxCorner (minus (above + m)) (at (8192 + m))) && leb (maxArea + m) maxSide) → Element e
+placed-element {above} {m} P t =
+    let t1 : Bool = small maxCorner (minus m) (at (8192 + m)) in
+    let t2 : Bool = small maxCorner (minus (above + m)) (at (8192 + m)) in
+    let t3 : Bool = leb (maxArea + m) maxSide in
+    let s = and-l (t1 && t2) t3 t in
+    let u = and-r (t1 && t2) t3 t in
+    record { x = range-most maxCorner (P .x) (and-l t1 t2 s); y = range-most maxCorner (P .y) (and-r t1 t2 s); w = most-more (P .w) maxSide u; h = most-more (P .h) maxSide u }

@@ -1,10 +1,11 @@
--- Rectangles whose numbers are in range: finite ones, elements of a layout, and the area of a picture. Definitions only.
-use Prim.Native.Nat.{ℕ, _*_}
+-- Rectangles whose numbers are in range: finite ones, elements of a layout, elements as arrangements put them, and the area of a picture. Definitions only.
+use Prim.Native.Nat.{ℕ, _+_, _*_}
 use lib.Dec.{T}
 use lib.Ieee.{le}
 use Rattle.float.specs.Float.{k0}
 use Rattle.geometry.specs.declared.Rect.{Rect}
 use Rattle.numerics.specs.Value.{Whole, AtMost}
+use Rattle.numerics.specs.Range.{In, at, minus}
 
 -- finite numbers
 pub record WholeRect (r : Rect) : Type 0 where
@@ -37,3 +38,21 @@ pub record Area (b : Rect) : Type 0 where
   pub h : AtMost (b .h) maxArea
   pub w0 : T (le k0 (b .w))
   pub h0 : T (le k0 (b .h))
+
+-- An element as arrangements put it: on the screen or off it by m at most, at the top by `above` more, and its sides 8192 but for m / 256.
+pub record Placed (above m : ℕ) (e : Rect) : Type 0 where
+  pub x : In (e .x) (minus m) (at (8192 + m))
+  pub y : In (e .y) (minus (above + m)) (at (8192 + m))
+  pub w : AtMost (e .w) (maxArea + m)
+  pub h : AtMost (e .h) (maxArea + m)
+
+abbrev pub OnScreen : ℕ → Rect → Type 0
+OnScreen m e = Placed 0 m e
+
+-- a key of the toolbar, which may lie above the screen
+abbrev pub Key : ℕ → Rect → Type 0
+Key m e = Placed 8192 m e
+
+-- how far off the screen an arrangement puts elements at most
+abbrev pub margin : ℕ
+margin = 768

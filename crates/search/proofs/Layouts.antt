@@ -23,35 +23,35 @@ use Rattle.numerics.specs.Literals.{i0, i0·25, i1}
 use Rattle.search.specs.declared.Offset.{Offset}
 use Rattle.search.specs.Search.{obstaclesOf, gameOf, placeGameInAspectOf}
 use Rattle.search.specs.Widest.{centredWidth, Widest}
-use Rattle.search.specs.Bounded.{Bounded, BoundedGame}
+use Rattle.search.specs.Bounded.{Every, Bounded, BoundedGame}
 use Rattle.search.proofs.Shapes.{Shape}
 use Rattle.search.proofs.Clearance.{Inside}
 use Rattle.search.proofs.Placement.{game-is, obstacles-fair, picture-found}
 use Rattle.search.proofs.Demand.{game-widest}
 
-pub elements-in : (l : Layout) → Bounded l → Each Element (elementsOf l)
+pub elements-in : {C : Rect → Type 0} (l : Layout) → Every C C l → Each C (elementsOf l)
 unfolding elementsOf
-elements-in l B =
+elements-in {C} l B =
     B .dpad
-    & each-append Element (map (λ c. c .bounds) (controlsOf l)) _ (each-map Element (λ c. c .bounds) (controlsOf l) (each-take (λ c. Element (c .bounds)) (l .count) (l .controls) (B .controls)))
-    (B .pause & B .playback & B .speed & B .mute & each-take Element (l .stickcount) (l .sticks) (B .sticks))
+    & each-append C (map (λ c. c .bounds) (controlsOf l)) _ (each-map C (λ c. c .bounds) (controlsOf l) (each-take (λ c. C (c .bounds)) (l .count) (l .controls) (B .controls)))
+    (B .pause & B .playback & B .speed & B .mute & each-take C (l .stickcount) (l .sticks) (B .sticks))
 
-pub bounded-set : (l : Layout) (i : ℕ) (r : Rect) → Bounded l → Element r → Bounded (setElementOf l i r)
+pub bounded-set : {C : Rect → Type 0} (l : Layout) (i : ℕ) (r : Rect) → Every C C l → C r → Every C C (setElementOf l i r)
 unfolding setElementOf
-bounded-set l i r B e = go (ltb i 1) (ltb i (l .count + 1)) (ltb i (l .count + 2)) (ltb i (l .count + 3)) (ltb i (l .count + 4)) (ltb i (l .count + 5))
+bounded-set {C} l i r B e = go (ltb i 1) (ltb i (l .count + 1)) (ltb i (l .count + 2)) (ltb i (l .count + 3)) (ltb i (l .count + 4)) (ltb i (l .count + 5))
   where
     controls : List Control
     controls = set (l .controls) (i - 1) (withBounds (getD (l .controls) (i - 1) anyControl) r)
 
     go : (a b c d f g : Bool)
-        → Bounded (cond a (withDpad l r) (cond b (withControls l controls) (cond c (withPause l r) (cond d (withPlayback l r) (cond f (withSpeed l r) (cond g (withMute l r) (withSticks l (set (l .sticks) (i - l .count - 5) r))))))))
+        → Every C C (cond a (withDpad l r) (cond b (withControls l controls) (cond c (withPause l r) (cond d (withPlayback l r) (cond f (withSpeed l r) (cond g (withMute l r) (withSticks l (set (l .sticks) (i - l .count - 5) r))))))))
     go true b c d f g = record { dpad = e; controls = B .controls; pause = B .pause; playback = B .playback; speed = B .speed; mute = B .mute; sticks = B .sticks }
-    go false true c d f g = record { dpad = B .dpad; controls = each-set (λ c. Element (c .bounds)) (i - 1) (l .controls) _ (B .controls) e; pause = B .pause; playback = B .playback; speed = B .speed; mute = B .mute; sticks = B .sticks }
+    go false true c d f g = record { dpad = B .dpad; controls = each-set (λ c. C (c .bounds)) (i - 1) (l .controls) _ (B .controls) e; pause = B .pause; playback = B .playback; speed = B .speed; mute = B .mute; sticks = B .sticks }
     go false false true d f g = record { dpad = B .dpad; controls = B .controls; pause = e; playback = B .playback; speed = B .speed; mute = B .mute; sticks = B .sticks }
     go false false false true f g = record { dpad = B .dpad; controls = B .controls; pause = B .pause; playback = e; speed = B .speed; mute = B .mute; sticks = B .sticks }
     go false false false false true g = record { dpad = B .dpad; controls = B .controls; pause = B .pause; playback = B .playback; speed = e; mute = B .mute; sticks = B .sticks }
     go false false false false false true = record { dpad = B .dpad; controls = B .controls; pause = B .pause; playback = B .playback; speed = B .speed; mute = e; sticks = B .sticks }
-    go false false false false false false = record { dpad = B .dpad; controls = B .controls; pause = B .pause; playback = B .playback; speed = B .speed; mute = B .mute; sticks = each-set Element (i - l .count - 5) (l .sticks) r (B .sticks) e }
+    go false false false false false false = record { dpad = B .dpad; controls = B .controls; pause = B .pause; playback = B .playback; speed = B .speed; mute = B .mute; sticks = each-set C (i - l .count - 5) (l .sticks) r (B .sticks) e }
 
 pub layout-widest : {a : Float} {p q : ℕ} → Shape a p q → (l : Layout) → Bounded l → {b : Rect} → Area b → (offset : Offset) → Whole (offset .x) → Whole (offset .y)
     → Widest p q (elementsOf l) b (centredWidth (elementsOf l) b a) (gameOf (elementsOf l) b k1 offset a)
@@ -96,11 +96,11 @@ game-in {a} S es F {b} B factor fw offset ox oy =
     })
 
 -- ---- the layout with its game placed
-module _ {a : Float} {p q : ℕ} (S : Shape a p q) (l : Layout) (L : Bounded l) {b : Rect} (B : Area b) (offset : Offset) (ox : Whole (offset .x)) (oy : Whole (offset .y)) where
-  pub place-bounded : (overlap : Bool) (factor : Float) → Bounded (placeGameInAspectOf l b overlap factor offset a)
-  unfolding placeGameInAspectOf
-  place-bounded overlap factor = record { dpad = L .dpad; controls = L .controls; pause = L .pause; playback = L .playback; speed = L .speed; mute = L .mute; sticks = L .sticks }
+pub place-bounded : {C D : Rect → Type 0} {l : Layout} → Every C D l → (b : Rect) (overlap : Bool) (factor : Float) (offset : Offset) (a : Float) → Every C D (placeGameInAspectOf l b overlap factor offset a)
+unfolding placeGameInAspectOf
+place-bounded L b overlap factor offset a = record { dpad = L .dpad; controls = L .controls; pause = L .pause; playback = L .playback; speed = L .speed; mute = L .mute; sticks = L .sticks }
 
+module _ {a : Float} {p q : ℕ} (S : Shape a p q) (l : Layout) (L : Bounded l) {b : Rect} (B : Area b) (offset : Offset) (ox : Whole (offset .x)) (oy : Whole (offset .y)) where
   pub place-game-in : (overlap : Bool) (factor : Float) → Whole factor → BoundedGame (placeGameInAspectOf l b overlap factor offset a .game)
   unfolding placeGameInAspectOf
   place-game-in true factor fw = game-in S [] tt B factor fw offset ox oy

@@ -29,7 +29,7 @@ use Rattle.search.proofs.SideSearch.{side-widest, side-found}
 
 -- ---- a filter
 module _ {A B : Type 0} (p : A → Bool) (f : A → B) (C : A → Type 0) where
-  each-filter : (D : B → Type 0) → ((x : A) → C x → D (f x)) → (xs : List A) → Each C xs → Each D (filterMap p f xs)
+  pub each-filter : (D : B → Type 0) → ((x : A) → C x → D (f x)) → (xs : List A) → Each C xs → Each D (filterMap p f xs)
   each-filter D g [] e = tt
   each-filter D g (x ∷ xs) e = go (p x) (each-filter D g xs (e .1))
     where

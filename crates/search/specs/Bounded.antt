@@ -3,18 +3,25 @@ use Prim.Native.Nat.{_*_}
 use Rattle.geometry.specs.declared.Rect.{Rect}
 use Rattle.layout.specs.declared.Layout.{Layout}
 use Rattle.numerics.specs.Value.{AtMost}
-use Rattle.numerics.specs.Rects.{Element}
+use Rattle.numerics.specs.Rects.{Element, OnScreen, Key, margin}
 use Rattle.numerics.specs.Each.{Each}
 
--- every rectangle of the layout but its game, the unused places of its arrays too
-pub record Bounded (l : Layout) : Type 0 where
-  pub dpad : Element (l .dpad)
-  pub controls : Each (λ c. Element (c .bounds)) (l .controls)
-  pub pause : Element (l .pause)
-  pub playback : Element (l .playback)
-  pub speed : Element (l .speed)
-  pub mute : Element (l .mute)
-  pub sticks : Each Element (l .sticks)
+-- C holds of the d-pad, the controls and the sticks, D of the toolbar's keys: of every rectangle but the game, and of the unused places of the arrays too
+pub record Every (C D : Rect → Type 0) (l : Layout) : Type 0 where
+  pub dpad : C (l .dpad)
+  pub controls : Each (λ c. C (c .bounds)) (l .controls)
+  pub pause : D (l .pause)
+  pub playback : D (l .playback)
+  pub speed : D (l .speed)
+  pub mute : D (l .mute)
+  pub sticks : Each C (l .sticks)
+
+abbrev pub Bounded : Layout → Type 0
+Bounded l = Every Element Element l
+
+-- a layout as arrangements make it
+abbrev pub Arranged : Layout → Type 0
+Arranged l = Every (OnScreen margin) (Key margin) l
 
 -- a game
 pub record BoundedGame (g : Rect) : Type 0 where

@@ -1,2 +1,3 @@
 pub mod Toolbar
 pub mod ToolbarLaws
+pub mod ToolbarRanges

@@ -1,0 +1,209 @@
+-- The layouts of `arranged` and `side_rails` are in range.
+use mathlib.Core.Bool.{Bool, true, false, cond, not, _||_}
+use mathlib.Core.List.{List, [], foldl}
+use lib.Dec.{T}
+use lib.Ieee.{Float, lt}
+use Rattle.float.specs.Float.{_⊕_, _⊖_, _⊘_, k0, k1, k2, k3, k4, k16, k100, k112, k122, k196}
+use Rattle.float.specs.MinMax.{minOf, maxOf}
+use Rattle.geometry.specs.declared.Rect.{Rect}
+use Rattle.geometry.specs.Rect.{newOf, emptyRect, overlapsOf}
+use Rattle.layout.specs.declared.Layout.{Layout}
+use Rattle.numerics.specs.Rects.{Element, OnScreen, Key, margin}
+use Rattle.numerics.specs.Value.{Le}
+use Rattle.numerics.specs.Range.{In, at, minus}
+use Rattle.numerics.specs.Each.{Each, _&_}
+use Rattle.numerics.specs.Lists.{fold-ind}
+use Rattle.numerics.specs.Bounds.{lt-not}
+use Rattle.numerics.specs.Ranges.{in-more, most-in, add-in, sub-in, mul-in, times-in, div-in, min-in, max-in, clamp-in, cond-in, raise, placed-in}
+use Rattle.numerics.specs.Literals.{i0, i4, i8, i16, i20, i24, i32, i48, i56, i64, i76, i80, i84, i96, i100, i112, i122, i128, i140, i160, i168, i196, i200, i224, f0·4, f2, f3, f4}
+use Rattle.search.specs.Bounded.{Every, Arranged}
+use Rattle.search.proofs.Layouts.{place-bounded}
+use Rattle.search.proofs.Changes.{dpad-in}
+use Rattle.toolbar.specs.ToolbarRanges.{uncovered-in, anchor-in}
+use Rattle.arranged.specs.declared.Wells.{Wells}
+use Rattle.arranged.specs.declared.Dock.{Dock}
+use Rattle.arranged.specs.declared.Rails.{Rails}
+use Rattle.arranged.specs.Arranged.{middle, finishedOf, sizeWellsOf, placeDockOf, composedOf, arrangedOf, measureRailsOf, railPlacesOf, railedOf, requestedOf, narrowOf, sideRailsOf}
+use Rattle.arranged.specs.PlaceRanges.{Coordinate, coordinate, cap-in, step-in, faces-in, PlacesIn, controls-placed}
+
+pub finished-in : {C D : Rect → Type 0} (l : Layout) {w h : Float} → In w (at 0) (at 8192) → In h (at 0) (at 8192) → Every C D l → Every C (Key margin) (finishedOf l w h)
+unfolding finishedOf
+finished-in l {w} {h} W H L =
+    place-bounded (anchor-in l [] W H (in-more (at 0) (at 8192) i0 tt tt) (in-more (minus 8192) (at 8192) i0 tt tt) (uncovered-in l [] tt) L) (newOf k0 k0 w h) false k1 middle (k4 ⊘ k3)
+
+-- ---- `arranged`
+record WellsIn (k : Wells) : Type 0 where
+  pub cluster : In (k .cluster) (at 128) (at 224)
+  pub size : In (k .size) (at 48) (at 84)
+  pub height : In (k .height) (at 128) (at 224)
+
+wells-in : {w h : Float} (compact : Bool) → In w (at 0) (at 8192) → In h (at 0) (at 8192) → WellsIn (sizeWellsOf w h compact)
+unfolding sizeWellsOf
+wells-in compact W H =
+    let cluster = min-in (clamp-in (sub-in (div-in W f2 tt) i20 tt) i128 i224) (max-in (sub-in H i140 tt) i128) in
+    let size = clamp-in (mul-in cluster f0·4 tt) i48 i84 in
+    record { cluster = cluster; size = size; height = cond-in compact (max-in (min-in cluster i200) (add-in (mul-in size f2 tt) i16 tt)) cluster }
+
+record DockIn (d : Dock) : Type 0 where
+  pub fy : Coordinate (d .fy)
+  pub l1 : Coordinate (d .l1)
+  pub l2 : Coordinate (d .l2)
+  pub r2 : Coordinate (d .r2)
+  pub r1 : Coordinate (d .r1)
+  pub y1 : Coordinate (d .y1)
+  pub y2 : Coordinate (d .y2)
+  pub select : Coordinate (d .select)
+  pub start : Coordinate (d .start)
+  pub row : Coordinate (d .row)
+
+dock-in : (compact : Bool) {w h : Float} {wells : Wells} {select start : Float} → In w (at 0) (at 8192) → In h (at 0) (at 8192) → WellsIn wells → Coordinate select → Coordinate start
+    → DockIn (placeDockOf compact w h wells select start)
+unfolding placeDockOf
+dock-in true W H K select start =
+    let half = div-in (K .height) f2 tt in
+    let fy = sub-in (sub-in H i32 tt) half tt in
+    let top = sub-in fy half tt in
+    let left = coordinate (add-in (add-in i16 (K .cluster) tt) i8 tt) tt in
+    let right = coordinate (sub-in (sub-in (sub-in (sub-in W i16 tt) (K .cluster) tt) i8 tt) (div-in (sub-in (K .cluster) i8 tt) f2 tt) tt) tt in
+    record { fy = coordinate fy tt; l1 = left; l2 = left; r2 = right; r1 = right; y1 = coordinate (add-in top i56 tt) tt; y2 = coordinate (add-in top i0 tt) tt; select = left; start = right; row = coordinate (sub-in H i56 tt) tt }
+dock-in false W H K select start =
+    let half = div-in (K .height) f2 tt in
+    let fy = sub-in (sub-in H i76 tt) half tt in
+    let y = coordinate (sub-in (sub-in fy half tt) i56 tt) tt in
+    let shoulder = div-in (sub-in (K .cluster) i8 tt) f2 tt in
+    let inner = sub-in W i16 tt in
+    record { fy = coordinate fy tt; l1 = coordinate i16 tt; l2 = coordinate (add-in i24 shoulder tt) tt; r2 = coordinate (sub-in inner (K .cluster) tt) tt; r1 = coordinate (sub-in inner shoulder tt) tt; y1 = y; y2 = y; select = select; start = start; row = coordinate (sub-in H i64 tt) tt }
+
+composed-in : {w : Float} {wells : Wells} {dock : Dock} → In w (at 0) (at 8192) → WellsIn wells → DockIn dock → Arranged (composedOf w wells dock)
+unfolding composedOf
+composed-in W K D =
+    let across = step-in (div-in (sub-in (K .cluster) (K .size) tt) f2 tt) tt tt in
+    let down = step-in (div-in (sub-in (K .height) (K .size) tt) f2 tt) tt tt in
+    let faces = faces-in (coordinate (sub-in (sub-in W i16 tt) (div-in (K .cluster) f2 tt) tt) tt) (D .fy) across down (K .size) in
+    let shoulder = div-in (sub-in (K .cluster) i8 tt) f2 tt in
+    let none : OnScreen margin emptyRect = placed-in i0 i0 i0 i0 tt in
+    record {
+      dpad = placed-in i16 (sub-in (D .fy) (div-in (K .height) f2 tt) tt) (K .cluster) (K .height) tt;
+      controls =
+          faces .tri
+          & faces .o
+          & faces .x
+          & faces .sq
+          & placed-in (D .l1) (D .y1) shoulder i48 tt
+          & placed-in (D .l2) (D .y2) shoulder i48 tt
+          & placed-in (D .r2) (D .y2) shoulder i48 tt
+          & placed-in (D .r1) (D .y1) shoulder i48 tt
+          & placed-in (D .select) (D .row) i96 i48 tt
+          & placed-in (D .start) (D .row) i96 i48 tt
+          & none & none & tt;
+      pause = placed-in (sub-in W i56 tt) i4 i48 i48 tt;
+      playback = placed-in (sub-in W i224 tt) i4 i48 i48 tt;
+      speed = placed-in (sub-in W i168 tt) i4 i48 i48 tt;
+      mute = placed-in (sub-in W i112 tt) i4 i48 i48 tt;
+      sticks = none & none & tt;
+    }
+
+pub arranged-in : {w h : Float} (compact : Bool) → In w (at 0) (at 8192) → In h (at 0) (at 8192) → Arranged (arrangedOf w h compact)
+unfolding arrangedOf
+arranged-in {w} {h} compact W H =
+    let half = div-in W f2 tt in
+    let wells = wells-in compact W H in
+    let select = coordinate (max-in (sub-in half i196 tt) i16) tt in
+    let start = coordinate (min-in (add-in half i100 tt) (sub-in W i112 tt)) tt in
+    finished-in (composedOf w (sizeWellsOf w h compact) (placeDockOf compact w h (sizeWellsOf w h compact) (maxOf (w ⊘ k2 ⊖ k196) k16) (minOf (w ⊘ k2 ⊕ k100) (w ⊖ k112)))) W H
+    (composed-in W wells (dock-in compact W H wells select start))
+
+-- ---- `side_rails`
+record RailsIn (r : Rails) : Type 0 where
+  pub w : In (r .w) (at 0) (at 8192)
+  pub y : Coordinate (r .y)
+  pub size : In (r .size) (at 48) (at 84)
+  pub offset : In (r .offset) (at 0) (at 128)
+  pub fx : Coordinate (r .fx)
+  pub fy : Coordinate (r .fy)
+  pub shoulder : In (r .shoulder) (at 56) (at 64)
+  pub shoulderx : In (r .shoulderx) (at 0) (at 128)
+  pub shouldery : Coordinate (r .shouldery)
+  pub systemx : In (r .systemx) (at 48) (at 144)
+  pub systemy : Coordinate (r .systemy)
+
+rails-in : {w h cluster : Float} → In w (at 0) (at 8192) → In h (at 0) (at 8192) → In cluster (at 122) (at 200) → RailsIn (measureRailsOf w h cluster)
+unfolding measureRailsOf
+rails-in W H cluster =
+    let size = cap-in cluster in
+    let half = div-in cluster f2 tt in
+    let y = sub-in (sub-in H i4 tt) cluster tt in
+    let shoulder = in-more (at 56) (at 64) (min-in (div-in (sub-in cluster i8 tt) f2 tt) i64) tt tt in
+    let inner = add-in i16 cluster tt in
+    record {
+      w = W;
+      y = coordinate y tt;
+      size = size;
+      offset = step-in (div-in (sub-in cluster size tt) f2 tt) tt tt;
+      fx = coordinate (sub-in (sub-in W i16 tt) half tt) tt;
+      fy = coordinate (add-in y half tt) tt;
+      shoulder = shoulder;
+      shoulderx = in-more (at 0) (at 128) (sub-in (sub-in inner (times-in f2 shoulder tt) tt) i8 tt) tt tt;
+      shouldery = coordinate (sub-in y i112 tt) tt;
+      systemx = in-more (at 48) (at 144) (sub-in inner i80 tt) tt tt;
+      systemy = coordinate (sub-in y i56 tt) tt;
+    }
+
+rail-places-in : {r : Rails} → RailsIn r → PlacesIn (railPlacesOf r)
+unfolding railPlacesOf
+rail-places-in R =
+    let faces = faces-in (R .fx) (R .fy) (R .offset) (R .offset) (R .size) in
+    let outer = sub-in (R .w) (R .shoulderx) tt in
+    let start = placed-in (sub-in (sub-in (R .w) (R .systemx) tt) i80 tt) (R .systemy) i80 i48 tt in
+    record {
+      tri = faces .tri;
+      o = faces .o;
+      x = faces .x;
+      sq = faces .sq;
+      l1 = placed-in (R .shoulderx) (R .shouldery) (R .shoulder) i48 tt;
+      l2 = placed-in (add-in (add-in (R .shoulderx) (R .shoulder) tt) i8 tt) (R .shouldery) (R .shoulder) i48 tt;
+      r2 = placed-in (sub-in (sub-in outer (times-in f2 (R .shoulder) tt) tt) i8 tt) (R .shouldery) (R .shoulder) i48 tt;
+      r1 = placed-in (sub-in outer (R .shoulder) tt) (R .shouldery) (R .shoulder) i48 tt;
+      select = placed-in (R .systemx) (R .systemy) i80 i48 tt;
+      start = start;
+      l3 = start;
+      r3 = start;
+    }
+
+railed-in : {w h cluster : Float} → In w (at 0) (at 8192) → In h (at 0) (at 8192) → In cluster (at 122) (at 200) → Arranged (railedOf w h cluster)
+unfolding railedOf
+railed-in W H cluster =
+    let rails = rails-in W H cluster in
+    finished-in _ W H (dpad-in (controls-placed (arranged-in false W H) (rail-places-in rails)) (placed-in i16 (rails .y) cluster cluster tt))
+
+requested-in : {w h pictureHeight : Float} → In w (at 0) (at 8192) → In h (at 0) (at 8192) → In pictureHeight (at 0) (at 8192) → In (requestedOf w h pictureHeight) (at 122) (at 200)
+unfolding requestedOf
+requested-in W H picture =
+    min-in (clamp-in (sub-in H i168 tt) i122 i200) (max-in (sub-in (div-in (sub-in W (div-in (mul-in picture f4 tt) f3 tt) tt) f2 tt) i16 tt) i160)
+
+-- what the cutouts leave of the wells' width has no lower end but theirs
+narrow-in : (w requested : Float) {h : Float} → In h (at 0) (at 8192) → (cluster : Float) (c : Rect) → In cluster (minus 30720) (at 200) → Element c → In (narrowOf w h requested cluster c) (minus 30720) (at 200)
+unfolding narrowOf
+narrow-in w requested {h} H cluster c i C =
+    let y = h ⊖ k4 ⊖ requested in
+    let met = overlapsOf (newOf k16 y requested requested) c || overlapsOf (newOf (w ⊖ k16 ⊖ requested) y requested requested) c in
+    let free = sub-in (sub-in (sub-in (sub-in H i4 tt) (most-in (C .y) tt) tt) (most-in (C .h) tt) tt) i8 tt in
+    in-more (minus 30720) (at 200) (cond-in met (min-in i free) i) tt tt
+
+pub side-rails-in : {w h pictureHeight : Float} (cutouts : List Rect) → In w (at 0) (at 8192) → In h (at 0) (at 8192) → In pictureHeight (at 0) (at 8192) → Each Element cutouts
+    → Arranged (sideRailsOf w h pictureHeight cutouts)
+unfolding sideRailsOf
+side-rails-in {w} {h} {pictureHeight} cutouts W H picture C = go (lt cluster k122) (lt-not 1 cluster k122 (left .whole) (i122 .whole))
+  where
+    requested : Float
+    requested = requestedOf w h pictureHeight
+
+    cluster : Float
+    cluster = foldl (narrowOf w h requested) requested cutouts
+
+    left : In cluster (minus 30720) (at 200)
+    left = fold-ind (λ z. In z (minus 30720) (at 200)) Element (narrowOf w h requested) (narrow-in w requested H) cutouts requested (in-more (minus 30720) (at 200) (requested-in W H picture) tt tt) C
+
+    go : (b : Bool) → (T (not b) → Le 1 k122 cluster) → Arranged (cond b (arrangedOf w h false) (railedOf w h cluster))
+    go true k = arranged-in false W H
+    go false k = railed-in W H (raise left i122 (k tt))

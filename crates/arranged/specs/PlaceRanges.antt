@@ -1,0 +1,97 @@
+-- Places in range: the cap of a well, the faces about a centre, and a layout whose controls are put at such places.
+use mathlib.Core.Bool.{_&&_}
+use mathlib.Core.List.{List, [], _∷_}
+use Prim.Native.Nat.{ℕ, zero, suc}
+use lib.Dec.{T, leb}
+use lib.Ieee.{Float}
+use lib.Ieee.Fits.{and-l, and-r}
+use Rattle.geometry.specs.declared.Rect.{Rect}
+use Rattle.layout.specs.declared.Label.{Label}
+use Rattle.layout.specs.declared.Label.the-variants.{Tri, O, X, Sq, L1, L2, R2, R1, Select, Start, L3, R3}
+use Rattle.layout.specs.declared.Layout.{Layout}
+use Rattle.layout.specs.Lists.{mapFirst}
+use Rattle.numerics.specs.Rects.{OnScreen, margin}
+use Rattle.numerics.specs.Range.{In, at, minus}
+use Rattle.numerics.specs.Each.{Each}
+use Rattle.numerics.specs.Ranges.{in-more, add-in, sub-in, div-in, placed-in}
+use Rattle.numerics.specs.Literals.{i4√2, f1√2, f2}
+use Rattle.search.specs.Bounded.{Every}
+use Rattle.arranged.specs.declared.Faces.{Faces}
+use Rattle.arranged.specs.declared.Places.{Places}
+use Rattle.arranged.specs.Places.{capOf, placeFacesOf, atOf, moved, placedOf}
+
+-- a coordinate on the screen or a little off it
+abbrev pub Coordinate : Float → Type 0
+Coordinate x = In x (minus 512) (at 8448)
+
+pub coordinate : {x : Float} {a b : ℕ} → In x a b → T (leb (minus 512) a && leb b (at 8448)) → Coordinate x
+coordinate {a = a} {b = b} i t = in-more (minus 512) (at 8448) i (and-l (leb (minus 512) a) (leb b (at 8448)) t) (and-r (leb (minus 512) a) (leb b (at 8448)) t)
+
+pub cap-in : {well : Float} → In well (at 122) (at 200) → In (capOf well) (at 48) (at 84)
+cap-in i = in-more (at 48) (at 84) (div-in (sub-in i i4√2 tt) f1√2 tt) tt tt
+
+-- ---- faces
+pub record FacesIn (f : Faces) : Type 0 where
+  pub tri : OnScreen margin (f .tri)
+  pub o : OnScreen margin (f .o)
+  pub x : OnScreen margin (f .x)
+  pub sq : OnScreen margin (f .sq)
+
+-- how far the centres of the faces lie from the middle
+abbrev pub step-in : {x : Float} {a b : ℕ} → In x a b → T (leb (at 0) a) → T (leb b (at 128)) → In x (at 0) (at 128)
+step-in i s t = in-more (at 0) (at 128) i s t
+
+pub faces-in : {fx fy across down cap : Float} → Coordinate fx → Coordinate fy → In across (at 0) (at 128) → In down (at 0) (at 128) → In cap (at 48) (at 84) → FacesIn (placeFacesOf fx fy across down cap)
+unfolding placeFacesOf
+faces-in fx fy across down cap =
+    let half = div-in cap f2 tt in
+    let x = sub-in fx half tt in
+    let y = sub-in fy half tt in
+    record {
+      tri = placed-in x (sub-in (sub-in fy down tt) half tt) cap cap tt;
+      o = placed-in (sub-in (add-in fx across tt) half tt) y cap cap tt;
+      x = placed-in x (sub-in (add-in fy down tt) half tt) cap cap tt;
+      sq = placed-in (sub-in (sub-in fx across tt) half tt) y cap cap tt;
+    }
+
+-- ---- places
+pub record PlacesIn (p : Places) : Type 0 where
+  pub tri : OnScreen margin (p .tri)
+  pub o : OnScreen margin (p .o)
+  pub x : OnScreen margin (p .x)
+  pub sq : OnScreen margin (p .sq)
+  pub l1 : OnScreen margin (p .l1)
+  pub l2 : OnScreen margin (p .l2)
+  pub r2 : OnScreen margin (p .r2)
+  pub r1 : OnScreen margin (p .r1)
+  pub select : OnScreen margin (p .select)
+  pub start : OnScreen margin (p .start)
+  pub l3 : OnScreen margin (p .l3)
+  pub r3 : OnScreen margin (p .r3)
+
+at-in : {p : Places} → PlacesIn p → (label : Label) → OnScreen margin (atOf p label)
+unfolding atOf
+at-in P Tri = P .tri
+at-in P O = P .o
+at-in P X = P .x
+at-in P Sq = P .sq
+at-in P L1 = P .l1
+at-in P L2 = P .l2
+at-in P R2 = P .r2
+at-in P R1 = P .r1
+at-in P Select = P .select
+at-in P Start = P .start
+at-in P L3 = P .l3
+at-in P R3 = P .r3
+
+module _ {A : Type 0} (C : A → Type 0) (g : A → A) (made : (x : A) → C (g x)) where
+  each-mapFirst : (n : ℕ) (xs : List A) → Each C xs → Each C (mapFirst g n xs)
+  unfolding mapFirst
+  each-mapFirst zero xs e = e
+  each-mapFirst (suc n) [] e = tt
+  each-mapFirst (suc n) (x ∷ xs) e = (made x, each-mapFirst n xs (e .1))
+
+pub controls-placed : {D : Rect → Type 0} {l : Layout} {p : Places} → Every (OnScreen margin) D l → PlacesIn p → Every (OnScreen margin) D (placedOf l p)
+unfolding placedOf
+controls-placed {l = l} {p = p} L P =
+    record { dpad = L .dpad; controls = each-mapFirst (λ c. OnScreen margin (c .bounds)) (moved p) (λ c. at-in P (c .label)) (l .count) (l .controls) (L .controls); pause = L .pause; playback = L .playback; speed = L .speed; mute = L .mute; sticks = L .sticks }

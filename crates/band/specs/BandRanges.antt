@@ -1,0 +1,231 @@
+-- The layout of `controller_band` is in range.
+use mathlib.Core.Path.{_≡_, subst}
+use mathlib.Core.Bool.{Bool, true, false, cond, not, _||_}
+use mathlib.Core.List.{[]}
+use mathlib.Core.Option.{some, none}
+use Prim.Native.Nat.{ℕ, _+_}
+use native.Mathlib.Omega.{arith}
+use lib.Dec.{T}
+use lib.Ieee.{Float, lt, neg}
+use lib.ListN.{set}
+use Rattle.float.specs.Float.{_⊗_, k0, k1, k1·35, k122, k600, k800}
+use Rattle.float.specs.MinMax.{maxOf}
+use Rattle.geometry.specs.declared.Rect.{Rect}
+use Rattle.geometry.specs.Rect.{newOf, emptyRect}
+use Rattle.layout.specs.declared.Label.the-variants.{L3, R3}
+use Rattle.layout.specs.declared.Layout.{Layout}
+use Rattle.layout.specs.Layout.{withDpad}
+use Rattle.layout.specs.Psp.{pspInputsOf}
+use Rattle.numerics.specs.Value.{Le}
+use Rattle.numerics.specs.Rects.{Area, OnScreen, margin}
+use Rattle.numerics.specs.Range.{In, at, minus}
+use Rattle.numerics.specs.Each.{_&_}
+use Rattle.numerics.specs.Lists.{each-set}
+use Rattle.numerics.specs.Bounds.{lt-not}
+use Rattle.numerics.specs.Ranges.{in-more, most-in, add-in, sub-in, mul-in, times-in, div-in, min-in, max-in, clamp-in, cond-in, neg-in, raise, placed-in}
+use Rattle.numerics.specs.Products.{scaled-in}
+use Rattle.numerics.specs.Literals.{i0, i1, i2, i3, i4, i8, i16, i18, i24, i28, i48, i52, i56, i64, i72, i80, i100, i104, i112, i122, i128, i136, i160, i176, i184, i204, i272, i288, i480, f0·75, f2, f4, f52, psp-high}
+use Rattle.search.specs.Search.{placeGameInAspectOf}
+use Rattle.search.specs.Bounded.{Every, Arranged}
+use Rattle.search.proofs.Layouts.{place-bounded}
+use Rattle.search.proofs.Changes.{dpad-in, psp-in}
+use Rattle.toolbar.specs.Toolbar.{anchorToolbarOf}
+use Rattle.toolbar.specs.ToolbarRanges.{uncovered-in, anchor-in}
+use Rattle.arranged.specs.Places.{placedOf}
+use Rattle.arranged.specs.Arranged.{control, middle, arrangedOf}
+use Rattle.arranged.specs.PlaceRanges.{Coordinate, coordinate, cap-in, step-in, FacesIn, faces-in, PlacesIn, controls-placed}
+use Rattle.arranged.specs.ArrangedRanges.{arranged-in}
+use Rattle.band.specs.declared.Room.{Room}
+use Rattle.band.specs.declared.Band.{Band}
+use Rattle.band.specs.Band.{aspectOf, findRoomOf, measureBandOf, plainPlacesOf, deepPlacesOf, rowPlacesOf, bandPlacesOf, withAnalogOf, bandedOf, controllerBandOf}
+
+record RoomIn (r : Room) : Type 0 where
+  pub available : In (r .available) (minus 24576) (at 24576)
+  pub outer : In (r .outer) (at 8) (at 28)
+  pub face : In (r .face) (minus 24576) (at 184)
+
+room-in : {w h : Float} (analog psp : Bool) {picture : Rect} → In w (at 0) (at 8192) → In h (at 0) (at 8192) → Area picture → RoomIn (findRoomOf w h analog psp picture)
+unfolding findRoomOf
+room-in {w} {h} analog psp {picture} W H A =
+    let deep = findRoomOf w h analog psp picture .deep in
+    let high = cond-in psp (scaled-in 1 W i272 i480 psp-high tt) (mul-in W f0·75 tt) in
+    let available = in-more (minus 24576) (at 24576) (sub-in (sub-in H (add-in (add-in (most-in (A .y) tt) i18 tt) high tt) tt) i4 tt) tt tt in
+    let outer = cond-in deep i8 i28 in
+    let inner = sub-in W (times-in f2 outer tt) tt in
+    let wide = cond-in analog (div-in (sub-in (sub-in inner i16 tt) i204 tt) f4 tt) (div-in (sub-in inner i288 tt) f2 tt) in
+    record { available = available; outer = outer; face = in-more (minus 24576) (at 184) (cond-in deep i128 (min-in (min-in available wide) i184)) tt tt }
+
+record BandIn (b : Band) : Type 0 where
+  pub w : In (b .w) (at 0) (at 8192)
+  pub h : In (b .h) (at 0) (at 8192)
+  pub outer : In (b .outer) (at 8) (at 28)
+  pub face : In (b .face) (at 122) (at 184)
+  pub stick : In (b .stick) (at 122) (at 184)
+  pub x : In (b .x) (at 0) (at 256)
+  pub y : Coordinate (b .y)
+  pub faces : FacesIn (b .faces)
+
+measured-in : {w h : Float} (analog : Bool) {room : Room} → In w (at 0) (at 8192) → In h (at 0) (at 8192) → RoomIn room → In (room .face) (at 122) (at 184) → BandIn (measureBandOf w h analog room)
+unfolding measureBandOf
+measured-in analog {room} W H R face =
+    let stick = cond-in (room .deep) i176 face in
+    let gap = clamp-in (sub-in (sub-in (R .available) face tt) i48 tt) i8 i16 in
+    let low = sub-in H i4 tt in
+    let y = cond-in (room .deep) (sub-in (sub-in (sub-in low i48 tt) gap tt) face tt) (sub-in low face tt) in
+    let x = in-more (at 0) (at 256) (cond-in analog (add-in (add-in (R .outer) stick tt) i8 tt) (R .outer)) tt tt in
+    let cap = cap-in (in-more (at 122) (at 200) face tt tt) in
+    let half = div-in face f2 tt in
+    let step = step-in (div-in (sub-in face cap tt) f2 tt) tt tt in
+    record {
+      w = W;
+      h = H;
+      outer = R .outer;
+      face = face;
+      stick = stick;
+      x = x;
+      y = coordinate y tt;
+      faces = faces-in (coordinate (sub-in (sub-in W x tt) half tt) tt) (coordinate (add-in y half tt) tt) step step cap;
+    }
+
+-- ---- the places of the controls
+module _ {b : Band} (B : BandIn b) where
+  plain-in : PlacesIn (plainPlacesOf b)
+  unfolding plainPlacesOf
+  plain-in =
+      let x = add-in (add-in (B .outer) (B .face) tt) i8 tt in
+      let right = sub-in (B .w) x tt in
+      let half = div-in (B .w) f2 tt in
+      let low = sub-in (sub-in (B .h) i4 tt) i80 tt in
+      let none : OnScreen margin emptyRect = placed-in i0 i0 i0 i0 tt in
+      record {
+        tri = B .faces .tri;
+        o = B .faces .o;
+        x = B .faces .x;
+        sq = B .faces .sq;
+        l1 = placed-in x (B .y) i64 i64 tt;
+        l2 = placed-in (add-in x i72 tt) (B .y) i64 i64 tt;
+        r1 = placed-in (sub-in right i64 tt) (B .y) i64 i64 tt;
+        r2 = placed-in (sub-in right i136 tt) (B .y) i64 i64 tt;
+        select = placed-in (sub-in half i104 tt) low i80 i80 tt;
+        start = placed-in (add-in half i24 tt) low i80 i80 tt;
+        l3 = none;
+        r3 = none;
+      }
+
+  deep-in : PlacesIn (deepPlacesOf b)
+  unfolding deepPlacesOf
+  deep-in =
+      let right = sub-in (B .w) (B .x) tt in
+      let half = div-in (B .w) f2 tt in
+      let low = sub-in (sub-in (B .h) i4 tt) i48 tt in
+      let upper = sub-in low i48 tt in
+      record {
+        tri = B .faces .tri;
+        o = B .faces .o;
+        x = B .faces .x;
+        sq = B .faces .sq;
+        l1 = placed-in (B .x) low i48 i48 tt;
+        l2 = placed-in (add-in (B .x) i56 tt) low i48 i48 tt;
+        l3 = placed-in (add-in (B .x) i112 tt) low i48 i48 tt;
+        r1 = placed-in (sub-in right i48 tt) low i48 i48 tt;
+        r2 = placed-in (sub-in right i104 tt) low i48 i48 tt;
+        r3 = placed-in (sub-in right i160 tt) low i48 i48 tt;
+        select = placed-in (sub-in half i52 tt) upper i48 i48 tt;
+        start = placed-in (add-in half i4 tt) upper i48 i48 tt;
+      }
+
+  row-in : PlacesIn (rowPlacesOf b)
+  unfolding rowPlacesOf
+  row-in =
+      let x = div-in (sub-in (B .w) i204 tt) f2 tt in
+      let y = sub-in (sub-in (B .h) i4 tt) i100 tt in
+      let none = mul-in i0 f52 tt in
+      let one = mul-in i1 f52 tt in
+      let x0 = add-in x none tt in
+      let x1 = add-in x one tt in
+      let x2 = add-in x (mul-in i2 f52 tt) tt in
+      let x3 = add-in x (mul-in i3 f52 tt) tt in
+      let upper = add-in y none tt in
+      let lower = add-in y one tt in
+      record {
+        tri = B .faces .tri;
+        o = B .faces .o;
+        x = B .faces .x;
+        sq = B .faces .sq;
+        l1 = placed-in x0 upper i48 i48 tt;
+        l2 = placed-in x1 upper i48 i48 tt;
+        r2 = placed-in x2 upper i48 i48 tt;
+        r1 = placed-in x3 upper i48 i48 tt;
+        l3 = placed-in x0 lower i48 i48 tt;
+        select = placed-in x1 lower i48 i48 tt;
+        start = placed-in x2 lower i48 i48 tt;
+        r3 = placed-in x3 lower i48 i48 tt;
+      }
+
+  band-places-in : (analog deep : Bool) → PlacesIn (bandPlacesOf analog deep b)
+  band-places-in true true = deep-in
+  band-places-in true false = row-in
+  band-places-in false deep = plain-in
+
+-- ---- the layout
+pub with-analog-in : {C D : Rect → Type 0} {l : Layout} {l3 r3 left right : Rect} → Every C D l → C l3 → C r3 → C left → C right → Every C D (withAnalogOf l l3 r3 left right)
+unfolding withAnalogOf
+with-analog-in {C} {l = l} {l3 = l3} {r3 = r3} L e f left right =
+    record {
+      dpad = L .dpad;
+      controls = each-set (λ c. C (c .bounds)) (l .count + 1) (set (l .controls) (l .count) (control l3 L3)) (control r3 R3) (each-set (λ c. C (c .bounds)) (l .count) (l .controls) (control l3 L3) (L .controls) e) f;
+      pause = L .pause;
+      playback = L .playback;
+      speed = L .speed;
+      mute = L .mute;
+      sticks = left & right & tt;
+    }
+
+banded-in : {w h : Float} (analog deep : Bool) {b : Band} → In w (at 0) (at 8192) → In h (at 0) (at 8192) → BandIn b → Arranged (bandedOf w h analog deep b)
+unfolding bandedOf
+banded-in {w} {h} analog deep {b} W H B = go analog
+  where
+    placed : (a : Bool) → Arranged (withDpad (placedOf (arrangedOf w h false) (bandPlacesOf a deep b)) (newOf (b .x) (b .y) (b .face) (b .face)))
+    placed a = dpad-in (controls-placed (arranged-in false W H) (band-places-in B a deep)) (placed-in (B .x) (B .y) (B .face) (B .face) tt)
+
+    go : (a : Bool) → Arranged (bandedOf w h a deep b)
+    go false = placed false
+    go true =
+        let y = sub-in (sub-in H i4 tt) (B .stick) tt in
+        let places = band-places-in B true deep in
+        with-analog-in (placed true) (places .l3) (places .r3) (placed-in (B .outer) y (B .stick) (B .stick) tt) (placed-in (sub-in (sub-in W (B .outer) tt) (B .stick) tt) y (B .stick) (B .stick) tt)
+
+pub band-in : {w h : Float} (analog psp : Bool) {picture : Rect} {l : Layout} → In w (at 0) (at 8192) → In h (at 0) (at 8192) → Area picture → controllerBandOf w h analog psp picture ≡ some l → Arranged l
+unfolding controllerBandOf
+band-in {w} {h} analog psp {picture} {l} W H A e = go (lt w k800 || (lt h k600 || lt (h ⊗ k1·35) w)) (lt (room .face) k122) (λ t. found (lt-not 1 (room .face) k122 (R .face .whole) (i122 .whole) t)) e
+  where
+    room : Room
+    room = findRoomOf w h analog psp picture
+
+    R : RoomIn room
+    R = room-in analog psp W H A
+
+    anchored : Layout
+    anchored = anchorToolbarOf (bandedOf w h analog (room .deep) (measureBandOf w h analog room)) w h (maxOf (neg (picture .y)) k0) k0 []
+
+    game : Layout
+    game = placeGameInAspectOf (cond psp (pspInputsOf anchored) anchored) picture false k1 middle (aspectOf psp)
+
+    inputs : (b : Bool) → Arranged anchored → Arranged (cond b (pspInputsOf anchored) anchored)
+    inputs true L = psp-in L
+    inputs false L = L
+
+    found : Le 1 k122 (room .face) → Arranged game
+    found k =
+        let banded = bandedOf w h analog (room .deep) (measureBandOf w h analog room) in
+        let L = banded-in analog (room .deep) W H (measured-in analog W H R (raise (R .face) i122 k)) in
+        let top = max-in (neg-in (most-in (A .y) tt) tt) i0 in
+        place-bounded (inputs psp (anchor-in banded [] W H top (in-more (minus 8192) (at 8192) i0 tt tt) (uncovered-in banded [] tt) L)) picture false k1 middle (aspectOf psp)
+
+    no : {C : Type 0} → none ≡ some l → C
+    no q = let z : _≡_ {A = ℕ} 0 1 = cc in absurd (omega arith)
+
+    go : (b c : Bool) → (T (not c) → Arranged game) → cond b none (cond c none (some game)) ≡ some l → Arranged l
+    go true c f q = no q
+    go false true f q = no q
+    go false false f q = let same : game ≡ l = cc in subst Arranged same (f tt)

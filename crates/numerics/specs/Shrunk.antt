@@ -1,0 +1,158 @@
+-- A number scaled down, x * y / z with y at most z, as `analog_default` does on a small surface: it keeps its sign, and so its range but for 11/256.
+use mathlib.Core.Path.{_≡_, refl, ap, _∙_}
+use mathlib.Core.Bool.{Bool, true, false, cond, _&&_}
+use Prim.Native.Nat.{ℕ, zero, suc, _+_, _-_, _*_, _≤_, _<_, _^_}
+use native.Mathlib.Nat.{mul-le-mul-left}
+use native.Mathlib.Omega.{arith}
+use lib.Dec.{T, leb, ltb, ltb→lt}
+use lib.Ieee.{Float, nan, inf, fin, binary32, prec, emax, low, up, down, unlike, odd, units, round, mul, div}
+use lib.Ieee.Fits.{and-l, and-r, round-is}
+use lib.Ieee.Order.{drop, kept}
+use Rattle.float.specs.Float.{_⊗_, _⊘_}
+use Rattle.geometry.specs.declared.Rect.{Rect}
+use Rattle.geometry.specs.Rect.{newOf}
+use Rattle.numerics.specs.Value.{magnitude, sign, Whole, posIf, negIf, posPart, negPart, eps, limit, Le}
+use Rattle.numerics.specs.Range.{In, at, minus, reach}
+use Rattle.numerics.specs.Rects.{maxArea, Placed, margin}
+use Rattle.numerics.specs.Operations.{div-open, magnitude-pos}
+use Rattle.numerics.specs.Bounds.{eps-pos, most-more}
+use Rattle.numerics.specs.Ranges.{in-more, most-in, range-most}
+use Rattle.numerics.specs.Products.{scaledable, scaled-in, le-magnitude}
+
+-- ---- signs
+odd-sign : (d : ℕ) (s : Bool) (q k l : ℕ) → sign (odd d s q k l) ≡ s
+unfolding odd
+odd-sign d s zero k l = refl
+odd-sign d s (suc q) k l = refl
+
+units-sign : (s : Bool) (q k : ℕ) → sign (units binary32 s q k) ≡ s
+unfolding units
+units-sign s q k = go (ltb (q * 2 ^ k) (2 ^ (low binary32 + suc (emax binary32))))
+  where
+    go : (b : Bool) → sign (cond b (odd (suc (prec binary32)) s q k (low binary32)) (inf s)) ≡ s
+    go true = odd-sign (suc (prec binary32)) s q k (low binary32)
+    go false = refl
+
+round-sign : (s : Bool) (a c : ℕ) → sign (round binary32 s a c) ≡ s
+round-sign s a c = ap sign (round-is binary32 s a c) ∙ units-sign s (kept 24 (a * 2 ^ 149) c) (drop 24 (a * 2 ^ 149) c)
+
+mul-sign : (x y : Float) → Whole x → Whole y → sign (x ⊗ y) ≡ unlike (sign x) (sign y)
+unfolding mul
+mul-sign nan y p q = absurd p
+mul-sign (inf s) y p q = absurd p
+mul-sign (fin s m e) nan p q = absurd q
+mul-sign (fin s m e) (inf t) p q = absurd q
+mul-sign (fin s m e) (fin t n d) p q = round-sign (unlike s t) (m * up e * (n * up d)) (down e * down d)
+
+div-sign : (x z : Float) → Whole (x ⊘ z) → Whole z → 0 < magnitude z → sign (x ⊘ z) ≡ unlike (sign x) (sign z)
+div-sign nan nan p q g = absurd q
+div-sign nan (inf t) p q g = absurd q
+div-sign nan (fin t n d) p q g = absurd (unfold div in p)
+div-sign (inf s) nan p q g = absurd q
+div-sign (inf s) (inf t) p q g = absurd q
+div-sign (inf s) (fin t n d) p q g = absurd (unfold div in p)
+div-sign (fin s m e) nan p q g = absurd q
+div-sign (fin s m e) (inf t) p q g = absurd q
+div-sign (fin s m e) (fin t n d) p q g = ap sign (div-open s t m e n d (magnitude-pos t n d q g)) ∙ round-sign (unlike s t) (m * up e * down d) (n * up d * down e)
+
+-- the parts of a number by its sign
+record Parts (s : Bool) (x : Float) : Type 0 where
+  pub pos : posPart x ≡ posIf s (magnitude x)
+  pub neg : negPart x ≡ negIf s (magnitude x)
+
+parts : (x : Float) (s : Bool) → sign x ≡ s → Parts s x
+unfolding posPart negPart
+parts x s q = record { pos = ap (λ (t : Bool). posIf t (magnitude x)) q; neg = ap (λ (t : Bool). negIf t (magnitude x)) q }
+
+record Positive (y : Float) : Type 0 where
+  pub plus : sign y ≡ false
+  pub size : 0 < magnitude y
+
+positive : {y : Float} {a b : ℕ} → In y a b → T (ltb limit a) → Positive y
+positive {y} {a} i t = go (sign y) refl (parts y (sign y) refl) (mul-le-mul-left eps (ltb→lt limit a t)) eps-pos
+  where
+    go : (s : Bool) → sign y ≡ s → Parts s y → eps * suc limit ≤ eps * a → 0 < eps → Positive y
+    go false q v k e = record { plus = q; size = omega (arith, i .lo, v .pos) }
+    go true q v k e = absurd (let z : ⊥ = omega (arith, i .lo, v .pos) in z)
+
+-- ---- y from 1 to 8192, and at most z, which is 360 at least
+pub record Shrinks (y z : Float) : Type 0 where
+  pub part : In y (at 1) (at 8192)
+  pub full : In z (at 360) (at 8192)
+  pub less : Le 1 y z
+
+abbrev pub shrinkable : ℕ → ℕ → Bool
+shrinkable a b = scaledable 1 a b (at 1) (at 8192) (at 360)
+
+module _ {y z : Float} (S : Shrinks y z) where
+  shrunk-sign : (x : Float) → Whole x → Whole (x ⊗ y ⊘ z) → sign (x ⊗ y ⊘ z) ≡ sign x
+  shrunk-sign x p r =
+      let Y = positive (S .part) tt in
+      let Z = positive (S .full) tt in
+      rw (div-sign (x ⊗ y) z r (S .full .whole) (Z .size), mul-sign x y p (S .part .whole), Y .plus, Z .plus) (like (sign x))
+    where
+      like : (s : Bool) → unlike (unlike s false) false ≡ s
+      like false = refl
+      like true = refl
+
+  shrunk : {x : Float} {a b : ℕ} → In x a b → T (shrinkable a b) → In (x ⊗ y ⊘ z) (limit - (reach a b * 1 + 11)) (limit + (reach a b * 1 + 11))
+  shrunk i t = scaled-in 1 i (S .part) (S .full) (le-magnitude z (S .part) tt (S .less)) t
+
+  pub shrunk-in : {x : Float} {a b : ℕ} → In x a b → T (shrinkable a limit) → T (shrinkable limit b) → In (x ⊗ y ⊘ z) (limit - (reach a limit * 1 + 11)) (limit + (reach limit b * 1 + 11))
+  shrunk-in {x} {a} {b} i t u = go (sign x) (parts x (sign x) refl) refl
+    where
+      r : Float
+      r = x ⊗ y ⊘ z
+
+      lower : (k : ℕ) → eps * (limit - k) ≤ eps * limit
+      lower k = mul-le-mul-left eps (omega arith)
+
+      upper : (k : ℕ) → eps * limit ≤ eps * (limit + k)
+      upper k = mul-le-mul-left eps (omega arith)
+
+      go : (s : Bool) → Parts s x → sign x ≡ s → In r (limit - (reach a limit * 1 + 11)) (limit + (reach limit b * 1 + 11))
+      go false v q =
+          let near = shrunk {a = limit} {b = b} (record { whole = i .whole; lo = omega (arith, v .neg); hi = i .hi }) u in
+          let w = parts r false (shrunk-sign x (i .whole) (near .whole) ∙ q) in
+          record { whole = near .whole; lo = omega (arith, w .neg, lower (reach a limit * 1 + 11)); hi = near .hi }
+      go true v q =
+          let near = shrunk {a = a} {b = limit} (record { whole = i .whole; lo = i .lo; hi = omega (arith, v .pos) }) t in
+          let w = parts r true (shrunk-sign x (i .whole) (near .whole) ∙ q) in
+          record { whole = near .whole; lo = near .lo; hi = omega (arith, w .pos, upper (reach limit b * 1 + 11)) }
+
+-- ---- a rectangle of an arrangement, which may lie a little further off the screen then
+abbrev pub shrunkMargin : ℕ
+shrunkMargin = 1024
+
+-- both ends of a range, shrunk, lie in another
+abbrev shrinksInto : ℕ → ℕ → ℕ → ℕ → Bool
+shrinksInto a b a' b' = (shrinkable a limit && shrinkable limit b) && (leb a' (limit - (reach a limit * 1 + 11)) && leb (limit + (reach limit b * 1 + 11)) b')
+
+shrunk-into : {x y z : Float} {a b : ℕ} (a' b' : ℕ) → Shrinks y z → In x a b → T (shrinksInto a b a' b') → In (x ⊗ y ⊘ z) a' b'
+shrunk-into {a = a} {b = b} a' b' S i t =
+    let t1 : Bool = shrinkable a limit in
+    let t2 : Bool = shrinkable limit b in
+    let t3 : Bool = leb a' (limit - (reach a limit * 1 + 11)) in
+    let t4 : Bool = leb (limit + (reach limit b * 1 + 11)) b' in
+    let s = and-l (t1 && t2) (t3 && t4) t in
+    let u = and-r (t1 && t2) (t3 && t4) t in
+    in-more a' b' (shrunk-in S i (and-l t1 t2 s) (and-r t1 t2 s)) (and-l t3 t4 u) (and-r t3 t4 u)
+
+pub shrunk-placed : {above : ℕ} {r : Rect} {w h w' h' : Float} → Shrinks w w' → Shrinks h h' → Placed above margin r → T (shrinksInto (minus (above + margin)) (at (8192 + margin)) (minus (above + shrunkMargin)) (at (8192 + shrunkMargin)))
+    → Placed above shrunkMargin (newOf (r .x ⊗ w ⊘ w') (r .y ⊗ h ⊘ h') (r .w ⊗ w ⊘ w') (r .h ⊗ h ⊘ h'))
+shrunk-placed {above} W H P t =
+    record {
+      x = shrunk-into (minus shrunkMargin) (at (8192 + shrunkMargin)) W (P .x) tt;
+      y = shrunk-into (minus (above + shrunkMargin)) (at (8192 + shrunkMargin)) H (P .y) t;
+      w = range-most (maxArea + shrunkMargin) (shrunk W (most-in (P .w) tt) tt) tt;
+      h = range-most (maxArea + shrunkMargin) (shrunk H (most-in (P .h) tt) tt) tt;
+    }
+
+pub placed-shrunk : {above : ℕ} {r : Rect} → Placed above margin r → T (leb (minus (above + shrunkMargin)) (minus (above + margin))) → Placed above shrunkMargin r
+placed-shrunk {above} P t =
+    record {
+      x = in-more (minus shrunkMargin) (at (8192 + shrunkMargin)) (P .x) tt tt;
+      y = in-more (minus (above + shrunkMargin)) (at (8192 + shrunkMargin)) (P .y) t tt;
+      w = most-more (P .w) (maxArea + shrunkMargin) tt;
+      h = most-more (P .h) (maxArea + shrunkMargin) tt;
+    }

@@ -1,0 +1,146 @@
+-- The toolbar's keys are in range: `anchor_toolbar` keeps a layout in range.
+use mathlib.Core.Path.{_≡_, sym, ap, _∙_}
+use mathlib.Core.Bool.{Bool, true, false, cond, not, _&&_}
+use mathlib.Core.List.{List, [], _∷_, _++_, map}
+use Prim.Native.Nat.{ℕ, zero, suc, _+_, _-_, _*_, _≤_}
+use native.Mathlib.Nat.{mul-add, sub-add-cancel}
+use native.Mathlib.Omega.{arith}
+use lib.Dec.{T, leb, ltb, leb→le}
+use lib.Ieee.{Float, lt, le, ofBits}
+use lib.Ieee.Fits.{and-l, and-r}
+use lib.ListN.{length}
+use Rattle.float.specs.Float.{_⊕_, _⊖_, _⊘_, k0, k0·01, k2, k8, k320}
+use Rattle.geometry.specs.declared.Rect.{Rect}
+use Rattle.geometry.specs.Rect.{overlapsOf}
+use Rattle.layout.specs.declared.Layout.{Layout}
+use Rattle.layout.specs.Layout.{elementOf, controlsOf, sticksOf}
+use Rattle.layout.specs.Elements.{boundsOf, controllerElementsOf}
+use Rattle.layout.specs.ElementLaws.{controller-elements}
+use Rattle.layout.specs.Lists.{anyOf, find}
+use Rattle.numerics.specs.Value.{eps, limit}
+use Rattle.numerics.specs.Rects.{Element, Key, margin}
+use Rattle.numerics.specs.Range.{In, at, minus, reach}
+use Rattle.numerics.specs.Each.{Each, _&_}
+use Rattle.numerics.specs.Lists.{each-take, each-append, each-map}
+use Rattle.numerics.specs.Operations.{sub-near}
+use Rattle.numerics.specs.Bounds.{room, lt-law}
+use Rattle.numerics.specs.Ranges.{in-reach, in-more, most-in, add-in, subable, sub-in, times-in, mul-in, div-in, min-in, max-in, clamp-in, cond-in, neg-in, raise, moved-in, placed-in}
+use Rattle.numerics.specs.Products.{product-most}
+use Rattle.numerics.specs.Literals.{i0, i0·01, i1, i1·4, i8, i18, i28, i40, f0·01, f0·055, f2, f3, f4}
+use Rattle.search.specs.Bounded.{Every, Bounded}
+use Rattle.toolbar.specs.Toolbar.{besideOf, roomOf, belowOf, moved, pass, pairOf, avoidedOf, anchorToolbarOf}
+
+-- the lower end of x from that of x - y
+above-in : {x y : Float} {a b c d e f : ℕ} → In x a b → In y c d → In (x ⊖ y) e f → T (subable a b c d) → T (leb (limit + 1) (e + c)) → In x (e + c - (limit + 1)) b
+above-in {x} {y} {a} {b} {c} {d} {e} i j k t u =
+    let n = sub-near x y (i .whole) (j .whole) (room x y (reach a b) (reach c d) (in-reach i) (in-reach j) (and-l (ltb (reach a b + reach c d) limit) (leb (d + 1) (a + limit) && leb c (b + limit + 1)) t)) in
+    let m : eps * (e + c - (limit + 1)) + eps * (limit + 1) ≡ eps * (e + c) = sym (mul-add eps (e + c - (limit + 1)) (limit + 1)) ∙ ap (λ (z : ℕ). eps * z) (sub-add-cancel (leb→le (limit + 1) (e + c) u)) in
+    record { whole = i .whole; lo = omega (arith, n .over, j .lo, k .lo, m); hi = i .hi }
+
+-- what is found holds
+module _ {A B : Type 0} (C : B → Type 0) (D : A → Type 0) (p : A → Bool) (hit : A → B) (none : B) (found : (x : A) → D x → T (p x) → C (hit x)) (otherwise : C none) where
+  find-ind : (xs : List A) → Each D xs → C (find p hit none xs)
+  find-ind [] e = otherwise
+  find-ind (x ∷ xs) e = go (p x) (found x (e .0)) (find-ind xs (e .1))
+    where
+      go : (b : Bool) → (T b → C (hit x)) → C (find p hit none xs) → C (cond b (hit x) (find p hit none xs))
+      go true f k = f tt
+      go false f k = k
+
+-- ---- the bar of a pair of keys
+record BarIn (bar : Rect) : Type 0 where
+  pub x : In (bar .x) (minus 128) (at 8320)
+  pub y : In (bar .y) (minus 8193) (at 8193)
+  pub w : In (bar .w) (minus 64) (at 128)
+  pub h : In (bar .h) (at 0) (at 18)
+
+module _ (left : Bool) {w h : Float} (W : In w (at 0) (at 8192)) (H : In h (at 0) (at 8192)) (obstacles : List Rect) where
+  -- it is at least 0 and ends within the screen
+  beside-in : (bar c : Rect) → BarIn bar → Element c → T (roomOf (besideOf bar left c) left w) → BarIn (besideOf bar left c)
+  unfolding besideOf roomOf
+  beside-in bar c B E t =
+      let x = most-in (E .x) tt in
+      let s : Float = cond left (c .x ⊕ c .w ⊕ k8) (c .x ⊖ bar .w ⊖ k8) in
+      let t2 : Bool = le (s ⊕ bar .w) w in
+      let t3 : Bool = cond left (le (s ⊕ bar .w) (w ⊘ k2)) (le (w ⊘ k2) s) in
+      let shifted = in-reach (cond-in left (add-in (add-in x (most-in (E .w) tt) tt) i8 tt) (sub-in (sub-in x (B .w) tt) i8 tt)) in
+      record { x = in-more (minus 128) (at 8320) (moved-in shifted (B .w) W tt tt (and-l (le k0 s) (t2 && t3) t) (and-l t2 t3 (and-r (le k0 s) (t2 && t3) t))) tt tt; y = B .y; w = B .w; h = B .h }
+
+  -- the bar overlaps c, and so the lower edge of c is no higher than the bar
+  below-in : (bar c : Rect) → BarIn bar → Element c → T (overlapsOf bar c) → BarIn (belowOf bar h c)
+  unfolding belowOf overlapsOf
+  below-in bar c B E t =
+      let t1 : Bool = lt (bar .x) (c .x ⊕ c .w ⊖ k0·01) in
+      let t2 : Bool = lt (c .x ⊕ k0·01) (bar .x ⊕ bar .w) in
+      let t3 : Bool = lt (bar .y) (c .y ⊕ c .h ⊖ k0·01) in
+      let t4 : Bool = lt (c .y ⊕ k0·01) (bar .y ⊕ bar .h) in
+      let over = and-l t3 t4 (and-r t2 (t3 && t4) (and-r t1 (t2 && (t3 && t4)) t)) in
+      let bottom = add-in (most-in (E .y) tt) (most-in (E .h) tt) tt in
+      let less = sub-in bottom i0·01 tt in
+      let lower = above-in bottom i0·01 (raise less (B .y) (lt-law 1 (bar .y) (c .y ⊕ c .h ⊖ k0·01) (B .y .whole) (less .whole) over)) tt tt in
+      record { x = B .x; y = in-more (minus 8193) (at 8193) (min-in (add-in lower i8 tt) (max-in (sub-in H (B .h) tt) i0)) tt tt; w = B .w; h = B .h }
+
+  moved-bar : (bar c : Rect) → BarIn bar → Element c → T (overlapsOf bar c) → BarIn (moved left w h obstacles bar c)
+  unfolding moved
+  moved-bar bar c B E t =
+      let r : Bool = roomOf (besideOf bar left c) left w in
+      let f : Bool = not (anyOf (overlapsOf (besideOf bar left c)) obstacles) in
+      go (r && f) (λ s. beside-in bar c B E (and-l r f s)) (below-in bar c B E t)
+    where
+      go : (b : Bool) → (T b → BarIn (besideOf bar left c)) → BarIn (belowOf bar h c) → BarIn (cond b (besideOf bar left c) (belowOf bar h c))
+      go true f k = f tt
+      go false f k = k
+
+  pass-in : Each Element obstacles → (turns : ℕ) (bar : Rect) → BarIn bar → BarIn (pass left w h obstacles turns bar)
+  unfolding pass
+  pass-in O zero bar B = B
+  pass-in O (suc turns) bar B =
+      find-ind BarIn Element (overlapsOf bar) (λ c. pass left w h obstacles turns (moved left w h obstacles bar c)) bar (λ c E t. pass-in O turns (moved left w h obstacles bar c) (moved-bar bar c B E t)) B obstacles O
+
+-- ---- the obstacles
+module _ (l : Layout) (coveredTop : Float) (cutouts : List Rect) where
+  pub avoided-in : l .count ≤ length (l .controls) → l .stickcount ≤ length (l .sticks) → Bounded l → Each Element cutouts → Each Element (avoidedOf l coveredTop cutouts)
+  unfolding avoidedOf
+  avoided-in cs ss L O = go (lt k0 coveredTop)
+    where
+      controls : Each Element (map (elementOf l) (controllerElementsOf l))
+      controls =
+          rw (controller-elements l cs ss)
+          (L .dpad & each-append Element (boundsOf l) (sticksOf l) (each-map Element (λ c. c .bounds) (controlsOf l) (each-take (λ c. Element (c .bounds)) (l .count) (l .controls) (L .controls))) (each-take Element (l .stickcount) (l .sticks) (L .sticks)))
+
+      go : (b : Bool) → Each Element (cond b (cutouts ++ map (elementOf l) (controllerElementsOf l)) cutouts)
+      go true = each-append Element cutouts (map (elementOf l) (controllerElementsOf l)) O controls
+      go false = O
+
+-- where no decoration shows, only the cutouts
+pub uncovered-in : (l : Layout) (cutouts : List Rect) → Each Element cutouts → Each Element (avoidedOf l k0 cutouts)
+unfolding avoidedOf lt ofBits
+uncovered-in l cutouts O = O
+
+-- ---- the keys
+pub anchor-in : {C D : Rect → Type 0} (l : Layout) {w h reusableTop coveredTop : Float} (cutouts : List Rect)
+    → In w (at 0) (at 8192) → In h (at 0) (at 8192) → In reusableTop (at 0) (at 8192) → In coveredTop (minus 8192) (at 8192) → Each Element (avoidedOf l coveredTop cutouts)
+    → Every C D l → Every C (Key margin) (anchorToolbarOf l w h reusableTop coveredTop cutouts)
+unfolding anchorToolbarOf pairOf
+anchor-in l {w} {coveredTop = coveredTop} cutouts W H R C O L =
+    let obstacles = avoidedOf l coveredTop cutouts in
+    let padding = min-in i28 (mul-in W f0·055 tt) in
+    let gap = min-in i8 (mul-in W f0·01 tt) in
+    let share = max-in (div-in (sub-in (sub-in W (times-in f2 padding tt) tt) (times-in f3 gap tt) tt) f4 tt) i1 in
+    let size = min-in (min-in (min-in i40 share) H) W in
+    let height = min-in size i18 in
+    let time = most-in (product-most 14360 (in-reach size) (in-reach (cond-in (le k320 w) i1·4 i1)) tt tt) tt in
+    let up = neg-in R tt in
+    let top = in-more (minus 8193) (at 8193) (clamp-in (add-in up C tt) up (max-in (sub-in H height tt) i0)) tt tt in
+    let right = sub-in (sub-in (sub-in (sub-in W padding tt) size tt) size tt) gap tt in
+    let a = pass-in true W H obstacles O (length obstacles + 1) _ (record { x = in-more (minus 128) (at 8320) padding tt tt; y = top; w = in-more (minus 64) (at 128) (add-in (add-in size gap tt) time tt) tt tt; h = height }) in
+    let b = pass-in false W H obstacles O (length obstacles + 1) _ (record { x = in-more (minus 128) (at 8320) right tt tt; y = top; w = in-more (minus 64) (at 128) (add-in (times-in f2 size tt) gap tt) tt tt; h = height }) in
+    record {
+      dpad = L .dpad;
+      controls = L .controls;
+      playback = placed-in (a .x) (a .y) size height tt;
+      speed = placed-in (add-in (add-in (a .x) size tt) gap tt) (a .y) time height tt;
+      mute = placed-in (b .x) (b .y) size height tt;
+      pause = placed-in (add-in (add-in (b .x) size tt) gap tt) (b .y) size height tt;
+      sticks = L .sticks;
+    }
