@@ -177,7 +177,7 @@ pub fn placed(l: Layout, places: Places) -> Layout
 }
 
 // The layout with the toolbar at its place and the largest game that is clear of all elements.
-fn finished(l: Layout, w: f32, h: f32) -> Layout
+pub fn finished(l: Layout, w: f32, h: f32) -> Layout
     requires { ⌜ (l .count ≤ 12) × (l .stickcount ≤ 2) ⌝ }
     ensures { λ r. ⌜ (r ≡ finishedOf l w h) × (r .count ≡ l .count) × (r .stickcount ≡ l .stickcount) ⌝ }
 {

@@ -57,7 +57,7 @@ module _ (l : Layout) where
   with-inputs false true i = psp-inputs standardLabels 0 refl i
 
 -- what a layout is, where two tests may leave none
-given : (a b : Bool) (x y : Layout) → cond a none (cond b none (some x)) ≡ some y → x ≡ y
+pub given : (a b : Bool) (x y : Layout) → cond a none (cond b none (some x)) ≡ some y → x ≡ y
 given true b x y e = absurd (Option·none-ne-some y e)
 given false true x y e = absurd (Option·none-ne-some y e)
 given false false x y e = Option·some-injective x y e

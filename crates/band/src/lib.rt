@@ -309,7 +309,7 @@ fn band_places(analog: bool, deep: bool, b: Band) -> Places
 }
 
 // L3, R3 and the two sticks added.
-fn with_analog(l: Layout, l3: Rect, r3: Rect, left: Rect, right: Rect) -> Layout
+pub fn with_analog(l: Layout, l3: Rect, r3: Rect, left: Rect, right: Rect) -> Layout
     requires { ⌜ l .count ≤ 10 ⌝ }
     ensures { λ r. ⌜ (r ≡ withAnalogOf l l3 r3 left right) × (r .count ≡ l .count + 2) × (r .stickcount ≡ 2) ⌝ }
 {

@@ -1,0 +1,23 @@
+use mathlib.Core.Path.{refl, ap}
+use borrow.Author.Needs.{needs}
+use Rattle.layout.specs.declared.Layout.{Layout}
+use Rattle.layout.specs.Elements.{setElementsOf}
+use Rattle.defaults.specs.Defaults.{shrunkOf}
+use Rattle.defaults.proofs.shrunk.Statement.{statement}
+use Rattle.defaults.proofs.shrunk.Tie as tie
+
+returns : tie.Need-returns
+unfolding shrunkOf
+returns c =
+    let e = c .set-elements .ensures in (
+      rw (← c .before .before .elements .ensures .0, ← c .before .scaled .ensures .0, c .before .before .before .if1 .taken) e,
+      unfold setElementsOf in (ap (λ (l : Layout). l .count) e),
+      unfold setElementsOf in (ap (λ (l : Layout). l .stickcount) e),
+    )
+
+returns-2 : tie.Need-returns-2
+unfolding shrunkOf
+returns-2 c = (rw (c .if1 .left), refl, refl)
+
+pub shrunk-spec : {M : Type 1} → statement M
+shrunk-spec = tie.close (tie.spec (λ c κs. search needs) (λ c κs. search needs) (λ c κs. search needs) returns returns-2)

@@ -1,0 +1,32 @@
+use borrow.Author.Needs.{needs}
+use Rattle.defaults.specs.Defaults.{sizeHalvesOf}
+use Rattle.defaults.proofs.size_halves.Statement.{statement}
+use Rattle.defaults.proofs.size_halves.Tie as tie
+
+returns : tie.Need-returns
+unfolding sizeHalvesOf
+returns c =
+    let p = c .before .before .before .before in
+    rw (
+      ← p .before .before .before .before .clamp .ensures,
+      ← p .before .before .before .pick .ensures,
+      ← p .before .before .clamp2 .ensures,
+      ← p .before .pick2 .ensures,
+      ← p .clamp3 .ensures,
+    )
+    (rw (← c .before .before .before .clamp4 .ensures, ← c .before .before .pick3 .ensures, ← c .before .max .ensures, ← c .pick4 .ensures))
+
+pub size-halves-spec : {M : Type 1} → statement M
+size-halves-spec =
+    tie.close
+    (tie.spec
+    (λ c κs. search needs)
+    (λ c κs. search needs)
+    (λ c κs. search needs)
+    (λ c κs. search needs)
+    (λ c κs. search needs)
+    (λ c κs. search needs)
+    (λ c κs. search needs)
+    (λ c κs. search needs)
+    (λ c κs. search needs)
+    returns)

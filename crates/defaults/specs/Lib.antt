@@ -1,0 +1,3 @@
+pub mod Defaults
+pub mod DefaultCases
+pub mod DefaultLabels
