@@ -208,6 +208,28 @@ pub fn viewport(r: &mut Random) -> PlayerViewport {
     }
 }
 
+/// Up to `most` rectangles on a coarse grid, so that edges and whole
+/// rectangles coincide, and sizes may be zero or negative.
+pub fn stacked(r: &mut Random, most: i64, [w, h]: [f32; 2]) -> Vec<Rect> {
+    let part = |r: &mut Random, low, of: f32| r.whole(low, 8) as f32 * (of / 8.).round();
+    r.list(0, most, |r| {
+        let (x, y) = (part(r, 0, w), part(r, 0, h));
+        Rect::new(x, y, part(r, -1, w / 2.), part(r, -1, h / 2.))
+    })
+}
+
+/// A layout of any kind, each rectangle of which has no limits.
+pub fn any_layout(r: &mut Random) -> LayoutData {
+    let mut layout = r.pick(&[access::new, access::analog_default, access::psp])(800., 600.);
+    for index in 0..access::element_count(&layout) {
+        layout = access::set_element(&layout, index, any_rect(r));
+    }
+    LayoutData {
+        game: any_rect(r),
+        ..layout
+    }
+}
+
 /// A layout for a screen: one that the Rust arranges, with some elements
 /// moved.
 pub fn layout(r: &mut Random, screen: [f32; 2]) -> LayoutData {

@@ -3,7 +3,13 @@
 pub mod driver;
 pub mod generate;
 pub mod hypot;
+#[cfg(feature = "probe")]
+pub mod inner;
+#[cfg(feature = "probe")]
+pub mod lent;
 #[cfg(feature = "library")]
 pub mod library;
+#[cfg(feature = "probe")]
+pub mod masks;
 pub mod nearest;
 pub mod random;

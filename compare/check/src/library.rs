@@ -3,7 +3,7 @@ use crate::{
     driver::{Comparison, compare},
     generate::integers,
 };
-use ours::Answer;
+use ours::library::{self, Answer};
 use player::{Rect, access};
 
 pub fn comparisons() -> Vec<Comparison> {
@@ -17,7 +17,7 @@ pub fn comparisons() -> Vec<Comparison> {
             },
             |(size, inset_size, edges)| {
                 let numbers = [&size[..], inset_size, edges].concat();
-                ours::safe_content(&numbers).map(|[x, y, w, h]| Rect::new(x, y, w, h))
+                library::safe_content(&numbers).map(|[x, y, w, h]| Rect::new(x, y, w, h))
             },
             |&(size, inset_size, edges)| {
                 on_the_scale(&[&size[..], &inset_size, &edges].concat())?;
@@ -36,7 +36,7 @@ pub fn comparisons() -> Vec<Comparison> {
             },
             |(decoration, navigation, camera, local)| {
                 let numbers = [&decoration[..], navigation, camera].concat();
-                ours::safe_edges(&numbers, (*local).into())
+                library::safe_edges(&numbers, (*local).into())
             },
             |&(decoration, navigation, camera, local)| {
                 on_the_scale(&[decoration, navigation, camera].concat())?;

@@ -18,6 +18,8 @@ fn comparisons() -> Vec<Comparison> {
     let list = check::hypot::comparisons();
     #[cfg(feature = "library")]
     let list = list.chain(check::library::comparisons());
+    #[cfg(feature = "probe")]
+    let list = list.chain(check::inner::comparisons());
     list.collect()
 }
 

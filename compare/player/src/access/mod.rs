@@ -1,6 +1,7 @@
 //! The functions of input.rs as functions of plain data. The build script
 //! makes this file a child module of input.rs, which is `super` here.
 mod data;
+pub mod native;
 
 pub use super::picture::access as picture;
 use super::{Layout, PictureFit, PlayerViewport, Preset, Rect};

@@ -1,0 +1,75 @@
+//! Plain data as the inner functions take it.
+use ours::probe::{Layout, List, Rects};
+use player::{
+    Rect,
+    access::{ControlData, LayoutData},
+};
+
+/// The labels of each kind of layout and its number of sticks.
+const KINDS: [(&[usize], usize); 3] = [
+    (&[0, 1, 2, 3, 4, 5, 6, 7, 8, 9], 0),
+    (&[0, 1, 2, 3, 4, 5, 6, 7, 8, 9, 10, 11], 2),
+    (&[0, 1, 2, 3, 4, 7, 8, 9], 1),
+];
+
+fn numbers(r: Rect) -> [f32; 4] {
+    [r.x, r.y, r.w, r.h]
+}
+
+pub fn rect([x, y, w, h]: [f32; 4]) -> Rect {
+    Rect::new(x, y, w, h)
+}
+
+/// The rectangles, and more of zeros.
+fn rects(from: impl IntoIterator<Item = Rect>) -> Rects {
+    let mut rects = [[0.; 4]; 20];
+    for (to, r) in rects.iter_mut().zip(from) {
+        *to = numbers(r);
+    }
+    rects
+}
+
+pub fn list(from: &[Rect]) -> List {
+    List {
+        at: rects(from.iter().copied()),
+        count: from.len(),
+    }
+}
+
+pub fn layout(from: &LayoutData) -> Layout {
+    let kind = KINDS.iter().position(|(labels, sticks)| {
+        from.controls.iter().map(|c| &c.label).eq(*labels) && from.sticks.len() == *sticks
+    });
+    let sticks = from.sticks.iter().copied().chain([Rect::default(); 2]);
+    let controls = from.controls.iter().map(|c| c.bounds);
+    let keys = [from.pause, from.playback, from.speed, from.mute];
+    Layout {
+        at: rects(
+            [from.game, from.dpad]
+                .into_iter()
+                .chain(keys)
+                .chain(sticks.take(2))
+                .chain(controls),
+        ),
+        kind: kind.expect("a layout is of one of three kinds") as u8,
+    }
+}
+
+pub fn layout_data(from: &Layout) -> LayoutData {
+    let (labels, sticks) = KINDS[usize::from(from.kind)];
+    let at = from.at.map(rect);
+    LayoutData {
+        game: at[0],
+        dpad: at[1],
+        controls: labels
+            .iter()
+            .zip(&at[8..])
+            .map(|(&label, &bounds)| ControlData { bounds, label })
+            .collect(),
+        pause: at[2],
+        playback: at[3],
+        speed: at[4],
+        mute: at[5],
+        sticks: at[6..6 + sticks].to_vec(),
+    }
+}

@@ -1,0 +1,188 @@
+//! Inner functions, from the library that probe/build makes.
+
+/// 20 rectangles as x, y, w, h: those of a list, or of a layout, which are
+/// game, d-pad, pause, playback, speed, mute, two sticks, twelve controls.
+pub type Rects = [[f32; 4]; 20];
+
+unsafe extern "C" {
+    safe fn probe_hypot(a: f32, b: f32) -> f32;
+    fn probe_clear_picture_aspect(
+        w: f32,
+        h: f32,
+        obstacles: &Rects,
+        n: usize,
+        aspect: f32,
+        times: usize,
+        step: f32,
+        out: &mut Rects,
+    );
+    fn probe_anchor_toolbar(
+        layout: &Rects,
+        kind: u8,
+        w: f32,
+        h: f32,
+        reusable_top: f32,
+        covered_top: f32,
+        cutouts: &Rects,
+        n: usize,
+        times: usize,
+        step: f32,
+        out: &mut Rects,
+    );
+    safe fn probe_mask_near(
+        layout: &Rects,
+        kind: u8,
+        x: f32,
+        y: f32,
+        previous: u16,
+        times: usize,
+        step: f32,
+    ) -> u16;
+    safe fn probe_arranged(w: f32, h: f32, compact: bool, times: usize, step: f32, out: &mut Rects);
+    fn probe_side_rails(
+        w: f32,
+        h: f32,
+        picture_height: f32,
+        cutouts: &Rects,
+        n: usize,
+        times: usize,
+        step: f32,
+        out: &mut Rects,
+    );
+    safe fn probe_controller_band(
+        w: f32,
+        h: f32,
+        analog: bool,
+        psp: bool,
+        picture: &Rects,
+        times: usize,
+        step: f32,
+        out: &mut Rects,
+    ) -> bool;
+    fn probe_avoid_cutouts(
+        layout: &Rects,
+        kind: u8,
+        w: f32,
+        h: f32,
+        cutouts: &Rects,
+        n: usize,
+        times: usize,
+        step: f32,
+        out: &mut Rects,
+    );
+}
+
+/// The first `count` of the rectangles.
+#[derive(Clone, Debug)]
+pub struct List {
+    pub at: Rects,
+    pub count: usize,
+}
+
+/// A layout by its rectangles and its kind, which fixes labels and counts: 0
+/// standard, 1 analog, 2 psp.
+#[derive(Clone, Debug)]
+pub struct Layout {
+    pub at: Rects,
+    pub kind: u8,
+}
+
+/// How often a function runs in one call, for timing: the answer is the last.
+/// Its first number grows by `step` each time, so that no run is left out.
+#[derive(Clone, Copy, Debug)]
+pub struct Runs {
+    pub times: usize,
+    pub step: f32,
+}
+
+pub const ONCE: Runs = Runs { times: 1, step: 0. };
+
+pub fn hypot(a: f32, b: f32) -> f32 {
+    probe_hypot(a, b)
+}
+
+pub fn clear_picture_aspect(w: f32, h: f32, obstacles: &List, aspect: f32, runs: Runs) -> [f32; 4] {
+    assert!(obstacles.count <= 19);
+    let (at, n) = (&obstacles.at, obstacles.count);
+    let mut out = [[0.; 4]; 20];
+    // SAFETY: the count is what the function requires.
+    unsafe { probe_clear_picture_aspect(w, h, at, n, aspect, runs.times, runs.step, &mut out) };
+    out[0]
+}
+
+pub fn anchor_toolbar(
+    layout: &Layout,
+    w: f32,
+    h: f32,
+    [reusable_top, covered_top]: [f32; 2],
+    cutouts: &List,
+    runs: Runs,
+) -> Layout {
+    assert!(cutouts.count <= 16);
+    let mut out = layout.clone();
+    // SAFETY: the count is what the function requires.
+    unsafe {
+        probe_anchor_toolbar(
+            &layout.at,
+            layout.kind,
+            w,
+            h,
+            reusable_top,
+            covered_top,
+            &cutouts.at,
+            cutouts.count,
+            runs.times,
+            runs.step,
+            &mut out.at,
+        )
+    };
+    out
+}
+
+pub fn mask_near(layout: &Layout, x: f32, y: f32, previous: u16, runs: Runs) -> u16 {
+    let Layout { at, kind } = layout;
+    probe_mask_near(at, *kind, x, y, previous, runs.times, runs.step)
+}
+
+/// A layout that a function makes in the place lent to it.
+fn made(kind: u8, make: impl FnOnce(&mut Rects)) -> Layout {
+    let mut at = [[0.; 4]; 20];
+    make(&mut at);
+    Layout { at, kind }
+}
+
+pub fn arranged(w: f32, h: f32, compact: bool, runs: Runs) -> Layout {
+    made(0, |out| {
+        probe_arranged(w, h, compact, runs.times, runs.step, out)
+    })
+}
+
+pub fn side_rails(w: f32, h: f32, picture_height: f32, cutouts: &List, runs: Runs) -> Layout {
+    assert!(cutouts.count <= 16);
+    let (at, n) = (&cutouts.at, cutouts.count);
+    // SAFETY: the count is what the function requires.
+    made(0, |out| unsafe {
+        probe_side_rails(w, h, picture_height, at, n, runs.times, runs.step, out)
+    })
+}
+
+/// For a layout of a kind; the picture is the first of the list.
+pub fn controller_band(w: f32, h: f32, kind: u8, picture: &List, runs: Runs) -> Option<Layout> {
+    let (analog, psp) = (kind > 0, kind > 1);
+    let Runs { times, step } = runs;
+    let mut some = false;
+    let band = made(kind, |out| {
+        some = probe_controller_band(w, h, analog, psp, &picture.at, times, step, out)
+    });
+    some.then_some(band)
+}
+
+pub fn avoid_cutouts(layout: &Layout, w: f32, h: f32, cutouts: &List, runs: Runs) -> Layout {
+    assert!(cutouts.count <= 16);
+    let (Layout { at, kind }, Runs { times, step }) = (layout, runs);
+    let (holes, n) = (&cutouts.at, cutouts.count);
+    // SAFETY: the count is what the function requires.
+    made(*kind, |out| unsafe {
+        probe_avoid_cutouts(at, *kind, w, h, holes, n, times, step, out)
+    })
+}
