@@ -50,7 +50,7 @@ module _ (l : Layout) where
       let k : labelsOf (pspInputsOf l) ≡ pspLabels = psp-labels l ∙ ap (retain onPspOf) (i .0) ∙ e in
       (k, psp-count ∙ ap length k, ap atMostOneOf (i .2))
 
-  with-inputs : (analog psp : Bool) → Inputs (bandLabels analog false) (bandSticks analog false) l → Inputs (bandLabels analog psp) (bandSticks analog psp) (cond psp (pspInputsOf l) l)
+  pub with-inputs : (analog psp : Bool) → Inputs (bandLabels analog false) (bandSticks analog false) l → Inputs (bandLabels analog psp) (bandSticks analog psp) (cond psp (pspInputsOf l) l)
   unfolding atMostOneOf onPspOf maskOf idOf
   with-inputs analog false i = i
   with-inputs true true i = psp-inputs analogLabels 2 refl i

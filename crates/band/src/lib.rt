@@ -364,7 +364,7 @@ fn banded(w: f32, h: f32, analog: bool, deep: bool, b: Band) -> Layout
 }
 
 // A psp has some of the inputs only.
-fn with_inputs(l: Layout, psp: bool) -> Layout
+pub fn with_inputs(l: Layout, psp: bool) -> Layout
     requires { ⌜ (l .count ≤ 12) × (l .stickcount ≤ 2) ⌝ }
     ensures { λ r. ⌜ (r ≡ cond psp (pspInputsOf l) l) × (r .count ≤ 12) × (r .stickcount ≤ 2) ⌝ }
 {

@@ -49,7 +49,7 @@ length-mapFirst g zero xs = refl
 length-mapFirst g (suc n) [] = refl
 length-mapFirst g (suc n) (x ∷ xs) = ap suc (length-mapFirst g n xs)
 
-placed-arrays : (l : Layout) (p : Places) → Arrays l → Arrays (placedOf l p)
+pub placed-arrays : (l : Layout) (p : Places) → Arrays l → Arrays (placedOf l p)
 unfolding placedOf
 placed-arrays l p a = (length-mapFirst (moved p) (l .count) (l .controls) ∙ a .0, a .1)
 
@@ -76,7 +76,7 @@ with-analog-arrays : (l : Layout) (l3 r3 left right : Rect) → Arrays l → Arr
 unfolding withAnalogOf
 with-analog-arrays l l3 r3 left right a = (rw (length-set, length-set) (a .0), refl)
 
-psp-arrays : (l : Layout) → l .count ≡ 12 → Arrays l → Arrays (pspInputsOf l)
+pub psp-arrays : (l : Layout) → l .count ≡ 12 → Arrays l → Arrays (pspInputsOf l)
 unfolding pspInputsOf
 psp-arrays l n a =
     let kept = retain onPsp (controlsOf l) in
@@ -169,7 +169,7 @@ module _ (w h : Float) where
       (clear-formed standardLabels 0 (sideRailsOf w h (picture .h) cutouts) picture (side-rails-inputs w h (picture .h) cutouts, side-rails-arrays w h (picture .h) cutouts))
       (band-formed false picture)
 
-  full-formed : Formed analogLabels 2 (analogFullOf w h)
+  pub full-formed : Formed analogLabels 2 (analogFullOf w h)
   unfolding analogFullOf
   full-formed =
       let d = default-formed [] (newOf k0 k0 w h) in

@@ -1,3 +1,4 @@
 pub mod Defaults
 pub mod DefaultCases
 pub mod DefaultLabels
+pub mod DefaultRanges

@@ -1,0 +1,11 @@
+use borrow.Author.Needs.{needs}
+use Rattle.camera_rails.specs.CameraRails.{cameraPlacesOf}
+use Rattle.camera_rails.proofs.camera_places.Statement.{statement}
+use Rattle.camera_rails.proofs.camera_places.Tie as tie
+
+returns : tie.Need-returns
+unfolding cameraPlacesOf
+returns c = rw (← c .before .before .before .before .before .cap .ensures, ← c .before .before .before .before .place-faces .ensures)
+
+pub camera-places-spec : {M : Type 1} → statement M
+camera-places-spec = tie.close (tie.spec (λ c κs. search needs) (λ c κs. search needs) returns)

@@ -1,0 +1,19 @@
+-- `camera_railed` is `cameraRailedOf`.
+use borrow.Author.Needs.{needs}
+use native.Mathlib.Omega.{arith}
+use Rattle.camera_rails.specs.CameraRails.{cameraRailedOf}
+use Rattle.camera_rails.proofs.camera_railed.Statement.{statement}
+use Rattle.camera_rails.proofs.camera_railed.Tie as tie
+
+returns : tie.Need-returns
+unfolding cameraRailedOf
+returns c = (rw (c .placed .ensures .0, ← c .before .before .analog-default .ensures .0, ← c .before .camera-places .ensures), omega arith, omega arith)
+
+pub camera-railed-spec : {M : Type 1} → statement M
+camera-railed-spec =
+    tie.close
+    (tie.spec
+    (λ c κs. search needs)
+    (λ c κs. search needs)
+    (λ c κs. search needs)
+    returns)

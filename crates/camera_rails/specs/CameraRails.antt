@@ -1,0 +1,92 @@
+-- `Layout::analog_camera_rails` of input.rs: rails beside a picture of full height, with a camera between the digital well and the stick. Definitions only.
+use mathlib.Core.Bool.{Bool, false, cond, _&&_, _||_}
+use mathlib.Core.List.{List, [], _∷_, foldl}
+use mathlib.Core.Option.{Option, some, none}
+use lib.Ieee.{Float, lt, le, neg}
+use Rattle.float.specs.Float.{_⊕_, _⊖_, _⊗_, _⊘_, k0, k1, k1·35, k2, k3, k4, k8, k24, k32, k48, k52, k104, k122, k128, k156, k184, k224, k272, k360, k480}
+use Rattle.float.specs.MinMax.{minOf, maxOf}
+use Rattle.geometry.specs.declared.Rect.{Rect}
+use Rattle.geometry.specs.Rect.{newOf}
+use Rattle.layout.specs.declared.Layout.{Layout}
+use Rattle.layout.specs.Layout.{withDpad, withSticks, elementsOf}
+use Rattle.layout.specs.Lists.{filterMap}
+use Rattle.layout.specs.Psp.{pspInputsOf}
+use Rattle.search.specs.Search.{placeGameInAspectOf}
+use Rattle.toolbar.specs.Toolbar.{anchorToolbarOf}
+use Rattle.arranged.specs.declared.Places.{Places}
+use Rattle.arranged.specs.Places.{capOf, placeFacesOf, placedOf}
+use Rattle.arranged.specs.Arranged.{middle}
+use Rattle.band.specs.Band.{aspectOf}
+use Rattle.defaults.specs.Defaults.{analogDefaultOf}
+use Rattle.cutouts.specs.Cutouts.{hitsOf, avoidCutoutsOf}
+
+-- what the picture of full height leaves at each side
+unfoldable pub measureRailOf : Float → Rect → Bool → Float
+measureRailOf w picture psp =
+    let fullHeightWidth = cond psp (picture .h ⊗ k480 ⊘ k272) (picture .h ⊗ k4 ⊘ k3) in
+    (w ⊖ fullHeightWidth) ⊘ k2
+
+-- below the compact toolbar and a gap
+abbrev pub top : Float
+top = k32
+
+-- a cutout reaches below the top of a rail
+unfoldable pub inRailOf : Float → Float → Rect → Bool
+inRailOf w rail c = lt top (c .y ⊕ c .h) && (lt (c .x) rail || lt (w ⊖ rail) (c .x ⊕ c .w))
+
+-- where the highest of these cutouts begins, else the screen's end
+unfoldable pub cameraTopOf : Float → Float → Float → List Rect → Float
+cameraTopOf w h rail cutouts = foldl minOf h (filterMap (inRailOf w rail) (λ c. c .y) cutouts)
+
+-- the digital well, above the camera and above the four keys
+unfoldable pub sizeFaceOf : Float → Float → Float → List Rect → Float
+sizeFaceOf w h rail cutouts =
+    minOf (minOf (minOf (rail ⊖ k8) k184) (cameraTopOf w h rail cutouts ⊖ top ⊖ k8)) (h ⊖ top ⊖ k224)
+
+-- the keys lie beside the stick, out of the thumb's way
+unfoldable pub cameraPlacesOf : Float → Float → Float → Places
+cameraPlacesOf w rail face =
+    let auxiliaryY = top ⊕ face ⊕ k8 in
+    let cap = capOf face in
+    let step = (face ⊖ cap) ⊘ k2 in
+    let faces = placeFacesOf (w ⊖ k4 ⊖ face ⊘ k2) (top ⊕ face ⊘ k2) step step cap in
+    let inner = rail ⊖ k48 in
+    record {
+      tri = faces .tri;
+      o = faces .o;
+      x = faces .x;
+      sq = faces .sq;
+      l1 = newOf inner (auxiliaryY ⊕ k52) k48 k48;
+      l2 = newOf inner auxiliaryY k48 k48;
+      r2 = newOf (w ⊖ inner ⊖ k48) auxiliaryY k48 k48;
+      r1 = newOf (w ⊖ inner ⊖ k48) (auxiliaryY ⊕ k52) k48 k48;
+      select = newOf inner (auxiliaryY ⊕ k104) k48 k48;
+      start = newOf (w ⊖ inner ⊖ k48) (auxiliaryY ⊕ k104) k48 k48;
+      l3 = newOf inner (auxiliaryY ⊕ k156) k48 k48;
+      r3 = newOf (w ⊖ inner ⊖ k48) (auxiliaryY ⊕ k156) k48 k48;
+    }
+
+-- The sticks of `analog_default` are two, and stay so.
+unfoldable pub cameraRailedOf : Float → Float → Float → Float → Layout
+cameraRailedOf w h rail face =
+    let mainY = h ⊖ k24 ⊖ k128 in
+    let layout = withDpad (placedOf (analogDefaultOf w h) (cameraPlacesOf w rail face)) (newOf k4 top face face) in
+    withSticks layout (newOf k4 mainY k128 k128 ∷ newOf (w ⊖ k4 ⊖ k128) mainY k128 k128 ∷ [])
+
+-- with the inputs of a psp, and the toolbar in its place
+unfoldable pub anchoredRailsOf : Float → Float → Rect → List Rect → Bool → Float → Float → Layout
+anchoredRailsOf w h picture cutouts psp rail face =
+    let layout = cameraRailedOf w h rail face in
+    anchorToolbarOf (cond psp (pspInputsOf layout) layout) w h (maxOf (neg (picture .y)) k0) k0 cutouts
+
+-- None, where the rails have no room or an element overlaps a cutout, one without an area too.
+unfoldable pub analogCameraRailsOf : Float → Float → Rect → List Rect → Bool → Option Layout
+analogCameraRailsOf w h picture cutouts psp =
+    let rail = measureRailOf w picture psp in
+    let face = sizeFaceOf w h rail cutouts in
+    let layout = anchoredRailsOf w h picture cutouts psp rail face in
+    cond (le w (h ⊗ k1·35) || lt h k360) none
+    (cond (lt rail k184) none
+    (cond (lt face k122) none
+    (cond (hitsOf (elementsOf layout) cutouts) none
+    (some (placeGameInAspectOf (avoidCutoutsOf layout w h cutouts) picture false k1 middle (aspectOf psp))))))

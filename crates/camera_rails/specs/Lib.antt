@@ -1,0 +1,2 @@
+pub mod CameraRails
+pub mod CameraLabels

@@ -1,0 +1,243 @@
+// `analog_camera_rails` of input.rs: rails beside a picture of full height, with a camera between the digital well and
+// the stick.
+ghost use mathlib.Core.Path.{_≡_};
+ghost use Prim.Native.Nat.{_≤_};
+ghost use Rattle.layout.specs.Layout.{cutoutList, elementList};
+ghost use Rattle.arranged.specs.Places.{maybe};
+ghost use Rattle.cutouts.specs.Cutouts.{hitsOf};
+ghost use Rattle.camera_rails.specs.CameraRails.{measureRailOf, inRailOf, cameraTopOf, sizeFaceOf, cameraPlacesOf, cameraRailedOf, anchoredRailsOf, analogCameraRailsOf};
+use arranged::MaybeLayout;
+use arranged::Places;
+use arranged::cap;
+use arranged::no_layout;
+use arranged::place_faces;
+use arranged::placed;
+use band::aspect;
+use band::with_inputs;
+use cutouts::avoid_cutouts;
+use defaults::analog_default;
+use float::max;
+use float::min;
+use float::pick;
+use geometry::Rect;
+use layout::Cutouts;
+use layout::Elements;
+use layout::Layout;
+use search::Offset;
+use search::place_game_in_aspect;
+use toolbar::anchor_toolbar;
+
+// What the picture of full height leaves at each side.
+fn measure_rail(w: f32, picture: Rect, psp: bool) -> f32
+    ensures { λ r. ⌜ r ≡ measureRailOf w picture psp ⌝ }
+{
+    let full_height_width = pick(psp, picture.h * 480.0 / 272.0, picture.h * 4.0 / 3.0);
+    (w - full_height_width) / 2.0
+}
+
+// A cutout reaches below the top of a rail.
+fn in_rail(w: f32, rail: f32, c: Rect) -> bool
+    ensures { λ r. ⌜ r ≡ inRailOf w rail c ⌝ }
+{
+    c.y + c.h > 32.0 && (c.x < rail || c.x + c.w > w - rail)
+}
+
+// Where the highest of these cutouts begins, else the screen's end.
+fn camera_top(w: f32, h: f32, rail: f32, cutouts: Cutouts) -> f32
+    requires { ⌜ cutouts .count ≤ 16 ⌝ }
+    ensures { λ r. ⌜ r ≡ cameraTopOf w h rail (cutoutList cutouts) ⌝ }
+{
+    let at = cutouts.at;
+    let count = cutouts.count;
+    let mut top = h;
+    for i in 0..count {
+        let c = at[i];
+        if in_rail(w, rail, c) {
+            top = min(top, c.y);
+        }
+    }
+    top
+}
+
+// The digital well, above the camera and above the four keys.
+fn size_face(w: f32, h: f32, rail: f32, cutouts: Cutouts) -> f32
+    requires { ⌜ cutouts .count ≤ 16 ⌝ }
+    ensures { λ r. ⌜ r ≡ sizeFaceOf w h rail (cutoutList cutouts) ⌝ }
+{
+    let top = camera_top(w, h, rail, cutouts);
+    min(
+        min(min(rail - 8.0, 184.0), top - 32.0 - 8.0),
+        h - 32.0 - 224.0,
+    )
+}
+
+fn camera_places(w: f32, rail: f32, face: f32) -> Places
+    ensures { λ r. ⌜ r ≡ cameraPlacesOf w rail face ⌝ }
+{
+    let y = 32.0 + face + 8.0;
+    let size = cap(face);
+    let step = (face - size) / 2.0;
+    let faces = place_faces(w - 4.0 - face / 2.0, 32.0 + face / 2.0, step, step, size);
+    let tri = faces.tri;
+    let o = faces.o;
+    let x = faces.x;
+    let sq = faces.sq;
+    let inner = rail - 48.0;
+    Places {
+        tri,
+        o,
+        x,
+        sq,
+        l1: Rect {
+            x: inner,
+            y: y + 52.0,
+            w: 48.0,
+            h: 48.0,
+        },
+        l2: Rect {
+            x: inner,
+            y,
+            w: 48.0,
+            h: 48.0,
+        },
+        r2: Rect {
+            x: w - inner - 48.0,
+            y,
+            w: 48.0,
+            h: 48.0,
+        },
+        r1: Rect {
+            x: w - inner - 48.0,
+            y: y + 52.0,
+            w: 48.0,
+            h: 48.0,
+        },
+        select: Rect {
+            x: inner,
+            y: y + 104.0,
+            w: 48.0,
+            h: 48.0,
+        },
+        start: Rect {
+            x: w - inner - 48.0,
+            y: y + 104.0,
+            w: 48.0,
+            h: 48.0,
+        },
+        l3: Rect {
+            x: inner,
+            y: y + 156.0,
+            w: 48.0,
+            h: 48.0,
+        },
+        r3: Rect {
+            x: w - inner - 48.0,
+            y: y + 156.0,
+            w: 48.0,
+            h: 48.0,
+        },
+    }
+}
+
+// Some element overlaps a cutout.
+fn hits(elements: Elements, cutouts: Cutouts) -> bool
+    requires { ⌜ (elements .count ≤ 19) × (cutouts .count ≤ 16) ⌝ }
+    ensures { λ r. ⌜ r ≡ hitsOf (elementList elements) (cutoutList cutouts) ⌝ }
+{
+    let element = elements.at;
+    let n = elements.count;
+    let cutout = cutouts.at;
+    let count = cutouts.count;
+    for i in 0..n {
+        let r = element[i];
+        for k in 0..count {
+            if r.overlaps(cutout[k]) {
+                return true;
+            }
+        }
+    }
+    false
+}
+
+fn camera_railed(w: f32, h: f32, rail: f32, face: f32) -> Layout
+    ensures { λ r. ⌜ (r ≡ cameraRailedOf w h rail face) × (r .count ≡ 12) × (r .stickcount ≡ 2) ⌝ }
+{
+    let y = h - 24.0 - 128.0;
+    let dpad = Rect {
+        x: 4.0,
+        y: 32.0,
+        w: face,
+        h: face,
+    };
+    let left = Rect {
+        x: 4.0,
+        y,
+        w: 128.0,
+        h: 128.0,
+    };
+    let right = Rect {
+        x: w - 4.0 - 128.0,
+        y,
+        w: 128.0,
+        h: 128.0,
+    };
+    let sticks = [left, right];
+    let mut layout = placed(analog_default(w, h), camera_places(w, rail, face));
+    layout.dpad = dpad;
+    layout.sticks = sticks;
+    layout
+}
+
+// With the inputs of a psp, and the toolbar in its place.
+fn anchored_rails(
+    w: f32,
+    h: f32,
+    picture: Rect,
+    cutouts: Cutouts,
+    psp: bool,
+    rail: f32,
+    face: f32,
+) -> Layout
+    requires { ⌜ cutouts .count ≤ 16 ⌝ }
+    ensures { λ r. ⌜ (r ≡ anchoredRailsOf w h picture (cutoutList cutouts) psp rail face) × (r .count ≤ 12) × (r .stickcount ≤ 2) ⌝ }
+{
+    let layout = with_inputs(camera_railed(w, h, rail, face), psp);
+    anchor_toolbar(layout, w, h, max(-picture.y, 0.0), 0.0, cutouts)
+}
+
+pub fn analog_camera_rails(
+    w: f32,
+    h: f32,
+    picture: Rect,
+    cutouts: Cutouts,
+    psp: bool,
+) -> MaybeLayout
+    requires { ⌜ cutouts .count ≤ 16 ⌝ }
+    ensures { λ r. ⌜ (maybe r ≡ analogCameraRailsOf w h picture (cutoutList cutouts) psp) × (r .layout .count ≤ 12) × (r .layout .stickcount ≤ 2) ⌝ }
+{
+    if (w <= h * 1.35) | (h < 360.0) {
+        return no_layout();
+    }
+    let rail = measure_rail(w, picture, psp);
+    if rail < 184.0 {
+        return no_layout();
+    }
+    let face = size_face(w, h, rail, cutouts);
+    if face < 122.0 {
+        return no_layout();
+    }
+    let anchored = anchored_rails(w, h, picture, cutouts, psp, rail, face);
+    if hits(anchored.elements(), cutouts) {
+        return no_layout();
+    }
+    let clear = avoid_cutouts(anchored, w, h, cutouts);
+    let layout = place_game_in_aspect(
+        clear,
+        picture,
+        false,
+        1.0,
+        Offset { x: 0.5, y: 0.5 },
+        aspect(psp),
+    );
+    MaybeLayout { some: true, layout }
+}

@@ -1,0 +1,186 @@
+-- The default layouts are in range, on screens up to 8192 by 8192.
+use mathlib.Core.Bool.{Bool, true, false, not, _||_}
+use mathlib.Core.List.{List, []}
+use Prim.Native.Nat.{ℕ, suc, _*_, _≤_, _<_}
+use native.Mathlib.Nat.{mul-le-mul-left}
+use native.Mathlib.Omega.{arith}
+use lib.Dec.{T, ltb, ltb→lt}
+use lib.Ieee.{Float, lt, le, ne}
+use lib.ListN.{length}
+use Rattle.float.specs.Float.{_⊗_, _⊘_, k0, k1, k1·35, k3, k4, k360}
+use Rattle.float.specs.MinMax.{maxOf}
+use Rattle.geometry.specs.declared.Rect.{Rect}
+use Rattle.geometry.specs.Rect.{newOf}
+use Rattle.layout.specs.declared.Layout.{Layout}
+use Rattle.numerics.specs.Value.{eps, limit}
+use Rattle.numerics.specs.Rects.{Element, maxArea, Area, OnScreen, Key, margin}
+use Rattle.numerics.specs.Range.{In, at}
+use Rattle.numerics.specs.Each.{Each}
+use Rattle.numerics.specs.Bounds.{eps-pos, most-more, le-not, max-law, zero-most}
+use Rattle.numerics.specs.Ranges.{in-more, add-in, sub-in, div-in, max-in, lower, clamp-in, cond-in, range-most, placed-in, placed-element}
+use Rattle.numerics.specs.Literals.{i0, i8, i16, i20, i24, i32, i48, i56, i76, i88, i104, i122, i128, i184, i336, i360, f2}
+use Rattle.numerics.specs.Shrunk.{Shrinks, shrunkMargin, shrunk-placed, placed-shrunk}
+use Rattle.search.specs.Bounded.{Every, Bounded, Arranged}
+use Rattle.search.proofs.Layouts.{place-bounded}
+use Rattle.search.proofs.Changes.{every-imp, arranged-bounded, dpad-in, psp-in, map-elements-in}
+use Rattle.arranged.specs.Arranged.{middle}
+use Rattle.arranged.specs.PlaceRanges.{Coordinate, coordinate, cap-in, step-in, FacesIn, faces-in, PlacesIn, controls-placed}
+use Rattle.arranged.specs.ArrangedRanges.{finished-in, arranged-in, side-rails-in}
+use Rattle.band.specs.BandRanges.{with-analog-in, band-in}
+use Rattle.defaults.specs.declared.Size.{Size}
+use Rattle.defaults.specs.declared.Sizes.{Sizes}
+use Rattle.defaults.specs.declared.Halves.{Halves}
+use Rattle.defaults.specs.Defaults.{defaultInOf, sizeHalvesOf, measureHalvesOf, halfPlacesOf, analogFullOf, size, scaledRectOf, shrunkOf, analogDefaultOf, pspOf}
+use Rattle.defaults.specs.DefaultCases.{either, band-case, default-case}
+use Rattle.defaults.specs.DefaultLabels.{full-formed}
+
+pub default-in : {w h : Float} (cutouts : List Rect) {picture : Rect} → In w (at 0) (at 8192) → In h (at 0) (at 8192) → Each Element cutouts → Area picture → In (picture .h) (at 0) (at 8192)
+    → Arranged (defaultInOf w h cutouts picture)
+default-in {w} {h} cutouts {picture} W H C A high =
+    default-case Arranged w h cutouts picture
+    (λ compact. place-bounded (arranged-in compact W H) picture false k1 middle (k4 ⊘ k3))
+    (place-bounded (side-rails-in cutouts W H high C) picture false k1 middle (k4 ⊘ k3))
+    (λ band e. band-in false false W H A e)
+
+-- ---- the screen as the picture's area
+above-zero : {y : Float} {a b : ℕ} → In y a b → T (ltb limit a) → T (le k0 y)
+above-zero {y} {a} i t = go (le k0 y) (λ n. none (lower i i0 (le-not 1 k0 y (zero-most .whole) (i .whole) n)) (mul-le-mul-left eps (ltb→lt limit a t)) eps-pos)
+  where
+    none : In y a (at 0) → eps * suc limit ≤ eps * a → 0 < eps → ⊥
+    none j k e = omega (arith, j .lo, j .hi)
+
+    go : (c : Bool) → (T (not c) → ⊥) → T c
+    go true f = tt
+    go false f = absurd (f tt)
+
+pub screen-area : {w h : Float} → In w (at 1) (at 8192) → In h (at 1) (at 8192) → Area (newOf k0 k0 w h)
+screen-area W H =
+    let zero = most-more zero-most maxArea tt in
+    record { x = zero; y = zero; w = range-most maxArea W tt; h = range-most maxArea H tt; w0 = above-zero W tt; h0 = above-zero H tt }
+
+-- ---- `analog_full`
+record SizesIn (s : Sizes) : Type 0 where
+  pub bottom : In (s .bottom) (at 24) (at 32)
+  pub stick : In (s .stick) (at 104) (at 128)
+  pub face : In (s .face) (at 122) (at 184)
+  pub column : In (s .column) (at 122) (at 192)
+  pub shoulder : In (s .shoulder) (at 48) (at 96)
+
+sizes-in : {w h : Float} → In w (at 360) (at 8192) → In h (at 360) (at 8192) → SizesIn (sizeHalvesOf w h)
+unfolding sizeHalvesOf
+sizes-in {w} {h} W H =
+    let landscape = lt (h ⊗ k1·35) w in
+    let bottom = in-more (at 24) (at 32) (cond-in landscape (clamp-in (sub-in H i336 tt) i24 i32) i32) tt tt in
+    let half = div-in W f2 tt in
+    let stick = in-more (at 104) (at 128) (cond-in landscape i104 (clamp-in (sub-in half i76 tt) i104 i128)) tt tt in
+    let face = in-more (at 122) (at 184) (cond-in landscape (clamp-in (sub-in (sub-in (sub-in (sub-in (sub-in H i56 tt) i48 tt) i16 tt) stick tt) bottom tt) i122 i184) (clamp-in (sub-in half i20 tt) i122 i184)) tt tt in
+    let column = in-more (at 122) (at 192) (max-in face (add-in stick i56 tt)) tt tt in
+    record { bottom = bottom; stick = stick; face = face; column = column; shoulder = in-more (at 48) (at 96) (cond-in (sizeHalvesOf w h .middle) i88 (div-in (sub-in column i8 tt) f2 tt)) tt tt }
+
+record HalvesIn (b : Halves) : Type 0 where
+  pub w : In (b .w) (at 360) (at 8192)
+  pub stick : In (b .stick) (at 104) (at 128)
+  pub face : In (b .face) (at 122) (at 184)
+  pub shoulder : In (b .shoulder) (at 48) (at 96)
+  pub x : Coordinate (b .x)
+  pub y : Coordinate (b .y)
+  pub facey : Coordinate (b .facey)
+  pub faces : FacesIn (b .faces)
+  pub x1 : In (b .x1) (at 0) (at 256)
+  pub x2 : In (b .x2) (at 0) (at 256)
+  pub y1 : Coordinate (b .y1)
+  pub y2 : Coordinate (b .y2)
+
+halves-in : {w h : Float} {s : Sizes} → In w (at 360) (at 8192) → In h (at 360) (at 8192) → SizesIn s → HalvesIn (measureHalvesOf w h s)
+unfolding measureHalvesOf
+halves-in {s = s} W H S =
+    let y = sub-in (sub-in H (S .bottom) tt) (S .stick) tt in
+    let faceY = sub-in (sub-in y i8 tt) (S .face) tt in
+    let cap = cap-in (in-more (at 122) (at 200) (S .face) tt tt) in
+    let step = step-in (div-in (sub-in (S .face) cap tt) f2 tt) tt tt in
+    let inner = add-in (add-in i16 (S .column) tt) i8 tt in
+    let above = sub-in faceY i56 tt in
+    record {
+      w = W;
+      stick = S .stick;
+      face = S .face;
+      shoulder = S .shoulder;
+      x = coordinate (add-in i16 (div-in (sub-in (S .column) (S .face) tt) f2 tt) tt) tt;
+      y = coordinate y tt;
+      facey = coordinate faceY tt;
+      faces = faces-in (coordinate (sub-in (sub-in W i16 tt) (div-in (S .column) f2 tt) tt) tt) (coordinate (add-in faceY (div-in (S .face) f2 tt) tt) tt) step step cap;
+      x1 = in-more (at 0) (at 256) (cond-in (s .middle) inner (add-in i16 i0 tt)) tt tt;
+      x2 = in-more (at 0) (at 256) (cond-in (s .middle) inner (add-in i16 (add-in (S .shoulder) i8 tt) tt)) tt tt;
+      y1 = coordinate (cond-in (s .middle) (add-in faceY i56 tt) above) tt;
+      y2 = coordinate (cond-in (s .middle) (add-in faceY i0 tt) above) tt;
+    }
+
+half-places-in : {b : Halves} → HalvesIn b → PlacesIn (halfPlacesOf b)
+unfolding halfPlacesOf
+half-places-in B =
+    let left = add-in (add-in i16 (B .stick) tt) i8 tt in
+    let right = sub-in (sub-in (sub-in (B .w) i16 tt) (B .stick) tt) i56 tt in
+    let lower = sub-in (add-in (B .y) (B .stick) tt) i48 tt in
+    record {
+      tri = B .faces .tri;
+      o = B .faces .o;
+      x = B .faces .x;
+      sq = B .faces .sq;
+      l1 = placed-in (B .x1) (B .y1) (B .shoulder) i48 tt;
+      l2 = placed-in (B .x2) (B .y2) (B .shoulder) i48 tt;
+      r2 = placed-in (sub-in (sub-in (B .w) (B .x2) tt) (B .shoulder) tt) (B .y2) (B .shoulder) i48 tt;
+      r1 = placed-in (sub-in (sub-in (B .w) (B .x1) tt) (B .shoulder) tt) (B .y1) (B .shoulder) i48 tt;
+      select = placed-in left (B .y) i48 i48 tt;
+      start = placed-in right (B .y) i48 i48 tt;
+      l3 = placed-in left lower i48 i48 tt;
+      r3 = placed-in right lower i48 i48 tt;
+    }
+
+full-in : {w h : Float} → In w (at 360) (at 8192) → In h (at 360) (at 8192) → Arranged (analogFullOf w h)
+unfolding analogFullOf
+full-in W H =
+    let B = halves-in W H (sizes-in W H) in
+    let places = half-places-in B in
+    let high = in-more (at 0) (at 8192) H tt tt in
+    let standard = default-in [] (in-more (at 0) (at 8192) W tt tt) high tt (screen-area (in-more (at 1) (at 8192) W tt tt) (in-more (at 1) (at 8192) H tt tt)) high in
+    let digital = dpad-in (controls-placed standard places) (placed-in (B .x) (B .facey) (B .face) (B .face) tt) in
+    with-analog-in digital (places .l3) (places .r3) (placed-in i16 (B .y) (B .stick) (B .stick) tt) (placed-in (sub-in (sub-in W i16 tt) (B .stick) tt) (B .y) (B .stick) (B .stick) tt)
+
+-- ---- `shrunk`
+-- the layouts that it makes
+abbrev Shrunk : Layout → Type 0
+Shrunk l = Every (OnScreen shrunkMargin) (Key shrunkMargin) l
+
+shrunk-layout-in : (l : Layout) {requested full : Size} → Shrinks (requested .w) (full .w) → Shrinks (requested .h) (full .h) → l .count ≤ length (l .controls) → l .stickcount ≤ length (l .sticks) → Arranged l
+    → Shrunk (shrunkOf l requested full)
+unfolding shrunkOf
+shrunk-layout-in l {requested} {full} W H cs ss L =
+    either Shrunk (ne (requested .w) (full .w) || ne (requested .h) (full .h))
+    (map-elements-in (OnScreen margin) (Key margin) (OnScreen shrunkMargin) (Key shrunkMargin) (scaledRectOf requested full) (λ r P. shrunk-placed W H P tt) (λ r P. shrunk-placed W H P tt) (λ r P. placed-shrunk P tt) l cs ss L)
+    (every-imp (λ r P. placed-shrunk P tt) (λ r P. placed-shrunk P tt) L)
+
+shrinks : {x : Float} → In x (at 1) (at 8192) → Shrinks x (maxOf x k360)
+shrinks {x} X = record { part = X; full = in-more (at 360) (at 8192) (max-in X i360) tt tt; less = max-law 1 x k360 (X .whole) (i360 .whole) .first }
+
+-- ---- `analog_default` and `psp`, on screens of 1 by 1 at least
+module _ {w h : Float} (W : In w (at 1) (at 8192)) (H : In h (at 1) (at 8192)) where
+  pub analog-bounded : Bounded (analogDefaultOf w h)
+  unfolding analogDefaultOf
+  analog-bounded =
+      let full = size (maxOf w k360) (maxOf h k360) in
+      let layout = analogFullOf (full .w) (full .h) in
+      let wide = in-more (at 0) (at 8192) W tt tt in
+      let high = in-more (at 0) (at 8192) H tt tt in
+      let f = full-formed (full .w) (full .h) in
+      let c = f .0 .1 in
+      let s = f .0 .2 in
+      let cs = f .1 .0 in
+      let ss = f .1 .1 in
+      let shrunk = shrunk-layout-in layout {requested = size w h} {full = full} (shrinks W) (shrinks H) (omega arith) (omega arith) (full-in (shrinks W .full) (shrinks H .full)) in
+      band-case Bounded w h true (newOf k0 k0 w h)
+      (every-imp (λ r P. placed-element P tt) (λ r P. placed-element P tt) (finished-in (shrunkOf layout (size w h) full) wide high shrunk))
+      (λ band e. arranged-bounded (band-in true false wide high (screen-area W H) e))
+
+  pub psp-bounded : Bounded (pspOf w h)
+  unfolding pspOf
+  psp-bounded = psp-in analog-bounded

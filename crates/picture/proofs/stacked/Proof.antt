@@ -1,0 +1,51 @@
+use borrow.Author.Needs.{needs}
+use Rattle.picture.specs.Picture.{stackedOf}
+use Rattle.picture.proofs.stacked.Statement.{statement}
+use Rattle.picture.proofs.stacked.Tie as tie
+
+pick-requires : tie.Need-pick-requires
+pick-requires c κs = search needs
+
+square-requires : tie.Need-square-requires
+square-requires c κs = search needs
+
+diamond-requires : tie.Need-diamond-requires
+diamond-requires c κs = search needs
+
+auxiliary-requires : tie.Need-auxiliary-requires
+auxiliary-requires c κs = search needs
+
+square-requires-2 : tie.Need-square-requires-2
+square-requires-2 c κs = search needs
+
+square-requires-3 : tie.Need-square-requires-3
+square-requires-3 c κs = search needs
+
+square-requires-4 : tie.Need-square-requires-4
+square-requires-4 c κs = search needs
+
+arrange-requires : tie.Need-arrange-requires
+arrange-requires c κs = c .before .before .before .before .before .before .before .before .before .before .before .pre
+
+returns : tie.Need-returns
+unfolding stackedOf
+returns c = (
+  rw (← c .before .before .before .before .before .before .before .pick .ensures, ← c .before .before .before .before .before .before .square .ensures, ← c .before .before .before .before .before .diamond .ensures, ← c .before .before .before .before .auxiliary .ensures)
+      (rw (← c .before .before .before .square2 .ensures, ← c .before .before .square3 .ensures, ← c .before .square4 .ensures) (c .arrange .ensures .0)),
+  c .arrange .ensures .1,
+  c .arrange .ensures .2,
+)
+
+pub stacked-spec : {M : Type 1} → statement M
+stacked-spec =
+    tie.close
+    (tie.spec
+    pick-requires
+    square-requires
+    diamond-requires
+    auxiliary-requires
+    square-requires-2
+    square-requires-3
+    square-requires-4
+    arrange-requires
+    returns)

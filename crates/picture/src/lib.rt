@@ -1,0 +1,545 @@
+// Controls beside or below a picture that keeps its size: input/picture.rs.
+ghost use mathlib.Core.Path.{_≡_};
+ghost use Prim.Native.Nat.{_≤_, _+_};
+ghost use mathlib.Core.Bool.{_&&_};
+ghost use lib.ListN.{take};
+ghost use Rattle.arranged.specs.Places.{maybe};
+ghost use Rattle.layout.specs.Layout.{cutoutList};
+ghost use Rattle.picture.specs.Picture.{diamondOf, auxiliaryOf, arrangeOf, squareOf, measureStackOf, crampedOf, stackedOf, measureRowOf, withXOf, centerKeysOf, rowPlacesOf, rowedOf, inputsOf, separateOf, onScreenOf, fitsOf, verticalOf, horizontalOf, fittedOf, baseOf, controlsOf};
+use arranged::Faces;
+use arranged::MaybeLayout;
+use arranged::Places;
+use arranged::no_layout;
+use arranged::placed;
+use float::clamp;
+use float::max;
+use float::min;
+use float::pick;
+use geometry::Rect;
+use hypot::hypot;
+use layout::Cutouts;
+use layout::Layout;
+
+const GAP: f32 = 8.0;
+
+const KEY: f32 = 44.0;
+
+const MIN_WELL: f32 = 112.0; // Four separate caps of 44 points with gaps between them.
+
+// The four face caps in a square well.
+fn diamond(rect: Rect) -> Faces
+    ensures { λ r. ⌜ r ≡ diamondOf rect ⌝ }
+{
+    let cap = arranged::cap(rect.w);
+    let step = (rect.w - cap) / 2.0;
+    let x = rect.x + (rect.w - cap) / 2.0;
+    let y = rect.y + (rect.h - cap) / 2.0;
+    Faces {
+        tri: Rect {
+            x: x + 0.0,
+            y: y + -step,
+            w: cap,
+            h: cap,
+        },
+        o: Rect {
+            x: x + step,
+            y: y + 0.0,
+            w: cap,
+            h: cap,
+        },
+        x: Rect {
+            x: x + 0.0,
+            y: y + step,
+            w: cap,
+            h: cap,
+        },
+        sq: Rect {
+            x: x + -step,
+            y: y + 0.0,
+            w: cap,
+            h: cap,
+        },
+    }
+}
+
+// The face caps as given, and in two columns the shoulders, the system and the stick keys.
+fn auxiliary(faces: Faces, left: Rect, right: Rect, shoulders: f32, system: f32) -> Places
+    ensures { λ r. ⌜ r ≡ auxiliaryOf faces left right shoulders system ⌝ }
+{
+    let pair = clamp((left.w - 12.0 - GAP) / 2.0, KEY, 64.0);
+    let edge = left.x + (left.w - 2.0 * pair - GAP) / 2.0;
+    let right_edge = right.x + (right.w - 2.0 * pair - GAP) / 2.0;
+    let tri = faces.tri;
+    let o = faces.o;
+    let x = faces.x;
+    let sq = faces.sq;
+    Places {
+        tri,
+        o,
+        x,
+        sq,
+        l1: Rect {
+            x: edge,
+            y: shoulders,
+            w: pair,
+            h: KEY,
+        },
+        l2: Rect {
+            x: edge + pair + GAP,
+            y: shoulders,
+            w: pair,
+            h: KEY,
+        },
+        r2: Rect {
+            x: right_edge,
+            y: shoulders,
+            w: pair,
+            h: KEY,
+        },
+        r1: Rect {
+            x: right_edge + pair + GAP,
+            y: shoulders,
+            w: pair,
+            h: KEY,
+        },
+        select: Rect {
+            x: left.x + 6.0,
+            y: system,
+            w: 64.0,
+            h: KEY,
+        },
+        start: Rect {
+            x: right.x + right.w - 70.0,
+            y: system,
+            w: 64.0,
+            h: KEY,
+        },
+        l3: Rect {
+            x: left.x + left.w - 50.0,
+            y: system,
+            w: KEY,
+            h: KEY,
+        },
+        r3: Rect {
+            x: right.x + 6.0,
+            y: system,
+            w: KEY,
+            h: KEY,
+        },
+    }
+}
+
+// A layout with its controller's elements placed. Of the two sticks it uses as many as it has.
+fn arrange(l: Layout, dpad: Rect, places: Places, first: Rect, second: Rect) -> Layout
+    requires { ⌜ l .count ≤ 12 ⌝ }
+    ensures { λ r. ⌜ (r ≡ arrangeOf l dpad places first second) × (r .count ≡ l .count) × (r .stickcount ≡ l .stickcount) ⌝ }
+{
+    let mut out = placed(l, places);
+    out.dpad = dpad;
+    out.sticks = [first, second];
+    out
+}
+
+// A square in the middle of a column.
+fn square(column: Rect, y: f32, size: f32) -> Rect
+    ensures { λ r. ⌜ r ≡ squareOf column y size ⌝ }
+{
+    Rect {
+        x: column.x + (column.w - size) / 2.0,
+        y,
+        w: size,
+        h: size,
+    }
+}
+
+// The width and the lower edge that both columns have, the size of a stick, 0 without one, and of the wells.
+pub struct Stack {
+    pub width: f32,
+    pub bottom: f32,
+    pub stick: f32,
+    pub well: f32,
+}
+
+fn measure_stack(left: Rect, right: Rect, analog: bool) -> Stack
+    ensures { λ r. ⌜ r ≡ measureStackOf left right analog ⌝ }
+{
+    let width = min(left.w, right.w);
+    let top = max(max(left.y, right.y), 24.0);
+    let bottom = min(left.y + left.h, right.y + right.h) - 14.0;
+    let largest = min(
+        clamp(width - 12.0, 96.0, 128.0),
+        bottom - top - 2.0 * KEY - 3.0 * GAP - MIN_WELL,
+    );
+    let stick = pick(analog, largest, 0.0);
+    let taken = pick(analog, stick + GAP, 0.0);
+    let well = min(
+        min(width - 12.0, 164.0),
+        bottom - top - 2.0 * KEY - 2.0 * GAP - taken,
+    );
+    Stack {
+        width,
+        bottom,
+        stick,
+        well,
+    }
+}
+
+fn cramped(s: Stack, analog: bool) -> bool
+    ensures { λ r. ⌜ r ≡ crampedOf s analog ⌝ }
+{
+    (analog & (s.stick < 96.0)) | ((s.well < MIN_WELL) | (s.width < 124.0))
+}
+
+fn stacked(l: Layout, left: Rect, right: Rect, analog: bool, s: Stack) -> Layout
+    requires { ⌜ l .count ≤ 12 ⌝ }
+    ensures { λ r. ⌜ (r ≡ stackedOf l left right analog s) × (r .count ≡ l .count) × (r .stickcount ≡ l .stickcount) ⌝ }
+{
+    let system = s.bottom - KEY;
+    let primary = system - GAP - s.stick;
+    let digital = pick(analog, primary - GAP - s.well, system - GAP - s.well);
+    let faces = diamond(square(right, digital, s.well));
+    let places = auxiliary(faces, left, right, digital - GAP - KEY, system);
+    let dpad = square(left, digital, s.well);
+    let first = square(left, primary, s.stick);
+    let second = square(right, primary, s.stick);
+    arrange(l, dpad, places, first, second)
+}
+
+// A stack of controls in each of two columns, where there is room.
+fn vertical(base: Layout, left: Rect, right: Rect, analog: bool) -> MaybeLayout
+    requires { ⌜ (base .count ≤ 12) × (base .stickcount ≤ 2) ⌝ }
+    ensures { λ r. ⌜ (maybe r ≡ verticalOf base left right analog) × (r .layout .count ≤ 12) × (r .layout .stickcount ≤ 2) ⌝ }
+{
+    let s = measure_stack(left, right, analog);
+    if cramped(s, analog) {
+        return no_layout();
+    }
+    let layout = stacked(base, left, right, analog, s);
+    MaybeLayout { some: true, layout }
+}
+
+// The wells of a row and the room between its halves. `digital` and `rightdigital` are the outer distances of the
+// d-pad and of the face caps.
+pub struct Row {
+    pub well: f32,
+    pub required: f32,
+    pub top: f32,
+    pub y: f32,
+    pub digital: f32,
+    pub rightdigital: f32,
+    pub span: f32,
+    pub middleleft: f32,
+    pub middleright: f32,
+}
+
+fn measure_row(w: f32, band: Rect, analog: bool, psp: bool) -> Row
+    ensures { λ r. ⌜ r ≡ measureRowOf w band analog psp ⌝ }
+{
+    let columns = pick(psp, 3.0, pick(analog, 4.0, 2.0));
+    let required = pick(analog & !psp, 240.0, 136.0);
+    let between_wells = pick(psp, GAP, pick(analog, 2.0 * GAP, 0.0));
+    let well = min(
+        min(
+            (w - 24.0 - between_wells - 2.0 * GAP - required) / columns,
+            band.h - KEY - 2.0 * GAP - 12.0,
+        ),
+        164.0,
+    );
+    let top = band.y + (band.h - well - KEY - GAP) / 2.0;
+    let digital = pick(analog, 12.0 + well + GAP, 12.0);
+    let right_digital = pick(psp, 12.0, digital);
+    let span = pick(analog, 2.0 * well + GAP, well);
+    Row {
+        well,
+        required,
+        top,
+        y: top + KEY + GAP,
+        digital,
+        rightdigital: right_digital,
+        span,
+        middleleft: digital + well + GAP,
+        middleright: w - right_digital - well - GAP,
+    }
+}
+
+fn with_x(r: Rect, x: f32) -> Rect
+    ensures { λ q. ⌜ q ≡ withXOf r x ⌝ }
+{
+    Rect {
+        x,
+        y: r.y,
+        w: r.w,
+        h: r.h,
+    }
+}
+
+// System and stick keys lie between the two halves, never where a thumb goes from a stick to the well beside it.
+fn center_keys(p: Places, center: f32) -> Places
+    ensures { λ r. ⌜ r ≡ centerKeysOf p center ⌝ }
+{
+    let mut out = p;
+    out.select = with_x(p.select, center - 68.0);
+    out.start = with_x(p.start, center + 4.0);
+    out.l3 = with_x(p.l3, center - 120.0);
+    out.r3 = with_x(p.r3, center + 76.0);
+    out
+}
+
+fn row_places(w: f32, row: Row) -> Places
+    ensures { λ r. ⌜ r ≡ rowPlacesOf w row ⌝ }
+{
+    let well = row.well;
+    let span = row.span;
+    let faces = diamond(Rect {
+        x: w - row.rightdigital - well,
+        y: row.y,
+        w: well,
+        h: well,
+    });
+    let left = Rect {
+        x: 12.0,
+        y: 0.0,
+        w: span,
+        h: 0.0,
+    };
+    let right = Rect {
+        x: w - 12.0 - span,
+        y: 0.0,
+        w: span,
+        h: 0.0,
+    };
+    let places = auxiliary(faces, left, right, row.top, row.y + well - KEY);
+    center_keys(places, (row.middleleft + row.middleright) / 2.0)
+}
+
+fn rowed(l: Layout, w: f32, row: Row) -> Layout
+    requires { ⌜ l .count ≤ 12 ⌝ }
+    ensures { λ r. ⌜ (r ≡ rowedOf l w row) × (r .count ≡ l .count) × (r .stickcount ≡ l .stickcount) ⌝ }
+{
+    let well = row.well;
+    let places = row_places(w, row);
+    let dpad = Rect {
+        x: row.digital,
+        y: row.y,
+        w: well,
+        h: well,
+    };
+    let first = Rect {
+        x: 12.0,
+        y: row.y,
+        w: well,
+        h: well,
+    };
+    let second = Rect {
+        x: w - 12.0 - well,
+        y: row.y,
+        w: well,
+        h: well,
+    };
+    arrange(l, dpad, places, first, second)
+}
+
+// Sticks and wells side by side in a band, where there is room.
+fn horizontal(base: Layout, w: f32, band: Rect, analog: bool, psp: bool) -> MaybeLayout
+    requires { ⌜ (base .count ≤ 12) × (base .stickcount ≤ 2) ⌝ }
+    ensures { λ r. ⌜ (maybe r ≡ horizontalOf base w band analog psp) × (r .layout .count ≤ 12) × (r .layout .stickcount ≤ 2) ⌝ }
+{
+    let row = measure_row(w, band, analog, psp);
+    if (row.well < MIN_WELL) | (row.middleright - row.middleleft < row.required) {
+        return no_layout();
+    }
+    let layout = rowed(base, w, row);
+    MaybeLayout { some: true, layout }
+}
+
+// A controller element, and whether it is a face cap.
+pub struct Input {
+    pub bounds: Rect,
+    pub face: bool,
+}
+
+// The first `count` of the array: the d-pad, the controls, the sticks.
+pub struct InputList {
+    pub at: [Input; 15],
+    pub count: usize,
+}
+
+fn inputs(l: Layout) -> InputList
+    requires { ⌜ (l .count ≤ 12) × (l .stickcount ≤ 2) ⌝ }
+    ensures { λ r. ⌜ (take (r .count) (r .at) ≡ inputsOf l) × (r .count ≡ l .count + 1 + l .stickcount) ⌝ }
+{
+    let n = l.count;
+    let controls = l.controls;
+    let sticks = l.sticks;
+    let bounds = l.dpad;
+    let face = false;
+    let mut at = [Input { bounds, face }; 15];
+    for i in 0..n {
+        let c = controls[i];
+        let label = c.label;
+        let bounds = c.bounds;
+        let face = label.is_face();
+        at[i + 1] = Input { bounds, face };
+    }
+    let bounds = sticks[0];
+    at[n + 1] = Input { bounds, face };
+    let bounds = sticks[1];
+    at[n + 2] = Input { bounds, face };
+    InputList {
+        at,
+        count: n + 1 + l.stickcount,
+    }
+}
+
+// Face caps are circles, which stay apart where the corners of their boxes meet.
+fn separate(i: Input, j: Input) -> bool
+    ensures { λ r. ⌜ r ≡ separateOf i j ⌝ }
+{
+    let a = i.bounds;
+    let b = j.bounds;
+    if !a.overlaps(b) {
+        return true;
+    }
+    i.face
+        && (j.face
+            && hypot(
+                a.x + a.w / 2.0 - b.x - b.w / 2.0,
+                a.y + a.h / 2.0 - b.y - b.h / 2.0,
+            )
+                >= (a.w + b.w) / 2.0 + 3.99)
+}
+
+fn on_screen(r: Rect, w: f32, h: f32) -> bool
+    ensures { λ b. ⌜ b ≡ onScreenOf r w h ⌝ }
+{
+    r.x >= 0.0 && (r.y >= 0.0 && (r.x + r.w <= w + 0.01 && r.y + r.h <= h + 0.01))
+}
+
+// Whether the controller's elements lie on the screen, clear of the picture, of the holes and of each other.
+fn fits(l: Layout, w: f32, h: f32, game: Rect, holes: Cutouts) -> bool
+    requires { ⌜ (l .count ≤ 12) × (l .stickcount ≤ 2) × (holes .count ≤ 16) ⌝ }
+    ensures { λ r. ⌜ r ≡ fitsOf l w h game (cutoutList holes) ⌝ }
+{
+    let inputs = inputs(l);
+    let at = inputs.at;
+    let n = inputs.count;
+    let hole = holes.at;
+    let m = holes.count;
+    for i in 0..n {
+        let a = at[i];
+        let r = a.bounds;
+        if !on_screen(r, w, h) {
+            return false;
+        }
+        if r.overlaps(game) {
+            return false;
+        }
+        for k in 0..m {
+            let c = hole[k];
+            if r.overlaps(c) {
+                return false;
+            }
+        }
+        for j in i + 1..n {
+            let b = at[j];
+            if !separate(a, b) {
+                return false;
+            }
+        }
+    }
+    true
+}
+
+fn fitting(m: MaybeLayout, w: f32, h: f32, game: Rect, holes: Cutouts) -> bool
+    requires { ⌜ (m .layout .count ≤ 12) × (m .layout .stickcount ≤ 2) × (holes .count ≤ 16) ⌝ }
+    ensures { λ r. ⌜ r ≡ m .some && fitsOf (m .layout) w h game (cutoutList holes) ⌝ }
+{
+    if m.some {
+        let l = m.layout;
+        return fits(l, w, h, game, holes);
+    }
+    false
+}
+
+// A row below the picture, else stacks below it, else stacks beside it: the first that fits. The picture keeps its
+// size, and where nothing fits there is no layout. `base` is the default layout of the kind asked for.
+fn fitted(
+    base: Layout,
+    w: f32,
+    h: f32,
+    game: Rect,
+    analog: bool,
+    psp: bool,
+    holes: Cutouts,
+) -> MaybeLayout
+    requires { ⌜ (base .count ≤ 12) × (base .stickcount ≤ 2) × (holes .count ≤ 16) ⌝ }
+    ensures { λ r. ⌜ (maybe r ≡ fittedOf base w h game analog psp (cutoutList holes)) × (r .layout .count ≤ 12) × (r .layout .stickcount ≤ 2) ⌝ }
+{
+    let bottom = clamp(game.y + game.h, 0.0, h);
+    let high = h - bottom;
+    let half = w / 2.0;
+    let band = Rect {
+        x: 0.0,
+        y: bottom,
+        w,
+        h: high,
+    };
+    let row = horizontal(base, w, band, analog, psp);
+    if fitting(row, w, h, game, holes) {
+        return row;
+    }
+    let left = Rect {
+        x: 0.0,
+        y: bottom,
+        w: half,
+        h: high,
+    };
+    let right = Rect {
+        x: half,
+        y: bottom,
+        w: half,
+        h: high,
+    };
+    let below = vertical(base, left, right, analog);
+    if fitting(below, w, h, game, holes) {
+        return below;
+    }
+    let left_w = clamp(game.x, 0.0, w);
+    let right_x = clamp(game.x + game.w, 0.0, w);
+    let left = Rect {
+        x: 0.0,
+        y: 0.0,
+        w: left_w,
+        h,
+    };
+    let right = Rect {
+        x: right_x,
+        y: 0.0,
+        w: w - right_x,
+        h,
+    };
+    let beside = vertical(base, left, right, analog);
+    if fitting(beside, w, h, game, holes) {
+        return beside;
+    }
+    no_layout()
+}
+
+fn base(w: f32, h: f32, analog: bool, psp: bool) -> Layout
+    ensures { λ r. ⌜ (r ≡ baseOf w h analog psp) × (r .count ≤ 12) × (r .stickcount ≤ 2) ⌝ }
+{
+    if psp {
+        return defaults::psp(w, h);
+    }
+    if analog {
+        return defaults::analog_default(w, h);
+    }
+    arranged::arranged(w, h, false)
+}
+
+pub fn controls(w: f32, h: f32, game: Rect, analog: bool, psp: bool, holes: Cutouts) -> MaybeLayout
+    requires { ⌜ holes .count ≤ 16 ⌝ }
+    ensures { λ r. ⌜ (maybe r ≡ controlsOf w h game analog psp (cutoutList holes)) × (r .layout .count ≤ 12) × (r .layout .stickcount ≤ 2) ⌝ }
+{
+    fitted(base(w, h, analog, psp), w, h, game, analog, psp, holes)
+}
