@@ -35,7 +35,9 @@ fn main() {
 type Bench = fn(&str, &mut Random);
 
 const BENCHES: &[(&str, Bench)] = &[
-    ("hypot", hypot),
+    ("hypot", |n, r| hypot(n, r, 0.)),
+    // Each call waits for the answer of the last one, as a touch waits for it.
+    ("hypot in a chain", |n, r| hypot(n, r, f32::MIN_POSITIVE)),
     ("clear_picture_aspect 3 centred", |n, r| {
         clear(n, r, 3, false)
     }),
@@ -127,7 +129,9 @@ fn cutouts(r: &mut Random, w: f32, count: usize) -> Vec<Rect> {
     first.into_iter().chain(more).take(count).collect()
 }
 
-fn hypot(name: &str, r: &mut Random) {
+/// `link` is how much of an answer is added to the next call's argument; with 0
+/// the calls are independent.
+fn hypot(name: &str, r: &mut Random, link: f32) {
     // More pairs than the processor can learn.
     let pairs = r.list(8192, 8192, |r| {
         (r.between(-500., 500.), r.between(-500., 500.))
@@ -136,8 +140,14 @@ fn hypot(name: &str, r: &mut Random) {
         let pairs = &pairs;
         Box::new(move || {
             timed(|| {
+                let mut last = 0.;
                 for &(a, b) in pairs {
-                    black_box(f(black_box(a), b));
+                    last = if link == 0. {
+                        f(black_box(a), b)
+                    } else {
+                        f(a + last * link, b)
+                    };
+                    black_box(last);
                 }
             })
         })
