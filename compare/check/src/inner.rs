@@ -149,6 +149,7 @@ pub fn comparisons() -> Vec<Comparison> {
     let avoid = [
         ("avoid_cutouts", holes as fn(&mut Random) -> Holes),
         ("avoid_cutouts stacked", stacked_holes),
+        ("avoid_cutouts dense", dense_holes),
     ]
     .map(|(name, holes)| {
         compare(
@@ -370,9 +371,61 @@ fn stacked_holes(r: &mut Random) -> Holes {
     (layout, screen, cutouts)
 }
 
+/// The four face caps close together and 14 to 16 holes on top of them, with
+/// room on all sides: mostly over 200 candidate moves, many equally long.
+fn dense_holes(r: &mut Random) -> Holes {
+    let screen = [1600., 1600.];
+    let mut layout = any_layout(r);
+    for index in 0..access::element_count(&layout) {
+        let rect = if access::action_elements(&layout).contains(&index) {
+            Rect::new(
+                784. + 4. * r.whole(0, 8) as f32,
+                784. + 4. * r.whole(0, 8) as f32,
+                64.,
+                64.,
+            )
+        } else {
+            Rect::new(100. * index as f32, r.pick(&[0., 400., 1500.]), 48., 48.)
+        };
+        layout = access::set_element(&layout, index, rect);
+    }
+    let cutouts = r.list(14, 16, |r| {
+        let size = r.pick(&[8., 16., 16., 32.]);
+        Rect::new(
+            816. + 4. * r.whole(0, 7) as f32,
+            816. + 4. * r.whole(0, 7) as f32,
+            size,
+            size,
+        )
+    });
+    (layout, screen, cutouts)
+}
+
 #[cfg(test)]
 mod tests {
     use super::*;
+
+    /// The dense cases have over 200 candidate moves, and the group moves.
+    #[test]
+    fn dense_cases_are_dense() {
+        let r = &mut Random::new(1);
+        let (mut dense, mut moved) = (0, 0);
+        for _ in 0..1_000 {
+            let (layout, [w, h], cutouts) = dense_holes(r);
+            let caps = access::action_elements(&layout);
+            let meetings = caps.iter().map(|i| {
+                let cap = access::element(&layout, *i);
+                cutouts
+                    .iter()
+                    .filter(|c| access::overlaps(cap, **c))
+                    .count()
+            });
+            dense += u32::from(4 * meetings.sum::<usize>() > 200);
+            moved += u32::from(access::avoid_cutouts(&layout, w, h, &cutouts) != layout);
+        }
+        println!("{dense} {moved}");
+        assert!(dense > 800 && moved > 800, "{dense} {moved}");
+    }
 
     /// Each function has work to do in a good part of the cases.
     #[test]

@@ -6,7 +6,8 @@ use mathlib.Core.Logic.{_⊎_, inl, inr}
 use Prim.Native.Nat.{ℕ, zero, suc, _≤_}
 use native.Mathlib.Omega.{arith}
 use lib.Dec.{T, eqb}
-use lib.Ieee.{Float}
+use lib.Ieee.{Float, binary32}
+use lib.Ieee.Fits.{add-fits}
 use lib.ListN.{length, getD, set}
 use Rattle.geometry.specs.declared.Rect.{Rect}
 use Rattle.layout.specs.declared.Layout.{Layout}
@@ -58,7 +59,7 @@ module _ (w h : Float) where
   then : (a b c : Rect) → Settled w h a b → Settled w h b c → Settled w h a c
   then a b c p (inl e) = rw e p
   then a b c (inl e) (inr q) = inr (rw e at q)
-  then a b c (inr p) (inr q) = inr (record { inside = q .inside; width = q .width ∙ p .width; height = q .height ∙ p .height })
+  then a b c (inr p) (inr q) = inr (record { inside = q .inside; fitsx = q .fitsx; fitsy = q .fitsy; width = q .width ∙ p .width; height = q .height ∙ p .height })
 
   each-same : (xs : List Rect) → Each (Settled w h) xs xs
   each-same [] = tt
@@ -81,7 +82,7 @@ module _ (w h : Float) where
         let r = getD elements i anyRect in
         let b = both (clearOf w h holes others (movedOf (Go dx dy) r)) (allClearOf w h holes others (membersOf elements group) (Go dx dy)) a in
         let c = both (insideOf (movedOf (Go dx dy) r) w h) _ (b .0) in
-        each-move dx dy group (set es i (movedOf (Go dx dy) r)) (each-set (Settled w h) elements es i (movedOf (Go dx dy) r) e (inr (record { inside = c .0; width = refl; height = refl }))) (b .1)
+        each-move dx dy group (set es i (movedOf (Go dx dy) r)) (each-set (Settled w h) elements es i (movedOf (Go dx dy) r) e (inr (record { inside = c .0; fitsx = add-fits binary32 (r .x) dx; fitsy = add-fits binary32 (r .y) dy; width = refl; height = refl }))) (b .1)
 
     each-shift : (group : List ℕ) (m : Move) → (m ≡ Stay) ⊎ (allClearOf w h holes others (membersOf elements group) m ≡ true) → Each (Settled w h) elements (shiftOf elements group m)
     unfolding shiftOf
@@ -103,13 +104,13 @@ module _ (w h : Float) where
 
   module _ (l : Layout) (cutouts : List Rect) (cs : l .count ≤ length (l .controls)) (ss : l .stickcount ≤ length (l .sticks)) where
     -- the elements after the pass
-    abbrev after : List Rect
+    abbrev pub after : List Rect
     after = avoidOf w h (withAreaOf cutouts) (actionElementsOf l) (elementsOf l)
 
-    each-after : Each (Settled w h) (elementsOf l) after
+    pub each-after : Each (Settled w h) (elementsOf l) after
     each-after = each-group (withAreaOf cutouts) (elementsOf l) (elementsOf l) (actionElementsOf l ∷ singlesOf (actionElementsOf l) (length (elementsOf l))) (each-same (elementsOf l))
 
-    length-after : length after ≡ length (elementsOf l)
+    pub length-after : length after ≡ length (elementsOf l)
     length-after = each-length (Settled w h) (elementsOf l) _ each-after
 
     pub avoid-cutouts-kept : Kept l (avoidCutoutsOf l w h cutouts)

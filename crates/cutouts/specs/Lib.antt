@@ -1,3 +1,4 @@
 pub mod Cutouts
 pub mod Settled
 pub mod CutoutLaws
+pub mod CutoutRanges

@@ -3,13 +3,16 @@ use mathlib.Core.Path.{_≡_}
 use mathlib.Core.Bool.{true}
 use mathlib.Core.List.{List, [], _∷_}
 use mathlib.Core.Logic.{_⊎_}
-use lib.Ieee.{Float}
+use lib.Dec.{T}
+use lib.Ieee.{Float, binary32, fits}
 use Rattle.geometry.specs.declared.Rect.{Rect}
 use Rattle.moves.specs.Moves.{insideOf}
 
--- on a screen of w by h as f32 reckons, and as large as it was
+-- on a screen of w by h as f32 reckons, at an f32 corner, and as large as it was
 pub record Moved (w h : Float) (old new : Rect) : Type 0 where
   pub inside : insideOf new w h ≡ true
+  pub fitsx : T (fits binary32 (new .x))
+  pub fitsy : T (fits binary32 (new .y))
   pub width : new .w ≡ old .w
   pub height : new .h ≡ old .h
 
