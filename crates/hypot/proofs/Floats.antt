@@ -2,12 +2,12 @@
 use mathlib.Core.Path.{_≡_, refl, sym, ap, _∙_, subst}
 use mathlib.Core.Logic.{_⊎_, inl, inr}
 use Prim.Native.Nat.{ℕ, zero, suc, _+_, _-_, _*_, _/_, _%_, _^_, _≤_, _<_}
-use native.Mathlib.Nat.{le-of-lt, mul-div-cancel, min-eq-left, min-eq-right}
+use native.Mathlib.Nat.{le-trans, le-of-lt, lt-irrefl, mod-le, mul-div-cancel, min-eq-left, min-eq-right}
 use native.Mathlib.Omega.{arith}
 use mathlib.Core.Bool.{Bool, true, false, not, cond, true≢false}
 use lib.Dec.{T, leb, ltb, eqb, lt→ltb, not-T, eqb→eq}
 use lib.Arith.{le→nltb, lt→nleb}
-use lib.Ieee.{Float, nan, inf, fin, binary32, down, size, odd, units, fits, isNan, ne, ofFields, ofBits, toBits, nanBits}
+use lib.Ieee.{Float, nan, inf, fin, Format, binary32, prec, low, hid, ones, top, down, size, odd, units, fits, isNan, ne, ofFields, ofBits, toBits, nanBits}
 use lib.Ieee.Exact.{HasValue, odd-sign, units-val}
 use lib.Ieee.Fits.{odd-fits, down-pos}
 use lib.Ieee.Bits.{ofBits-toBits, ofBits-fits, cond-no, is-true, is-false, nanBits-is, nanBits-above}
@@ -18,30 +18,34 @@ use Rattle.hypot.proofs.Order.{lt-or-ge}
 use Rattle.hypot.proofs.Value.{value-lt, value-le, value-at}
 
 -- ---- a pattern's value
+pub fields-normal : (f : Format) (s : Bool) (x t : ℕ) → suc x < ones f → HasValue (ofFields f s (suc x) t) s ((hid f + t) * 2 ^ x) (2 ^ low f)
+unfolding ofFields
+fields-normal f s x t h =
+    subst (λ (v : Float). HasValue v s ((hid f + t) * 2 ^ x) (2 ^ low f)) (sym (cond-no (eqb (suc x) (ones f)) (cond (eqb t 0) (inf s) nan) (odd (prec f) s (hid f + t) x (low f)) (not-T (eqb (suc x) (ones f)) differ)))
+    (odd-sign (prec f) s (hid f + t) x (low f))
+  where
+    differ : T (eqb (suc x) (ones f)) → ⊥
+    differ u = lt-irrefl (ones f) (subst (λ (z : ℕ). z < ones f) (eqb→eq (suc x) (ones f) u) h)
+
 fields-value : (s : Bool) (x t : ℕ) → x < 255 → t < 8388608 → HasValue (ofFields binary32 s x t) s (value (x * 8388608 + t)) (2 ^ 149)
 unfolding ofFields
 fields-value s zero t X H = subst (λ (n : ℕ). HasValue (odd 24 s t 0 149) s n (2 ^ 149)) (sym (value-at 0 t (omega arith) (inl refl))) (odd-sign 24 s t 0 149)
 fields-value s (suc x) t X H =
-    subst (λ (v : Float). HasValue v s (value (suc x * 8388608 + t)) (2 ^ 149))
-    (sym (cond-no (eqb (suc x) 255) (cond (eqb t 0) (inf s) nan) (odd 24 s (8388608 + t) x 149) (not-T (eqb (suc x) 255) (λ (u : T (eqb (suc x) 255)). differ (eqb→eq (suc x) 255 u)))))
-    (subst (λ (n : ℕ). HasValue (odd 24 s (8388608 + t) x 149) s n (2 ^ 149)) (sym (ap value carry ∙ value-at x (8388608 + t) (omega arith) (inr (omega arith)))) (odd-sign 24 s (8388608 + t) x 149))
+    subst (λ (n : ℕ). HasValue (ofFields binary32 s (suc x) t) s n (2 ^ 149)) (sym (ap value carry ∙ value-at x (8388608 + t) (omega arith) (inr (omega arith)))) (fields-normal binary32 s x t X)
   where
-    differ : suc x ≡ 255 → ⊥
-    differ e = omega arith
-
     carry : suc x * 8388608 + t ≡ x * 8388608 + (8388608 + t)
     carry = omega arith
 
-ofBits-is : (b : ℕ) → ofBits binary32 b ≡ ofFields binary32 (leb 2147483648 b) (b % 2147483648 / 8388608) (b % 8388608)
+pub ofBits-is : (f : Format) (b : ℕ) → ofBits f b ≡ ofFields f (leb (top f) b) (b % top f / hid f) (b % hid f)
 unfolding ofBits
-ofBits-is b = refl
+ofBits-is f b = refl
 
 bits-value : (b : ℕ) → b % 2147483648 < 2139095040 → HasValue (ofBits binary32 b) (leb 2147483648 b) (value (b % 2147483648)) (2 ^ 149)
 bits-value b h =
     let x = b % 2147483648 / 8388608 in
     let t = b % 8388608 in
     let e : x * 8388608 + t ≡ b % 2147483648 = omega arith in
-    subst (λ (v : Float). HasValue v (leb 2147483648 b) (value (b % 2147483648)) (2 ^ 149)) (sym (ofBits-is b))
+    subst (λ (v : Float). HasValue v (leb 2147483648 b) (value (b % 2147483648)) (2 ^ 149)) (sym (ofBits-is binary32 b))
     (subst (λ (p : ℕ). HasValue (ofFields binary32 (leb 2147483648 b) x t) (leb 2147483648 b) (value p) (2 ^ 149)) e
     (fields-value (leb 2147483648 b) x t (omega arith) (omega arith)))
 
@@ -62,10 +66,13 @@ whole-of nan s n h = h
 whole-of (inf t) s n h = h
 whole-of (fin t m e) s n h = ap (λ (x : ℕ). x / down e) (h .1) ∙ mul-div-cancel n (down-pos e)
 
-pub finite-is : (x : Float) → T (fits binary32 x) → patternOf x < 2139095040 → Whole x (value (patternOf x))
-finite-is x held h =
+pub finite-value : (x : Float) → T (fits binary32 x) → patternOf x < 2139095040 → HasValue x (leb 2147483648 (toBits binary32 x)) (value (patternOf x)) (2 ^ 149)
+finite-value x held h =
     let b = toBits binary32 x in
-    subst (λ (y : Float). Whole y (value (patternOf x))) (ofBits-toBits binary32 x held) (whole-of (ofBits binary32 b) (leb 2147483648 b) (value (b % 2147483648)) (bits-value b h))
+    subst (λ (y : Float). HasValue y (leb 2147483648 b) (value (patternOf x)) (2 ^ 149)) (ofBits-toBits binary32 x held) (bits-value b h)
+
+pub finite-is : (x : Float) → T (fits binary32 x) → patternOf x < 2139095040 → Whole x (value (patternOf x))
+finite-is x held h = whole-of x _ _ (finite-value x held h)
 
 -- ---- `units`
 bits-at : (x : Float) (n : ℕ) → HasValue x false n (2 ^ 149) → toBits binary32 x ≡ (size n - 24) * 8388608 + n / 2 ^ (size n - 24)
@@ -124,13 +131,13 @@ no-nan nan h = absurd (true≢false h)
 no-nan (inf s) h = tt
 no-nan (fin s m e) h = tt
 
-pub no-nan-bits : (b : ℕ) → b ≤ 2139095040 → T (not (nanBits binary32 b))
-no-nan-bits b h = subst (λ (t : Bool). T (not t)) (sym (nanBits-above binary32 b)) (le→nltb 2139095040 (b % 2147483648) (omega arith))
+pub no-nan-bits : (f : Format) (b : ℕ) → b ≤ ones f * hid f → T (not (nanBits f b))
+no-nan-bits f b h = subst (λ (t : Bool). T (not t)) (sym (nanBits-above f b)) (le→nltb (ones f * hid f) (b % top f) (le-trans (mod-le b (top f)) h))
 
 -- ---- the infinity
-ones : (s : Bool) → ofFields binary32 s 255 0 ≡ inf s
+all-ones : (s : Bool) → ofFields binary32 s 255 0 ≡ inf s
 unfolding ofFields
-ones s = refl
+all-ones s = refl
 
 pub inf-is : (x : Float) → T (fits binary32 x) → patternOf x ≡ 2139095040 → (s : Bool) × (x ≡ inf s)
 inf-is x held h =
@@ -138,4 +145,4 @@ inf-is x held h =
     let s = leb 2147483648 b in
     let e : b % 2147483648 / 8388608 ≡ 255 = omega arith in
     let t : b % 8388608 ≡ 0 = omega arith in
-    (s, sym (ofBits-toBits binary32 x held) ∙ ofBits-is b ∙ ap (λ (y : ℕ). ofFields binary32 s y (b % 8388608)) e ∙ ap (λ (y : ℕ). ofFields binary32 s 255 y) t ∙ ones s)
+    (s, sym (ofBits-toBits binary32 x held) ∙ ofBits-is binary32 b ∙ ap (λ (y : ℕ). ofFields binary32 s y (b % 8388608)) e ∙ ap (λ (y : ℕ). ofFields binary32 s 255 y) t ∙ all-ones s)

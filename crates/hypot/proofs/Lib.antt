@@ -6,4 +6,5 @@ mod Floats
 mod Theorem
 mod Ways
 mod Cases
+mod Midpoints
 mod Squares

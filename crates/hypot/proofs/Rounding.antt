@@ -1,7 +1,7 @@
 -- Which pattern is nearest, by its neighbours; and no other is.
 use mathlib.Core.Path.{_≡_, refl, sym, ap, _∙_, subst}
 use mathlib.Core.Logic.{_⊎_, inl, inr}
-use Prim.Native.Nat.{ℕ, _+_, _-_, _*_, _%_, _^_, _≤_, _<_, Ordering, Ordering·lt, Ordering·eq, Ordering·gt}
+use Prim.Native.Nat.{ℕ, _+_, _*_, _%_, _^_, _≤_, _<_, Ordering, Ordering·lt, Ordering·eq, Ordering·gt}
 use native.Mathlib.Nat.{le-trans, le-of-eq, le-of-lt, lt-of-lt-of-le, lt-of-le-of-lt, le-refl, lt-irrefl, le-antisymm, eq-or-lt-of-le, add-comm, add-assoc, add-le-add, add-lt-add-of-lt-of-le}
 use native.Mathlib.Numerals.{add-one}
 use native.Mathlib.Omega.{arith}
@@ -71,7 +71,7 @@ module _ (n b : ℕ) where
       last : (p b : ℕ) → p < b + 1 → p ≤ b
       last p b h = omega arith
 
-  upper : mid (b + 1) b < 4 * n → 4 * n < mid (b + 1 + 1) (b + 1) → Nearest n (b + 1)
+  pub upper : mid (b + 1) b < 4 * n → 4 * n < mid (b + 1 + 1) (b + 1) → Nearest n (b + 1)
   upper lo hi = strict n (b + 1) (λ p h. lt-of-le-of-lt (mid-last p h) lo) hi
 
   nearest-at : value b * value b ≤ n → n < value (b + 1) * value (b + 1) → (o : Ordering) → Cmp o (4 * n) (mid (b + 1) b) → Nearest n (nearest b o)
@@ -122,19 +122,6 @@ module _ (k q : ℕ) (h : q < 16777216) (l : (k ≡ 0) ⊎ (8388608 ≤ q)) wher
       subst (λ (r : ℕ). Nearest n r) (shift o)
       (nearest-at n (k * 8388608 + q) (subst (λ (x : ℕ). x * x ≤ n) (sym (value-at k q (le-of-lt h) l)) lo) (subst (λ (x : ℕ). n < x * x) (sym value-next) hi) o
       (subst (λ (x : ℕ). Cmp o (4 * n) (x * x)) mid-next c))
-
--- Nearest is t * 2 ^ k, if the root lies strictly between the midpoints to the numbers beside it.
-pub between : (n k t : ℕ) → 8388608 < t → t < 16777216 → (2 * t - 1) * 2 ^ k * ((2 * t - 1) * 2 ^ k) < 4 * n → 4 * n < (2 * t + 1) * 2 ^ k * ((2 * t + 1) * 2 ^ k)
-    → Nearest n (k * 8388608 + t)
-between n k t least most lo hi =
-    let s = t - 1 in
-    let e : s + 1 ≡ t = omega arith in
-    let o : 2 * t - 1 ≡ 2 * s + 1 = omega arith in
-    let g : k * 8388608 + s + 1 ≡ k * 8388608 + t = add-assoc (k * 8388608) s 1 ∙ ap (λ (x : ℕ). k * 8388608 + x) e in
-    let below : mid (k * 8388608 + s + 1) (k * 8388608 + s) < 4 * n =
-    subst (λ (x : ℕ). x * x < 4 * n) (mid-next k s (omega arith) (inr (omega arith))) (subst (λ (x : ℕ). x * 2 ^ k * (x * 2 ^ k) < 4 * n) o lo) in
-    let above : 4 * n < mid (k * 8388608 + t + 1) (k * 8388608 + t) = subst (λ (x : ℕ). 4 * n < x * x) (mid-next k t most (inr (le-of-lt least))) hi in
-    subst (λ (r : ℕ). Nearest n r) g (upper n (k * 8388608 + s) below (subst (λ (r : ℕ). 4 * n < mid (r + 1) r) (sym g) above))
 
 -- ---- no other pattern is nearest: two that are lie on either side of a tie, so both are even, and one between them would be nearer
 not-less : (n r s : ℕ) → Nearest n r → Nearest n s → r < s → ⊥

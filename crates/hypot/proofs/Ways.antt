@@ -1,4 +1,4 @@
--- The three ways of `finite`: the larger side by itself, a candidate that is settled, and the root rounded.
+-- The two ways of `finite`: the larger side by itself, and the root rounded.
 use mathlib.Core.Path.{_≡_, sym, ap, _∙_, subst}
 use mathlib.Core.Logic.{_⊎_, inl, inr}
 use Prim.Native.Nat.{ℕ, suc, _+_, _-_, _*_, _/_, _^_, _≤_, _<_, compare, Ordering, Ordering·lt, Ordering·eq, Ordering·gt}
@@ -9,17 +9,17 @@ use lib.Ieee.{binary32, nearest, ofBits}
 use Rattle.hypot.specs.Hypot.{nearestRoot}
 use Rattle.hypot.specs.Pattern.{exponentOf, significandOf, value, f32At}
 use Rattle.hypot.specs.Nearest.{mid, Nearest}
-use Rattle.hypot.specs.Parts.{rootOf, Settled}
+use Rattle.hypot.specs.Parts.{rootOf}
 use Rattle.hypot.proofs.Order.{Cmp, cmp}
 use Rattle.hypot.proofs.Isqrt.{isqrt-from, isqrt-to, root-most, root-least, root-ge, root-cmp}
 use Rattle.hypot.proofs.Value.{significand-lt}
-use Rattle.hypot.proofs.Rounding.{lower, mid-next, nearest-digits, between}
+use Rattle.hypot.proofs.Rounding.{lower, mid-next, nearest-digits}
 use Rattle.hypot.proofs.Theorem.{nearest-is}
 
-parts : (p : ℕ) → exponentOf p * 8388608 + significandOf p ≡ p
+pub parts : (p : ℕ) → exponentOf p * 8388608 + significandOf p ≡ p
 parts p = omega arith
 
-finite-nearest : (n p : ℕ) → p < 2139095040 → Nearest n p → ofBits binary32 p ≡ nearestRoot n
+pub finite-nearest : (n p : ℕ) → p < 2139095040 → Nearest n p → ofBits binary32 p ≡ nearestRoot n
 finite-nearest n p h a = ap (ofBits binary32) (sym (min-eq-left (le-of-lt h))) ∙ nearest-is n p a
 
 -- ---- far apart: with c * K the larger side and v the smaller, v * v is less than c * K * K
@@ -111,19 +111,6 @@ module _ (n m f u k : ℕ) (e : 4 * n ≡ m * (2 ^ f * 2 ^ f)) (scale : u * 2 ^ 
 
   scaled-le : (x : ℕ) → x * u * (x * u) ≤ m → x * 2 ^ k * (x * 2 ^ k) ≤ 4 * n
   scaled-le x h = subst (λ (z : ℕ). x * 2 ^ k * (x * 2 ^ k) ≤ z) (sym e) (subst (λ (z : ℕ). z ≤ m * (2 ^ f * 2 ^ f)) (regroup x) (mul-le-mul-right (2 ^ f * 2 ^ f) h))
-
-pub settled : (n m f g : ℕ) → 4 * n ≡ m * (2 ^ f * 2 ^ f) → g < 2139095040 → Settled m f g → ofBits binary32 g ≡ nearestRoot n
-settled n m f g e h c =
-    let k = exponentOf g in
-    let t = significandOf g in
-    let u = 2 ^ (k - f) in
-    let scale : u * 2 ^ f ≡ 2 ^ k = sym (pow-add 2 (k - f) f) ∙ ap (λ (x : ℕ). 2 ^ x) (back k f (c .from)) in
-    finite-nearest n g h
-    (subst (λ (r : ℕ). Nearest n r) (parts g)
-    (between n k t (c .close .least) (significand-lt g) (scaled-cmp n m f u k e scale (2 * t - 1) Ordering·gt (c .close .low)) (scaled-cmp n m f u k e scale (2 * t + 1) Ordering·lt (c .close .high))))
-  where
-    back : (k f : ℕ) → f ≤ k → k - f + f ≡ k
-    back k f h = omega arith
 
 -- ---- the root rounded: c is what is left of w / 4 with k - f places dropped, and u is 2 ^ (k - f)
 pub record Kept (w f c u k : ℕ) : Type 0 where

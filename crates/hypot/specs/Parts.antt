@@ -1,22 +1,28 @@
 -- What the parts of the code say to each other.
-use Prim.Native.Nat.{ℕ, _+_, _-_, _*_, _^_, _≤_, _<_}
+use Prim.Native.Nat.{ℕ, _+_, _-_, _*_, _<_}
 use mathlib.Core.Bool.{cond}
-use lib.Dec.{ltb}
+use lib.Dec.{T, ltb}
+use lib.Ieee.{Float, binary64, ofBits, add, mul, lt}
 use Rattle.hypot.specs.Hypot.{isqrt}
-use Rattle.hypot.specs.Pattern.{exponentOf, significandOf}
 
 -- Twice the whole part of the root of m, and one more if the root is not whole.
 abbrev pub rootOf : ℕ → ℕ
 rootOf m = cond (ltb (isqrt m * isqrt m) m) (2 * isqrt m + 1) (2 * isqrt m)
 
--- The root of m lies strictly between the midpoints to the numbers beside 2 * t * u, and t is above the least number of 24 digits, below which
--- f32 lie twice as dense.
-pub record Close (m t u : ℕ) : Type 0 where
-  pub least : 8388608 < t
-  pub low : (2 * t - 1) * u * ((2 * t - 1) * u) < m
-  pub high : m < (2 * t + 1) * u * ((2 * t + 1) * u)
+abbrev pub squareOf : Float → Float
+squareOf x = mul binary64 x x
 
--- The f32 with the pattern g is close, m being counted in squares of 2 ^ (f - 150).
-pub record Settled (m f g : ℕ) : Type 0 where
-  pub from : f ≤ exponentOf g
-  pub close : Close m (significandOf g) (2 ^ (exponentOf g - f))
+-- The sum of the squares, rounded to f64.
+abbrev pub sumOfSquaresOf : Float → Float → Float
+sumOfSquaresOf a b = add binary64 (squareOf a) (squareOf b)
+
+-- Halfway between an f32 and the next. p is the f32's pattern with the exponents of f64, which are 896 more; f64 has 29 digits more.
+abbrev pub midpointOf : ℕ → Float
+midpointOf p = ofBits binary64 ((2 * p + 1) * 268435456)
+
+-- t lies strictly between the squares of the midpoints beside the f32 with the pattern p, which is above the least normal one.
+pub record Settled (t : Float) (p : ℕ) : Type 0 where
+  pub least : 7524581376 < p
+  pub most : p < 9655287808
+  pub low : T (lt (squareOf (midpointOf (p - 1))) t)
+  pub high : T (lt t (squareOf (midpointOf p)))

@@ -1,14 +1,15 @@
 // `hypot` of two f32: the f32 nearest the exact root of the sum of squares, ties to even.
-// The sides go by their bit patterns. An f64 estimate gives a candidate, and whole numbers tell whether it is surely the nearest f32.
-// If not, the root is taken in whole numbers and rounded.
+// An f64 estimate of the root gives a candidate. It is surely the nearest f32 if the sum of squares, rounded to f64, lies between the rounded
+// squares of the midpoints beside it: rounding keeps the order. If not, the root is taken in whole numbers and rounded.
 ghost use mathlib.Core.Path.{_≡_};
+ghost use mathlib.Core.Bool.{not};
 ghost use mathlib.Core.Logic.{_⊎_};
 ghost use Prim.Native.Nat.{ℕ, _+_, _*_, _^_, _≤_, _<_, compare, min, max};
 ghost use lib.Dec.{T, ltb};
-ghost use lib.Ieee.{nearest};
+ghost use lib.Ieee.{nearest, isNan};
 ghost use Rattle.hypot.specs.Hypot.{isqrt, nearestRoot, hypotOf};
 ghost use Rattle.hypot.specs.Pattern.{patternOf, exponentOf, significandOf, value, f32At};
-ghost use Rattle.hypot.specs.Parts.{rootOf, Close, Settled};
+ghost use Rattle.hypot.specs.Parts.{rootOf, sumOfSquaresOf, midpointOf, Settled};
 
 // The bit pattern of x without its sign. A NaN's lies above the infinity's.
 fn pattern(x: f32) -> u32
@@ -49,7 +50,7 @@ fn smaller(p: u32, q: u32) -> u32
 
 fn shifted(m: u64, d: u32) -> u64
     requires { ⌜ m < 16777216 ⌝ }
-    requires { ⌜ d ≤ 13 ⌝ }
+    requires { ⌜ d ≤ 12 ⌝ }
     ensures { λ r. ⌜ r ≡ m * 2 ^ d ⌝ }
 {
     m << d
@@ -164,74 +165,6 @@ fn rounded(w: u64, f: u32) -> f32
     packed(nearer(c, w, h), k)
 }
 
-// A pattern that is mostly the answer, the larger side first. The largest of three linear forms is off by less than one part in 200. What follows
-// is two steps of Newton's method with one division. All that is relied on is that the result is finite.
-fn estimate(p: u32, q: u32) -> u32
-    requires { ⌜ p < 2139095040 ⌝ }
-    requires { ⌜ q < 2139095040 ⌝ }
-    ensures { λ r. ⌜ r < 2139095040 ⌝ }
-{
-    let x = std::num::f32_to_f64_with_nan(f32::from_bits(p));
-    let y = std::num::f32_to_f64_with_nan(f32::from_bits(q));
-    let t = x * x + y * y;
-    let near = x * 0.9959 + y * 0.1311;
-    let mid = x * 0.9281 + y * 0.3844;
-    let far = x * 0.7969 + y * 0.6115;
-    let mut a = near;
-    if a < mid {
-        a = mid;
-    }
-    if a < far {
-        a = far;
-    }
-    let g = a * a;
-    let h = g + t;
-    let r = (h * h + 4.0 * g * t) / (4.0 * a * h);
-    if r != r {
-        return 0;
-    }
-    // 24 digits of the 53, and the exponent, whose bias differs by 896
-    let c = (f64::to_bits(r) / 268435456 % 68719476736 + 1) / 2;
-    if c <= 7516192768 {
-        return 0;
-    }
-    let b = c - 7516192768;
-    if b < 2139095040 { b as u32 } else { 0 }
-}
-
-// Whether the root of s * s + n * n surely rounds to 2 * t * u, t counting the last places.
-fn close(s: u64, n: u64, t: u64, u: u64) -> bool
-    requires { ⌜ s < 137438953472 ⌝ }
-    requires { ⌜ n < 33554432 ⌝ }
-    requires { ⌜ t < 16777216 ⌝ }
-    requires { ⌜ u ≤ 8192 ⌝ }
-    ensures { λ r. ⌜ (T r → Close (s * s + n * n) t u) ⌝ }
-{
-    if t <= 0x80_0000 {
-        return false;
-    }
-    if below_root(s, n, (2 * t - 1) * u) {
-        return above_root(s, n, (2 * t + 1) * u);
-    }
-    false
-}
-
-// Whether g is surely the pattern of the f32 nearest the root of s * s + n * n, counted in units of 2 ^ (f - 150).
-fn settled(s: u64, n: u64, f: u32, g: u32) -> bool
-    requires { ⌜ s < 137438953472 ⌝ }
-    requires { ⌜ n < 33554432 ⌝ }
-    ensures { λ r. ⌜ (T r → Settled (s * s + n * n) f g) ⌝ }
-{
-    let k = exponent(g);
-    if k < f {
-        return false;
-    }
-    if k - f > 13 {
-        return false;
-    }
-    close(s, n, significand(g), shifted(1, k - f))
-}
-
 // `hypot` of two finite sides by their patterns, the larger first. If its exponent is 13 or more above the other's, the root exceeds it by less
 // than half of its last place.
 fn finite(p: u32, q: u32) -> f32
@@ -246,15 +179,11 @@ fn finite(p: u32, q: u32) -> f32
     }
     let s = 2 * shifted(significand(p), e - f);
     let n = 2 * significand(q);
-    let g = estimate(p, q);
-    if settled(s, n, f, g) {
-        return f32::from_bits(g);
-    }
     rounded(root(s, n), f)
 }
 
-// Infinite if either side is, else NaN with NaN.
-pub fn hypot(a: f32, b: f32) -> f32
+// `hypot` in whole numbers: infinite if either side is, else NaN with NaN.
+fn exact(a: f32, b: f32) -> f32
     ensures { λ r. ⌜ r ≡ hypotOf a b ⌝ }
 {
     let p = pattern(a);
@@ -272,4 +201,81 @@ pub fn hypot(a: f32, b: f32) -> f32
         return b;
     }
     finite(larger(p, q), smaller(p, q))
+}
+
+// The sum of the squares. An f64 holds each square exactly.
+fn sum_of_squares(a: f32, b: f32) -> f64
+    requires { ⌜ T (not (isNan a)) ⌝ }
+    requires { ⌜ T (not (isNan b)) ⌝ }
+    ensures { λ r. ⌜ r ≡ sumOfSquaresOf a b ⌝ }
+{
+    let x = a as f64;
+    let y = b as f64;
+    x * x + y * y
+}
+
+// About the root of t. Half of its bit pattern, with the bias of the exponents put right, is off by less than one part in 27, and the step from
+// there leaves less than one part in 2 ^ 33. Nothing is relied on.
+fn estimate(t: f64) -> f64 {
+    if t != t {
+        return t;
+    }
+    let a = f64::from_bits(f64::to_bits(t) / 2 % 0x4000_0000_0000_0000 + 0x1ff7_7000_0000_0000);
+    let g = a * a;
+    let s = g + t;
+    let h = s * s;
+    let p = g * t;
+    s * (h + 12.0 * p) / (a * (6.0 * h + 8.0 * p))
+}
+
+// The pattern of the f32 nearest r, as `midpoint` has it.
+fn candidate(r: f64) -> u64 {
+    if r != r {
+        return 0;
+    }
+    (f64::to_bits(r) / 0x1000_0000 % 0x10_0000_0000 + 1) / 2
+}
+
+// Halfway between the f32 with the pattern p and the next, p counting the exponents as f64 does.
+fn midpoint(p: u64) -> f64
+    requires { ⌜ p < 9655287808 ⌝ }
+    ensures { λ r. ⌜ r ≡ midpointOf p ⌝ }
+{
+    f64::from_bits((2 * p + 1) * 0x1000_0000)
+}
+
+// Whether the f32 with the pattern p is surely the nearest to the root of the sum of squares that was rounded to t.
+fn settled(t: f64, p: u64) -> bool
+    ensures { λ r. ⌜ (T r → Settled t p) ⌝ }
+{
+    if p <= 7524581376 {
+        return false;
+    }
+    if p >= 9655287808 {
+        return false;
+    }
+    let low = midpoint(p - 1);
+    let high = midpoint(p);
+    if low * low < t {
+        t < high * high
+    } else {
+        false
+    }
+}
+
+pub fn hypot(a: f32, b: f32) -> f32
+    ensures { λ r. ⌜ r ≡ hypotOf a b ⌝ }
+{
+    if a != a {
+        return exact(a, b);
+    }
+    if b != b {
+        return exact(a, b);
+    }
+    let t = sum_of_squares(a, b);
+    let p = candidate(estimate(t));
+    if settled(t, p) {
+        return f32::from_bits((p - 7516192768) as u32);
+    }
+    exact(a, b)
 }

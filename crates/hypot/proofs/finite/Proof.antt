@@ -1,14 +1,13 @@
--- `finite` meets its contract, on each of its three ways.
+-- `finite` meets its contract, on each of its two ways.
 use native.Mathlib.Omega.{arith}
 use mathlib.Core.Path.{_≡_, sym, subst}
 use mathlib.Core.Logic.{_⊎_}
 use Prim.Native.Nat.{ℕ, _+_, _-_, _*_, _^_, _<_, _≤_}
-use native.Mathlib.Nat.{le-of-lt}
-use lib.Dec.{T}
 use Rattle.hypot.specs.Pattern.{value}
 use Rattle.hypot.specs.Parts.{rootOf}
+use lib.Ieee.{binary32}
 use Rattle.hypot.proofs.Floats.{no-nan-bits}
-use Rattle.hypot.proofs.Ways.{far, near, shifted-lt, root-small, settled}
+use Rattle.hypot.proofs.Ways.{far, near, shifted-lt, root-small}
 use borrow.Author.Needs.{needs}
 use Rattle.hypot.proofs.finite.Statement.{statement}
 use Rattle.hypot.proofs.finite.Tie as tie
@@ -46,7 +45,7 @@ sub-if1 : tie.Need-sub-if1
 sub-if1 c = search needs
 
 float-from-bits-result : tie.Need-float-from-bits-result
-float-from-bits-result c = no-nan-bits (c .before .before .before .args .p) (omega arith)
+float-from-bits-result c = no-nan-bits binary32 (c .before .before .before .args .p) (omega arith)
 
 returns : tie.Need-returns
 returns c =
@@ -71,24 +70,12 @@ significand-requires-2 c κs = search needs
 mul-n : tie.Need-mul-n
 mul-n c = search needs
 
-estimate-requires : tie.Need-estimate-requires
-estimate-requires c κs = search needs
-
-settled-requires : tie.Need-settled-requires
-settled-requires c κs = (omega (arith, small (c .before .before)), omega arith)
-
-float-from-bits-result-2 : tie.Need-float-from-bits-result-2
-float-from-bits-result-2 c = no-nan-bits (c .before .before .estimate .result) (le-of-lt (c .before .before .estimate .ensures))
-
-returns-2 : tie.Need-returns-2
-returns-2 c = settled _ _ _ _ (sides (c .before .before .before) .0) (c .before .before .estimate .ensures) (c .before .settled .ensures (subst T (sym (c .if2 .taken)) tt))
-
 root-requires : tie.Need-root-requires
-root-requires c κs = (omega (arith, small (c .before .before .before .before)), omega arith)
+root-requires c κs = (omega (arith, small (c .before)), omega arith)
 
 rounded-requires : tie.Need-rounded-requires
 rounded-requires c κs =
-    let b = c .before .before .before .before in (
+    let b = c .before in (
       subst (λ (w : ℕ). w < 1099511627776) (sym (c .root .ensures)) (root-small _ _ (omega (arith, small (b .before))) (omega arith)),
       (
         omega arith,
@@ -96,9 +83,9 @@ rounded-requires c κs =
       ),
     )
 
-returns-3 : tie.Need-returns-3
-returns-3 c =
-    let b = c .before .before .before .before .before in
+returns-2 : tie.Need-returns-2
+returns-2 c =
+    let b = c .before .before in
     c .rounded .ensures (sum b) (scaled b) (c .before .root .ensures) (sides b .0)
 
 pub finite-spec : {M : Type 1} → statement M
@@ -116,10 +103,6 @@ finite-spec =
     mul-s
     significand-requires-2
     mul-n
-    estimate-requires
-    settled-requires
-    float-from-bits-result-2
-    returns-2
     root-requires
     rounded-requires
-    returns-3)
+    returns-2)

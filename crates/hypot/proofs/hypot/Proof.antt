@@ -1,85 +1,77 @@
--- `hypot` meets its contract.
-use mathlib.Core.Path.{sym, _∙_, subst}
-use native.Mathlib.Omega.{arith}
-use lib.Dec.{T}
-use lib.Ieee.{binary32, fits}
+-- `hypot` meets its contract: a settled candidate is the nearest f32.
 use borrow.Author.Needs.{needs}
-use Rattle.hypot.proofs.Floats.{no-nan-bits, inf-bits}
-use Rattle.hypot.proofs.Cases.{first-inf, second-inf, first-nan, second-nan, finite-both}
+use native.Mathlib.Omega.{arith}
+use mathlib.Core.Path.{sym, subst}
+use lib.Dec.{T}
+use lib.Ieee.{Float, binary32}
+use Rattle.hypot.specs.Parts.{sumOfSquaresOf, Settled}
+use Rattle.hypot.proofs.Floats.{no-nan, no-nan-bits}
+use Rattle.hypot.proofs.Midpoints.{settled}
 use Rattle.hypot.proofs.hypot.Statement.{statement}
 use Rattle.hypot.proofs.hypot.Tie as tie
 
-held-a : (c : tie.Start) → T (fits binary32 (c .args .a))
-held-a c = subst T (sym (c .good .0 .1)) tt
+certain : (c : tie.Then3) → Settled (sumOfSquaresOf (c .before .before .before .before .before .before .before .args .a) (c .before .before .before .before .before .before .before .args .b)) (c .before .before .candidate .result)
+certain c = subst (λ (t : Float). Settled t (c .before .before .candidate .result)) (c .before .before .before .before .sum-of-squares .ensures) (c .before .settled .ensures (subst T (sym (c .if3 .taken)) tt))
 
-held-b : (c : tie.Start) → T (fits binary32 (c .args .b))
-held-b c = subst T (sym (c .good .1 .0 .1)) tt
-
-pattern-requires : tie.Need-pattern-requires
-pattern-requires c κs = search needs
-
-pattern-requires-2 : tie.Need-pattern-requires-2
-pattern-requires-2 c κs = search needs
-
-float-from-bits-result : tie.Need-float-from-bits-result
-float-from-bits-result c = no-nan-bits 2139095040 (omega arith)
+exact-requires : tie.Need-exact-requires
+exact-requires c κs = search needs
 
 returns : tie.Need-returns
-returns c =
-    let s = c .before .before .before in
-    inf-bits ∙ first-inf (s .args .a) (s .args .b) (held-a s) (held-b s) (sym (c .before .before .pattern .ensures) ∙ c .if1 .taken)
+returns c = c .exact .ensures
 
-float-from-bits-result-2 : tie.Need-float-from-bits-result-2
-float-from-bits-result-2 c = no-nan-bits 2139095040 (omega arith)
+exact-requires-2 : tie.Need-exact-requires-2
+exact-requires-2 c κs = search needs
 
 returns-2 : tie.Need-returns-2
-returns-2 c =
-    let s = c .before .before .before .before in
-    inf-bits ∙ second-inf (s .args .a) (s .args .b) (held-a s) (held-b s) (sym (c .before .before .pattern2 .ensures) ∙ c .if2 .taken)
+returns-2 c = c .exact2 .ensures
+
+sum-of-squares-requires : tie.Need-sum-of-squares-requires
+sum-of-squares-requires c κs = (no-nan _ (c .before .if1 .left), no-nan _ (c .if2 .left))
+
+estimate-requires : tie.Need-estimate-requires
+estimate-requires c κs = search needs
+
+candidate-requires : tie.Need-candidate-requires
+candidate-requires c κs = search needs
+
+settled-requires : tie.Need-settled-requires
+settled-requires c κs = search needs
+
+sub-result : tie.Need-sub-result
+sub-result c = omega (arith, certain c .least)
+
+cast-result : tie.Need-cast-result
+cast-result c = omega (arith, certain c .least, certain c .most)
+
+float-from-bits-result : tie.Need-float-from-bits-result
+float-from-bits-result c = no-nan-bits binary32 _ (omega (arith, certain c .least, certain c .most))
 
 returns-3 : tie.Need-returns-3
 returns-3 c =
-    let q = c .before .before .before in
-    let s = q .before .before in
-    first-nan (s .args .a) (s .args .b) (held-a s) (held-b s) (omega (arith, q .before .pattern .ensures, c .if3 .taken)) (λ h. c .before .if2 .left (q .pattern2 .ensures ∙ h))
+    let s = c .before .before .before .before .before .before .before in
+    settled (s .args .a) (s .args .b) _ (subst T (sym (s .good .0 .1)) tt) (subst T (sym (s .good .1 .0 .1)) tt) (certain c)
+
+exact-requires-3 : tie.Need-exact-requires-3
+exact-requires-3 c κs = search needs
 
 returns-4 : tie.Need-returns-4
-returns-4 c =
-    let q = c .before .before .before .before in
-    let s = q .before .before in
-    second-nan (s .args .a) (s .args .b) (held-a s) (held-b s) (omega (arith, q .pattern2 .ensures, c .if4 .taken))
-    (λ h. c .before .before .before .if1 .left (q .before .pattern .ensures ∙ h))
-
-larger-requires : tie.Need-larger-requires
-larger-requires c κs = search needs
-
-smaller-requires : tie.Need-smaller-requires
-smaller-requires c κs = search needs
-
-finite-requires : tie.Need-finite-requires
-finite-requires c κs = (omega arith, omega arith)
-
-returns-5 : tie.Need-returns-5
-returns-5 c =
-    let q = c .before .before .before .before .before .before .before in
-    let s = q .before .before in
-    c .finite .ensures
-    ∙ finite-both (s .args .a) (s .args .b) (held-a s) (held-b s) _ _ _ _ (q .before .pattern .ensures) (q .pattern2 .ensures) (c .before .before .larger .ensures)
-    (c .before .smaller .ensures) (omega arith) (omega arith)
+returns-4 c = c .exact3 .ensures
 
 pub hypot-spec : {M : Type 1} → statement M
 hypot-spec =
     tie.close
     (tie.spec
-    pattern-requires
-    pattern-requires-2
-    float-from-bits-result
+    exact-requires
     returns
-    float-from-bits-result-2
+    exact-requires-2
     returns-2
+    sum-of-squares-requires
+    estimate-requires
+    candidate-requires
+    settled-requires
+    sub-result
+    cast-result
+    float-from-bits-result
     returns-3
-    returns-4
-    larger-requires
-    smaller-requires
-    finite-requires
-    returns-5)
+    exact-requires-3
+    returns-4)

@@ -19,10 +19,10 @@ add-b : tie.Need-add-b
 add-b c = search needs
 
 float-from-bits-result : tie.Need-float-from-bits-result
-float-from-bits-result c = no-nan-bits (c .before .args .k * 8388608 + c .before .args .t) (omega arith)
+float-from-bits-result c = no-nan-bits binary32 (c .before .args .k * 8388608 + c .before .args .t) (omega arith)
 
 float-from-bits-result-2 : tie.Need-float-from-bits-result-2
-float-from-bits-result-2 c = no-nan-bits 2139095040 (omega arith)
+float-from-bits-result-2 c = no-nan-bits binary32 2139095040 (omega arith)
 
 returns : tie.Need-returns
 returns c = ap (ofBits binary32) (sym (min-eq-left (le-of-lt (c .if1 .taken))))

@@ -1,0 +1,222 @@
+-- A candidate is nearest if the rounded sum of squares lies between the rounded squares of its midpoints, since rounding keeps the order.
+use mathlib.Core.Path.{_≡_, refl, sym, ap, _∙_, subst}
+use mathlib.Core.Logic.{inl, inr}
+use Prim.Native.Nat.{ℕ, suc, _+_, _-_, _*_, _/_, _%_, _^_, _≤_, _<_, zero-le}
+use native.Mathlib.Nat.{le-of-lt, le-of-eq, eq-or-lt-of-le, lt-of-lt-of-le, lt-of-le-of-lt, le-add-right, not-le-of-lt, mul-pos, mul-mul-mul-comm, lt-of-mul-lt-mul-right}
+use native.Mathlib.Omega.{arith}
+use mathlib.Core.Bool.{Bool, true, false, _&&_, _||_, true≢false}
+use lib.Dec.{T, ltb, eqb, leb, ltb→lt, eqb→eq}
+use lib.Arith.{lt→nleb}
+use lib.Pow.{pow-pos, pow-add, pow-mono, shl-lt}
+use lib.Ieee.{Float, nan, inf, fin, Format, binary32, binary64, up, down, unlike, round, add, mul, lt, le, fits, ofBits}
+use lib.Ieee.Fits.{down-pos, and-l, and-r}
+use lib.Ieee.Exact.{HasValue, round-exact}
+use lib.Ieee.Order.{round-mono}
+use lib.Ieee.Scale.{finite, round-same}
+use lib.Ieee.Positive.{positive-of-value, mul-at}
+use lib.Ieee.Bits.{is-false}
+use Rattle.hypot.specs.Hypot.{hypotOf}
+use Rattle.hypot.specs.Pattern.{patternOf, exponentOf, significandOf, value}
+use Rattle.hypot.specs.Nearest.{mid}
+use Rattle.hypot.specs.Parts.{squareOf, sumOfSquaresOf, midpointOf, Settled}
+use Rattle.hypot.proofs.Order.{lt-or-ge, square-lt}
+use Rattle.hypot.proofs.Floats.{ofBits-is, fields-normal, finite-value, nan-is, inf-is}
+use Rattle.hypot.proofs.Rounding.{mid-next, upper}
+use Rattle.hypot.proofs.Ways.{parts, finite-nearest}
+use Rattle.hypot.proofs.Cases.{hypot-is-root}
+use Rattle.hypot.proofs.Value.{significand-lt, value-lt}
+
+-- ---- the order of rounded fractions
+neither : (x y : Bool) {a b : ℕ} → (T x → b ≤ a) → (T y → b ≤ a) → a < b → T (x || y) → ⊥
+neither true y p q h t = not-le-of-lt h (p t)
+neither false y p q h t = not-le-of-lt h (q t)
+
+same : (a b : ℕ) (x : Bool) → T (eqb a b && x) → a ≡ b
+same a b x t = eqb→eq a b (and-l (eqb a b) x t)
+
+nothing : (a b : ℕ) → a ≡ b → a ≡ 0 → 0 < b + a → ⊥
+nothing a b e z h = omega arith
+
+lt-not-le : (x y : Float) → T (lt x y) → T (le y x) → ⊥
+unfolding lt le
+lt-not-le nan y t u = t
+lt-not-le (inf s) nan t u = u
+lt-not-le (inf true) (inf true) t u = t
+lt-not-le (inf true) (inf false) t u = u
+lt-not-le (inf false) (inf s) t u = t
+lt-not-le (inf true) (fin r n d) t u = u
+lt-not-le (inf false) (fin r n d) t u = t
+lt-not-le (fin s m e) nan t u = u
+lt-not-le (fin s m e) (inf true) t u = t
+lt-not-le (fin s m e) (inf false) t u = u
+lt-not-le (fin false m e) (fin true n d) t u = t
+lt-not-le (fin true m e) (fin false n d) t u =
+    let a = m * up e * down d in
+    let b = n * up d * down e in
+    nothing b a (same b a (eqb b 0) u) (eqb→eq b 0 (and-r (eqb b a) (eqb b 0) u)) (ltb→lt 0 (a + b) t)
+lt-not-le (fin false m e) (fin false n d) t u =
+    let a = m * up e * down d in
+    let b = n * up d * down e in
+    neither (ltb b a) (eqb b a && true) (λ v. le-of-lt (ltb→lt b a v)) (λ v. le-of-eq (same b a true v)) (ltb→lt a b t) u
+lt-not-le (fin true m e) (fin true n d) t u =
+    let a = m * up e * down d in
+    let b = n * up d * down e in
+    neither (ltb a b) (eqb b a && true) (λ v. le-of-lt (ltb→lt a b v)) (λ v. le-of-eq (sym (same b a true v))) (ltb→lt b a t) u
+
+-- of two fractions the one that rounds to less is the less
+round-lt : (f : Format) (a b c d : ℕ) → 0 < b → 0 < d → T (lt (round f false a b) (round f false c d)) → a * d < c * b
+round-lt f a b c d B D t = elim (lt-or-ge (a * d) (c * b)) [ inl h ↦ h | inr h ↦ absurd (lt-not-le _ _ t (round-mono f c d a b D B h)) ]
+
+-- ---- the sum of squares
+abbrev L : ℕ
+L = 2 ^ 149
+
+squared : (m l v d : ℕ) → m * l ≡ v * d → m * m * (l * l) ≡ v * v * (d * d)
+squared m l v d h = mul-mul-mul-comm m m l l ∙ ap (λ (z : ℕ). z * z) h ∙ mul-mul-mul-comm v d v d
+
+alike : (s : Bool) → unlike s s ≡ false
+alike true = refl
+alike false = refl
+
+square-is : (x : Float) (s : Bool) (v : ℕ) → HasValue x s v L → squareOf x ≡ round binary64 false (v * v) (L * L)
+unfolding mul
+square-is nan s v h = absurd h
+square-is (inf t) s v h = absurd h
+square-is (fin t m e) s v h =
+    let n = m * up e in
+    let d = down e in
+    ap (λ (z : Bool). round binary64 z (n * n) (d * d)) (alike t) ∙ round-same binary64 false (n * n) (d * d) (v * v) (L * L) (mul-pos (down-pos e) (down-pos e)) (pow-pos 298) (squared n L v d (h .1))
+
+square-exact : (p : ℕ) → p < 2139095040 → HasValue (round binary64 false (value p * value p) (L * L)) false (value p * value p) (L * L)
+square-exact p h =
+    let c = significandOf p in
+    let k = exponentOf p in
+    let j = 776 + (k + k) in
+    let small : c * c < 2 ^ 48 = square-lt (significand-lt p) in
+    let short : 48 ≤ 53 = omega arith in
+    let place : 48 + j ≤ 2098 = omega arith in
+    round-exact binary64 false (value p * value p) (L * L) (c * c) j (pow-pos 298) (lt-of-lt-of-le small (pow-mono short))
+    (lt-of-lt-of-le (shl-lt 48 j small) (pow-mono place))
+    (spread c (2 ^ k) (2 ^ 776) (L * L) ∙ ap (λ (z : ℕ). c * c * z * (L * L)) (sym (pow-add 2 776 (k + k) ∙ ap (λ (z : ℕ). 2 ^ 776 * z) (pow-add 2 k k))))
+  where
+    spread : (c K J W : ℕ) → c * K * (c * K) * (J * W) ≡ c * c * (J * (K * K)) * W
+    spread c K J W = omega arith
+
+square-value : (x : Float) → T (fits binary32 x) → patternOf x < 2139095040 → HasValue (squareOf x) false (value (patternOf x) * value (patternOf x)) (L * L)
+square-value x held h = rw (square-is x _ _ (finite-value x held h)) (square-exact (patternOf x) h)
+
+added : (m n a b d e c : ℕ) → m * c ≡ a * d → n * c ≡ b * e → (m * e + n * d) * c ≡ (a + b) * (d * e)
+added m n a b d e c h k = omega (arith, ap (λ (z : ℕ). z * e) h, ap (λ (z : ℕ). z * d) k)
+
+sum-is : (f : Format) (x y : Float) (a b c : ℕ) → 0 < c → HasValue x false a c → HasValue y false b c → add f x y ≡ round f false (a + b) c
+unfolding add
+sum-is f nan y a b c C h k = absurd h
+sum-is f (inf s) y a b c C h k = absurd h
+sum-is f (fin s m e) nan a b c C h k = absurd k
+sum-is f (fin s m e) (inf t) a b c C h k = absurd k
+sum-is f (fin true m e) (fin t n d) a b c C h k = absurd (true≢false (h .0))
+sum-is f (fin false m e) (fin true n d) a b c C h k = absurd (true≢false (k .0))
+sum-is f (fin false m e) (fin false n d) a b c C h k =
+    round-same f false (m * up e * down d + n * up d * down e) (down e * down d) (a + b) c (mul-pos (down-pos e) (down-pos d)) C (added (m * up e) (n * up d) a b (down e) (down d) c (h .1) (k .1))
+
+-- ---- both sides are finite, if the sum lies between two floats
+lies-between : (x t y : Float) → T (lt x t) → T (lt t y) → T (finite t)
+unfolding lt
+lies-between x nan y h k = k
+lies-between nan (inf true) y h k = h
+lies-between (inf true) (inf true) y h k = h
+lies-between (inf false) (inf true) y h k = h
+lies-between (fin s m e) (inf true) y h k = h
+lies-between x (inf false) nan h k = k
+lies-between x (inf false) (inf t) h k = k
+lies-between x (inf false) (fin t n d) h k = k
+lies-between x (fin s m e) y h k = tt
+
+finite-sum : (x y : Float) → T (finite (add binary64 x y)) → T (finite x) × T (finite y)
+unfolding add
+finite-sum nan y h = absurd h
+finite-sum (inf s) nan h = absurd h
+finite-sum (inf true) (inf true) h = absurd h
+finite-sum (inf true) (inf false) h = absurd h
+finite-sum (inf false) (inf true) h = absurd h
+finite-sum (inf false) (inf false) h = absurd h
+finite-sum (inf s) (fin t n d) h = absurd h
+finite-sum (fin s m e) nan h = absurd h
+finite-sum (fin s m e) (inf t) h = absurd h
+finite-sum (fin s m e) (fin t n d) h = (tt, tt)
+
+finite-square : (x : Float) → T (finite (squareOf x)) → T (finite x)
+unfolding mul
+finite-square nan h = h
+finite-square (inf s) h = h
+finite-square (fin s m e) h = tt
+
+pattern-lt : (x : Float) → T (fits binary32 x) → T (finite x) → patternOf x < 2139095040
+pattern-lt x held h = elim (lt-or-ge (patternOf x) 2139095040) [
+  | inl l ↦ l
+  | inr g ↦ elim (eq-or-lt-of-le g) [
+    | inl e ↦ absurd (subst (λ (y : Float). T (finite y)) (inf-is x held (sym e) .1) h)
+    | inr l ↦ absurd (subst (λ (y : Float). T (finite y)) (nan-is x held l) h)
+  ]
+]
+
+-- ---- the midpoint of g and g + 1
+module _ (g : ℕ) (least : 8388608 ≤ g) (most : g < 2139095040) where
+  midpoint-value : HasValue (midpointOf (7516192768 + g)) false ((value (g + 1) + value g) * 2 ^ 924) (2 ^ 1074)
+  midpoint-value =
+      let b = (2 * (7516192768 + g) + 1) * 268435456 in
+      let k = exponentOf g in
+      let c = significandOf g in
+      let t = (2 * c + 1) * 268435456 - 4503599627370496 in
+      let s : leb 9223372036854775808 b ≡ false = is-false _ (lt→nleb 9223372036854775808 b (omega arith)) in
+      let x : b % 9223372036854775808 / 4503599627370496 ≡ suc (896 + k) = omega arith in
+      let y : b % 4503599627370496 ≡ t = omega arith in
+      let z : 4503599627370496 + t ≡ (2 * c + 1) * 268435456 = omega arith in
+      let n : (4503599627370496 + t) * 2 ^ (896 + k) ≡ (value (g + 1) + value g) * 2 ^ 924 =
+      ap (λ (m : ℕ). m * 2 ^ (896 + k)) z ∙ ap (λ (m : ℕ). (2 * c + 1) * 268435456 * m) (pow-add 2 896 k) ∙ regroup (2 * c + 1) 268435456 (2 ^ 896) (2 ^ k)
+      ∙ ap (λ (m : ℕ). m * 2 ^ 924) (mid-next k c (significand-lt g) (inr (omega arith)) ∙ ap (λ (p : ℕ). value (p + 1) + value p) (parts g)) in
+      rw (ofBits-is binary64 b, s, x, y) (rw (← n) (fields-normal binary64 false (896 + k) t (omega arith)))
+    where
+      regroup : (m a b c : ℕ) → m * a * (b * c) ≡ m * c * (a * b)
+      regroup m a b c = omega arith
+
+  midpoint-square : squareOf (midpointOf (7516192768 + g))
+      ≡ round binary64 false ((value (g + 1) + value g) * 2 ^ 924 * ((value (g + 1) + value g) * 2 ^ 924)) (2 ^ 1074 * 2 ^ 1074)
+  midpoint-square =
+      let m = midpointOf (7516192768 + g) in
+      let a = (value (g + 1) + value g) * 2 ^ 924 in
+      let p = positive-of-value m a (2 ^ 1074) midpoint-value (mul-pos (lt-of-le-of-lt zero-le (lt-of-lt-of-le (value-lt (step g)) (le-add-right (value (g + 1)) (value g)))) (pow-pos 924)) in
+      mul-at binary64 m m a (2 ^ 1074) a (2 ^ 1074) p p (pow-pos 1074) (pow-pos 1074) midpoint-value midpoint-value
+    where
+      step : (g : ℕ) → g < g + 1
+      step g = omega arith
+
+  -- the root is above the midpoint, or below it
+  over : (n : ℕ) → T (lt (squareOf (midpointOf (7516192768 + g))) (round binary64 false n (L * L))) → mid (g + 1) g < 4 * n
+  over n h = cancel (value (g + 1) + value g) (2 ^ 924) L n (round-lt binary64 _ (2 ^ 1074 * 2 ^ 1074) n (L * L) (pow-pos 2148) (pow-pos 298) (subst (λ (x : Float). T (lt x (round binary64 false n (L * L)))) midpoint-square h))
+    where
+      cancel : (h w l n : ℕ) → h * w * (h * w) * (l * l) < n * (w * (2 * l) * (w * (2 * l))) → h * h < 4 * n
+      cancel h w l n k = lt-of-mul-lt-mul-right (w * w * (l * l)) (omega arith)
+
+  under : (n : ℕ) → T (lt (round binary64 false n (L * L)) (squareOf (midpointOf (7516192768 + g)))) → 4 * n < mid (g + 1) g
+  under n h = cancel (value (g + 1) + value g) (2 ^ 924) L n (round-lt binary64 n (L * L) _ (2 ^ 1074 * 2 ^ 1074) (pow-pos 298) (pow-pos 2148) (subst (λ (x : Float). T (lt (round binary64 false n (L * L)) x)) midpoint-square h))
+    where
+      cancel : (h w l n : ℕ) → n * (w * (2 * l) * (w * (2 * l))) < h * w * (h * w) * (l * l) → 4 * n < h * h
+      cancel h w l n k = lt-of-mul-lt-mul-right (w * w * (l * l)) (omega arith)
+
+pub settled : (a b : Float) (p : ℕ) → T (fits binary32 a) → T (fits binary32 b) → Settled (sumOfSquaresOf a b) p → ofBits binary32 (p - 7516192768) ≡ hypotOf a b
+settled a b p A B c =
+    let both = finite-sum (squareOf a) (squareOf b) (lies-between _ _ _ (c .low) (c .high)) in
+    let P = pattern-lt a A (finite-square a (both .0)) in
+    let Q = pattern-lt b B (finite-square b (both .1)) in
+    let v = value (patternOf a) in
+    let w = value (patternOf b) in
+    let n = v * v + w * w in
+    let t = sum-is binary64 (squareOf a) (squareOf b) (v * v) (w * w) (L * L) (pow-pos 298) (square-value a A P) (square-value b B Q) in
+    let g = p - 7516192769 in
+    let e : p - 1 ≡ 7516192768 + g = omega (arith, c .least) in
+    let d : p ≡ 7516192768 + (g + 1) = omega (arith, c .least) in
+    let i : p - 7516192768 ≡ g + 1 = omega (arith, c .least) in
+    let low = over g (omega (arith, c .least)) (omega (arith, c .most)) n (rw (e, t) at (c .low)) in
+    let high = under (g + 1) (omega (arith, c .least)) (omega (arith, c .most)) n (rw (d, t) at (c .high)) in
+    ap (ofBits binary32) i ∙ finite-nearest n (g + 1) (omega (arith, c .least, c .most)) (upper n g low high) ∙ sym (hypot-is-root a b A B P Q)

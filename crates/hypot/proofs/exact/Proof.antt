@@ -1,0 +1,85 @@
+-- `exact` meets its contract.
+use mathlib.Core.Path.{sym, _∙_, subst}
+use native.Mathlib.Omega.{arith}
+use lib.Dec.{T}
+use lib.Ieee.{binary32, fits}
+use borrow.Author.Needs.{needs}
+use Rattle.hypot.proofs.Floats.{no-nan-bits, inf-bits}
+use Rattle.hypot.proofs.Cases.{first-inf, second-inf, first-nan, second-nan, finite-both}
+use Rattle.hypot.proofs.exact.Statement.{statement}
+use Rattle.hypot.proofs.exact.Tie as tie
+
+held-a : (c : tie.Start) → T (fits binary32 (c .args .a))
+held-a c = subst T (sym (c .good .0 .1)) tt
+
+held-b : (c : tie.Start) → T (fits binary32 (c .args .b))
+held-b c = subst T (sym (c .good .1 .0 .1)) tt
+
+pattern-requires : tie.Need-pattern-requires
+pattern-requires c κs = search needs
+
+pattern-requires-2 : tie.Need-pattern-requires-2
+pattern-requires-2 c κs = search needs
+
+float-from-bits-result : tie.Need-float-from-bits-result
+float-from-bits-result c = no-nan-bits binary32 2139095040 (omega arith)
+
+returns : tie.Need-returns
+returns c =
+    let s = c .before .before .before in
+    inf-bits ∙ first-inf (s .args .a) (s .args .b) (held-a s) (held-b s) (sym (c .before .before .pattern .ensures) ∙ c .if1 .taken)
+
+float-from-bits-result-2 : tie.Need-float-from-bits-result-2
+float-from-bits-result-2 c = no-nan-bits binary32 2139095040 (omega arith)
+
+returns-2 : tie.Need-returns-2
+returns-2 c =
+    let s = c .before .before .before .before in
+    inf-bits ∙ second-inf (s .args .a) (s .args .b) (held-a s) (held-b s) (sym (c .before .before .pattern2 .ensures) ∙ c .if2 .taken)
+
+returns-3 : tie.Need-returns-3
+returns-3 c =
+    let q = c .before .before .before in
+    let s = q .before .before in
+    first-nan (s .args .a) (s .args .b) (held-a s) (held-b s) (omega (arith, q .before .pattern .ensures, c .if3 .taken)) (λ h. c .before .if2 .left (q .pattern2 .ensures ∙ h))
+
+returns-4 : tie.Need-returns-4
+returns-4 c =
+    let q = c .before .before .before .before in
+    let s = q .before .before in
+    second-nan (s .args .a) (s .args .b) (held-a s) (held-b s) (omega (arith, q .pattern2 .ensures, c .if4 .taken))
+    (λ h. c .before .before .before .if1 .left (q .before .pattern .ensures ∙ h))
+
+larger-requires : tie.Need-larger-requires
+larger-requires c κs = search needs
+
+smaller-requires : tie.Need-smaller-requires
+smaller-requires c κs = search needs
+
+finite-requires : tie.Need-finite-requires
+finite-requires c κs = (omega arith, omega arith)
+
+returns-5 : tie.Need-returns-5
+returns-5 c =
+    let q = c .before .before .before .before .before .before .before in
+    let s = q .before .before in
+    c .finite .ensures
+    ∙ finite-both (s .args .a) (s .args .b) (held-a s) (held-b s) _ _ _ _ (q .before .pattern .ensures) (q .pattern2 .ensures) (c .before .before .larger .ensures)
+    (c .before .smaller .ensures) (omega arith) (omega arith)
+
+pub exact-spec : {M : Type 1} → statement M
+exact-spec =
+    tie.close
+    (tie.spec
+    pattern-requires
+    pattern-requires-2
+    float-from-bits-result
+    returns
+    float-from-bits-result-2
+    returns-2
+    returns-3
+    returns-4
+    larger-requires
+    smaller-requires
+    finite-requires
+    returns-5)
