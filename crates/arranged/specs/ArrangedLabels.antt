@@ -1,5 +1,5 @@
 -- The labels and counts of `arranged` and `side_rails`.
-use mathlib.Core.Path.{_≡_, refl, ap, _∙_}
+use mathlib.Core.Path.{_≡_, refl, ap₂, _∙_}
 use mathlib.Core.Bool.{Bool, true, false, cond}
 use mathlib.Core.List.{List, [], _∷_, map, foldl}
 use Prim.Native.Nat.{ℕ, zero, suc}
@@ -26,17 +26,18 @@ pub either-inputs : (labels : List Label) (sticks : ℕ) (b : Bool) (l m : Layou
 either-inputs labels sticks true l m p q = p
 either-inputs labels sticks false l m p q = q
 
-labels-moved : (p : Places) (k n : ℕ) (cs : List Control) → map (λ (c : Control). c .label) (take k (mapFirst (moved p) n cs)) ≡ map (λ (c : Control). c .label) (take k cs)
-unfolding mapFirst
-labels-moved p zero n cs = refl
-labels-moved p (suc k) zero cs = refl
-labels-moved p (suc k) (suc n) [] = refl
-labels-moved p (suc k) (suc n) (c ∷ cs) = ap (λ t. c .label ∷ t) (labels-moved p k n cs)
+module _ (g : Control → Control) (same : (c : Control) → g c .label ≡ c .label) where
+  pub labels-mapFirst : (k n : ℕ) (cs : List Control) → map (λ (c : Control). c .label) (take k (mapFirst g n cs)) ≡ map (λ (c : Control). c .label) (take k cs)
+  unfolding mapFirst
+  labels-mapFirst zero n cs = refl
+  labels-mapFirst (suc k) zero cs = refl
+  labels-mapFirst (suc k) (suc n) [] = refl
+  labels-mapFirst (suc k) (suc n) (c ∷ cs) = ap₂ (λ (x : Label) (t : List Label). x ∷ t) (same c) (labels-mapFirst k n cs)
 
 module _ (labels : List Label) (sticks : ℕ) (l : Layout) where
   pub placed-inputs : (p : Places) → Inputs labels sticks l → Inputs labels sticks (placedOf l p)
   unfolding placedOf
-  placed-inputs p i = (labels-moved p (l .count) (l .count) (l .controls) ∙ i .0, i .1, i .2)
+  placed-inputs p i = (labels-mapFirst (moved p) (λ c. refl) (l .count) (l .count) (l .controls) ∙ i .0, i .1, i .2)
 
   pub finished-inputs : (w h : Float) → Inputs labels sticks l → Inputs labels sticks (finishedOf l w h)
   unfolding finishedOf placeGameInAspectOf anchorToolbarOf

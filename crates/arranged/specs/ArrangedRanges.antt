@@ -174,7 +174,7 @@ railed-in : {w h cluster : Float} → In w (at 0) (at 8192) → In h (at 0) (at 
 unfolding railedOf
 railed-in W H cluster =
     let rails = rails-in W H cluster in
-    finished-in _ W H (dpad-in (controls-placed (arranged-in false W H) (rail-places-in rails)) (placed-in i16 (rails .y) cluster cluster tt))
+    finished-in _ W H (dpad-in (controls-placed (λ r P. P) (arranged-in false W H) (rail-places-in rails)) (placed-in i16 (rails .y) cluster cluster tt))
 
 requested-in : {w h pictureHeight : Float} → In w (at 0) (at 8192) → In h (at 0) (at 8192) → In pictureHeight (at 0) (at 8192) → In (requestedOf w h pictureHeight) (at 122) (at 200)
 unfolding requestedOf

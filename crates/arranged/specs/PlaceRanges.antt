@@ -91,7 +91,11 @@ module _ {A : Type 0} (C : A → Type 0) (g : A → A) (made : (x : A) → C (g 
   each-mapFirst (suc n) [] e = tt
   each-mapFirst (suc n) (x ∷ xs) e = (made x, each-mapFirst n xs (e .1))
 
-pub controls-placed : {D : Rect → Type 0} {l : Layout} {p : Places} → Every (OnScreen margin) D l → PlacesIn p → Every (OnScreen margin) D (placedOf l p)
+-- what holds at the place of every label
+pub every-placed : {C D : Rect → Type 0} {l : Layout} (p : Places) → Every C D l → ((label : Label) → C (atOf p label)) → Every C D (placedOf l p)
 unfolding placedOf
-controls-placed {l = l} {p = p} L P =
-    record { dpad = L .dpad; controls = each-mapFirst (λ c. OnScreen margin (c .bounds)) (moved p) (λ c. at-in P (c .label)) (l .count) (l .controls) (L .controls); pause = L .pause; playback = L .playback; speed = L .speed; mute = L .mute; sticks = L .sticks }
+every-placed {C} {l = l} p L P =
+    record { dpad = L .dpad; controls = each-mapFirst (λ c. C (c .bounds)) (moved p) (λ c. P (c .label)) (l .count) (l .controls) (L .controls); pause = L .pause; playback = L .playback; speed = L .speed; mute = L .mute; sticks = L .sticks }
+
+pub controls-placed : {C D : Rect → Type 0} {l : Layout} {p : Places} → ((r : Rect) → OnScreen margin r → C r) → Every C D l → PlacesIn p → Every C D (placedOf l p)
+controls-placed {p = p} f L P = every-placed p L (λ label. f (atOf p label) (at-in P label))

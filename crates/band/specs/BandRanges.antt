@@ -186,7 +186,7 @@ unfolding bandedOf
 banded-in {w} {h} analog deep {b} W H B = go analog
   where
     placed : (a : Bool) → Arranged (withDpad (placedOf (arrangedOf w h false) (bandPlacesOf a deep b)) (newOf (b .x) (b .y) (b .face) (b .face)))
-    placed a = dpad-in (controls-placed (arranged-in false W H) (band-places-in B a deep)) (placed-in (B .x) (B .y) (B .face) (B .face) tt)
+    placed a = dpad-in (controls-placed (λ r P. P) (arranged-in false W H) (band-places-in B a deep)) (placed-in (B .x) (B .y) (B .face) (B .face) tt)
 
     go : (a : Bool) → Arranged (bandedOf w h a deep b)
     go false = placed false

@@ -1,31 +1,31 @@
 -- The labels, counts and arrays of `analog_camera_rails`.
 use mathlib.Core.Path.{_≡_, refl, _∙_}
-use mathlib.Core.Bool.{Bool, true, false, cond, _||_}
+use mathlib.Core.Bool.{Bool, true, false}
 use mathlib.Core.List.{List}
-use mathlib.Core.Option.{some, none, Option·some-injective, Option·none-ne-some}
+use mathlib.Core.Option.{some}
 use native.Mathlib.Omega.{arith}
-use lib.Ieee.{Float, lt, le}
+use lib.Dec.{eqb}
+use lib.Ieee.{Float}
 use lib.ListN.{length}
-use Prim.Native.Nat.{_≤_}
-use Rattle.float.specs.Float.{_⊗_, k1, k1·35, k122, k184, k360}
+use Prim.Native.Nat.{ℕ, _≤_}
 use Rattle.geometry.specs.declared.Rect.{Rect}
+use Rattle.layout.specs.declared.Label.{Label}
 use Rattle.layout.specs.declared.Layout.{Layout}
 use Rattle.layout.specs.Actions.{actionElementsOf}
 use Rattle.layout.specs.Label.{isFaceOf}
 use Rattle.layout.specs.Labels.{analogLabels}
-use Rattle.layout.specs.Layout.{elementsOf}
 use Rattle.layout.specs.Lists.{retain}
 use Rattle.search.specs.Search.{placeGameInAspectOf}
 use Rattle.toolbar.specs.Toolbar.{anchorToolbarOf}
-use Rattle.arranged.specs.Arranged.{middle}
 use Rattle.arranged.specs.ArrangedLabels.{Inputs, placed-inputs}
-use Rattle.band.specs.Band.{aspectOf}
 use Rattle.band.specs.BandLabels.{bandLabels, bandSticks, with-inputs}
 use Rattle.defaults.specs.Defaults.{analogDefaultOf}
-use Rattle.defaults.specs.DefaultLabels.{Formed, placed-arrays, psp-arrays, analog-formed}
-use Rattle.cutouts.specs.Cutouts.{hitsOf, avoidCutoutsOf}
-use Rattle.cutouts.specs.CutoutLaws.{avoid-cutouts-kept, face-count}
-use Rattle.camera_rails.specs.CameraRails.{measureRailOf, sizeFaceOf, cameraPlacesOf, cameraRailedOf, anchoredRailsOf, analogCameraRailsOf}
+use Rattle.defaults.specs.DefaultCases.{either}
+use Rattle.defaults.specs.DefaultLabels.{Formed, placed-arrays, psp-arrays, set-elements-formed, analog-formed}
+use Rattle.cutouts.specs.Cutouts.{withAreaOf, avoidCutoutsOf}
+use Rattle.cutouts.specs.CutoutLaws.{length-after, face-count}
+use Rattle.camera_rails.specs.CameraRails.{cameraPlacesOf, cameraRailedOf, anchoredRailsOf, analogCameraRailsOf}
+use Rattle.camera_rails.specs.CameraCases.{cameraRail, cameraFace, camera-case}
 
 -- four face controls in either kind of layout
 four : (psp : Bool) → length (retain isFaceOf (bandLabels true psp)) ≡ 4
@@ -36,6 +36,14 @@ four false = refl
 counts : (psp : Bool) (l : Layout) → Inputs (bandLabels true psp) (bandSticks true psp) l → (l .count ≤ 12) × (l .stickcount ≤ 2)
 counts true l i = let n : l .count ≡ 8 = i .1 in let m : l .stickcount ≡ 1 = i .2 in (omega arith, omega arith)
 counts false l i = let n : l .count ≡ 12 = i .1 in let m : l .stickcount ≡ 2 = i .2 in (omega arith, omega arith)
+
+-- the cutout pass keeps labels, counts and arrays
+pub avoid-formed : (labels : List Label) (sticks : ℕ) (w h : Float) (l : Layout) → l .count ≤ 12 → l .stickcount ≤ 2 → (cutouts : List Rect) → Formed labels sticks l → Formed labels sticks (avoidCutoutsOf l w h cutouts)
+unfolding avoidCutoutsOf
+avoid-formed labels sticks w h l cs ss cutouts f =
+    let c = f .1 .0 in
+    let s = f .1 .1 in
+    either (Formed labels sticks) (eqb (length (withAreaOf cutouts)) 0) f (set-elements-formed labels sticks l cs ss _ (length-after w h l cutouts (omega arith) (omega arith)) f)
 
 module _ (w h rail face : Float) where
   railed-formed : Formed analogLabels 2 (cameraRailedOf w h rail face)
@@ -51,7 +59,8 @@ module _ (w h rail face : Float) where
     anchored-formed true =
         let l = cameraRailedOf w h rail face in
         let f = railed-formed in
-        (with-inputs l true true (f .0), psp-arrays l (f .0 .1) (f .1))
+        let n = f .0 .1 in
+        (with-inputs l true true (f .0), psp-arrays l (omega arith) (f .1))
     anchored-formed false = railed-formed
 
     module _ (psp : Bool) where
@@ -61,34 +70,25 @@ module _ (w h rail face : Float) where
       pub anchored-faces : length (actionElementsOf anchored) ≡ 4
       anchored-faces = face-count anchored (bandLabels true psp) (anchored-formed psp .0 .0) ∙ four psp
 
-      cleared-inputs : Inputs (bandLabels true psp) (bandSticks true psp) (avoidCutoutsOf anchored w h cutouts)
-      cleared-inputs =
+      -- the arrays hold what is counted
+      pub anchored-holds : (anchored .count ≤ length (anchored .controls)) × (anchored .stickcount ≤ length (anchored .sticks))
+      anchored-holds =
           let f = anchored-formed psp in
           let n = counts psp anchored (f .0) in
           let c = n .0 in
           let s = n .1 in
           let cs = f .1 .0 in
           let ss = f .1 .1 in
-          let k = avoid-cutouts-kept w h anchored cutouts (omega arith) (omega arith) in
-          (k .labels ∙ f .0 .0, k .count ∙ f .0 .1, k .stickcount ∙ f .0 .2)
+          (omega arith, omega arith)
+
+      pub cleared-formed : Formed (bandLabels true psp) (bandSticks true psp) (avoidCutoutsOf anchored w h cutouts)
+      cleared-formed = let n = counts psp anchored (anchored-formed psp .0) in avoid-formed (bandLabels true psp) (bandSticks true psp) w h anchored (n .0) (n .1) cutouts (anchored-formed psp)
 
       pub cleared-counts : (avoidCutoutsOf anchored w h cutouts .count ≤ 12) × (avoidCutoutsOf anchored w h cutouts .stickcount ≤ 2)
-      cleared-counts = counts psp (avoidCutoutsOf anchored w h cutouts) cleared-inputs
-
--- what a layout is, where four tests may leave none
-given : (a b c d : Bool) (x y : Layout) → cond a none (cond b none (cond c none (cond d none (some x)))) ≡ some y → x ≡ y
-given true b c d x y e = absurd (Option·none-ne-some y e)
-given false true c d x y e = absurd (Option·none-ne-some y e)
-given false false true d x y e = absurd (Option·none-ne-some y e)
-given false false false true x y e = absurd (Option·none-ne-some y e)
-given false false false false x y e = Option·some-injective x y e
+      cleared-counts = counts psp (avoidCutoutsOf anchored w h cutouts) (cleared-formed .0)
 
 module _ (w h : Float) (picture : Rect) (cutouts : List Rect) (psp : Bool) where
-  pub camera-rails-inputs : (l : Layout) → analogCameraRailsOf w h picture cutouts psp ≡ some l → Inputs (bandLabels true psp) (bandSticks true psp) l
-  unfolding analogCameraRailsOf placeGameInAspectOf
-  camera-rails-inputs l e =
-      let rail = measureRailOf w picture psp in
-      let face = sizeFaceOf w h rail cutouts in
-      let layout = anchoredRailsOf w h picture cutouts psp rail face in
-      let game = placeGameInAspectOf (avoidCutoutsOf layout w h cutouts) picture false k1 middle (aspectOf psp) in
-      rw (← given (le w (h ⊗ k1·35) || lt h k360) (lt rail k184) (lt face k122) (hitsOf (elementsOf layout) cutouts) game l e) (cleared-inputs w h rail face picture cutouts psp)
+  pub camera-rails-formed : (l : Layout) → analogCameraRailsOf w h picture cutouts psp ≡ some l → Formed (bandLabels true psp) (bandSticks true psp) l
+  unfolding placeGameInAspectOf
+  camera-rails-formed l e =
+      camera-case w h picture cutouts psp (Formed (bandLabels true psp) (bandSticks true psp)) (λ r f. cleared-formed w h (cameraRail w h picture cutouts psp) (cameraFace w h picture cutouts psp) picture cutouts psp) e

@@ -1,2 +1,4 @@
 pub mod CameraRails
+pub mod CameraCases
 pub mod CameraLabels
+pub mod CameraRanges

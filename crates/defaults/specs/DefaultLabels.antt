@@ -33,6 +33,7 @@ use Rattle.arranged.specs.Places.{moved, placedOf}
 use Rattle.arranged.specs.Arranged.{control, middle, finishedOf, composedOf, arrangedOf, railedOf, requestedOf, narrowOf, sideRailsOf}
 use Rattle.arranged.specs.ArrangedLabels.{Inputs, placed-inputs, finished-inputs, arranged-inputs, side-rails-inputs}
 use Rattle.band.specs.declared.Band.{Band}
+use Rattle.band.specs.declared.Room.{Room}
 use Rattle.band.specs.Band.{aspectOf, findRoomOf, measureBandOf, bandedOf, withAnalogOf, controllerBandOf}
 use Rattle.band.specs.BandLabels.{bandLabels, bandSticks, psp-inputs, given, band-inputs}
 use Rattle.defaults.specs.declared.Size.{Size}
@@ -43,7 +44,7 @@ use Rattle.defaults.specs.DefaultCases.{either, band-case, default-case}
 abbrev pub Arrays : Layout → Type 0
 Arrays l = (length (l .controls) ≡ 12) × (length (l .sticks) ≡ 2)
 
-length-mapFirst : {A : Type 0} (g : A → A) (n : ℕ) (xs : List A) → length (mapFirst g n xs) ≡ length xs
+pub length-mapFirst : {A : Type 0} (g : A → A) (n : ℕ) (xs : List A) → length (mapFirst g n xs) ≡ length xs
 unfolding mapFirst
 length-mapFirst g zero xs = refl
 length-mapFirst g (suc n) [] = refl
@@ -57,7 +58,7 @@ finished-arrays : (l : Layout) (w h : Float) → Arrays l → Arrays (finishedOf
 unfolding finishedOf placeGameInAspectOf anchorToolbarOf
 finished-arrays l w h a = a
 
-arranged-arrays : (w h : Float) (compact : Bool) → Arrays (arrangedOf w h compact)
+pub arranged-arrays : (w h : Float) (compact : Bool) → Arrays (arrangedOf w h compact)
 unfolding arrangedOf composedOf
 arranged-arrays w h compact = finished-arrays _ w h (refl, refl)
 
@@ -76,7 +77,7 @@ with-analog-arrays : (l : Layout) (l3 r3 left right : Rect) → Arrays l → Arr
 unfolding withAnalogOf
 with-analog-arrays l l3 r3 left right a = (rw (length-set, length-set) (a .0), refl)
 
-pub psp-arrays : (l : Layout) → l .count ≡ 12 → Arrays l → Arrays (pspInputsOf l)
+pub psp-arrays : (l : Layout) → l .count ≤ 12 → Arrays l → Arrays (pspInputsOf l)
 unfolding pspInputsOf
 psp-arrays l n a =
     let kept = retain onPsp (controlsOf l) in
@@ -91,14 +92,31 @@ unfolding bandedOf
 banded-arrays w h true deep b = with-analog-arrays _ _ _ _ _ (placed-arrays (arrangedOf w h false) _ (arranged-arrays w h false))
 banded-arrays w h false deep b = placed-arrays (arrangedOf w h false) _ (arranged-arrays w h false)
 
-band-arrays : (w h : Float) (analog : Bool) (picture : Rect) (band : Layout) → controllerBandOf w h analog false picture ≡ some band → Arrays band
+banded-few : (w h : Float) (analog deep : Bool) (b : Band) → bandedOf w h analog deep b .count ≤ 12
+unfolding bandedOf withAnalogOf placedOf arrangedOf finishedOf placeGameInAspectOf anchorToolbarOf composedOf
+banded-few w h true deep b = omega arith
+banded-few w h false deep b = omega arith
+
+band-arrays : (w h : Float) (analog psp : Bool) (picture : Rect) (band : Layout) → controllerBandOf w h analog psp picture ≡ some band → Arrays band
 unfolding controllerBandOf placeGameInAspectOf anchorToolbarOf
-band-arrays w h analog picture band e =
-    let room = findRoomOf w h analog false picture in
-    let banded = bandedOf w h analog (room .deep) (measureBandOf w h analog room) in
-    let anchored = anchorToolbarOf banded w h (maxOf (neg (picture .y)) k0) k0 [] in
-    let game = placeGameInAspectOf anchored picture false k1 middle (aspectOf false) in
-    rw (← given (lt w k800 || (lt h k600 || lt (h ⊗ k1·35) w)) (lt (room .face) k122) game band e) (banded-arrays w h analog (room .deep) (measureBandOf w h analog room))
+band-arrays w h analog psp picture band e =
+    rw (← given (lt w k800 || (lt h k600 || lt (h ⊗ k1·35) w)) (lt (room .face) k122) (placeGameInAspectOf (cond psp (pspInputsOf anchored) anchored) picture false k1 middle (aspectOf psp)) band e) (inputs psp)
+  where
+    room : Room
+    room = findRoomOf w h analog psp picture
+
+    banded : Layout
+    banded = bandedOf w h analog (room .deep) (measureBandOf w h analog room)
+
+    anchored : Layout
+    anchored = anchorToolbarOf banded w h (maxOf (neg (picture .y)) k0) k0 []
+
+    arrays : Arrays banded
+    arrays = banded-arrays w h analog (room .deep) (measureBandOf w h analog room)
+
+    inputs : (psp : Bool) → Arrays (cond psp (pspInputsOf anchored) anchored)
+    inputs true = psp-arrays anchored (banded-few w h analog (room .deep) (measureBandOf w h analog room)) arrays
+    inputs false = arrays
 
 -- ---- L3 and R3 after the other controls
 module _ {A : Type 0} where
@@ -128,16 +146,13 @@ module _ {A : Type 0} where
 abbrev pub Formed : List Label → ℕ → Layout → Type 0
 Formed labels sticks l = Inputs labels sticks l × Arrays l
 
-module _ (labels : List Label) (sticks : ℕ) (l : Layout) (requested full : Size) (cs : l .count ≤ 12) (ss : l .stickcount ≤ 2) where
-  abbrev rects : List Rect
-  rects = map (scaledRectOf requested full) (elementsOf l)
-
-  rescaled-formed : Formed labels sticks l → Formed labels sticks (setElementsOf l rects)
+module _ (labels : List Label) (sticks : ℕ) (l : Layout) (cs : l .count ≤ 12) (ss : l .stickcount ≤ 2) where
+  pub set-elements-formed : (rects : List Rect) → length rects ≡ length (elementsOf l) → Formed labels sticks l → Formed labels sticks (setElementsOf l rects)
   unfolding setElementsOf
-  rescaled-formed f =
+  set-elements-formed rects r f =
       let c = f .1 .0 in
       let s = f .1 .1 in
-      let n : length rects ≡ elementCountOf l = length-map (elementsOf l) (scaledRectOf requested full) ∙ length-elements l (omega arith) (omega arith) in
+      let n : length rects ≡ elementCountOf l = r ∙ length-elements l (omega arith) (omega arith) in
       let d = length-drop 1 rects in
       let e = length-drop (l .count + 5) rects in
       let k = set-elements-kept l rects (omega arith) n in
@@ -149,9 +164,10 @@ module _ (labels : List Label) (sticks : ℕ) (l : Layout) (requested full : Siz
         ),
       )
 
-  shrunk-formed : Formed labels sticks l → Formed labels sticks (shrunkOf l requested full)
+  shrunk-formed : (requested full : Size) → Formed labels sticks l → Formed labels sticks (shrunkOf l requested full)
   unfolding shrunkOf
-  shrunk-formed f = either (Formed labels sticks) (ne (requested .w) (full .w) || ne (requested .h) (full .h)) (rescaled-formed f) f
+  shrunk-formed requested full f =
+      either (Formed labels sticks) (ne (requested .w) (full .w) || ne (requested .h) (full .h)) (set-elements-formed _ (length-map (elementsOf l) (scaledRectOf requested full)) f) f
 
 -- ---- the three kinds
 module _ (w h : Float) where
@@ -159,15 +175,15 @@ module _ (w h : Float) where
   unfolding placeGameInAspectOf
   clear-formed labels sticks l picture f = f
 
-  band-formed : (analog : Bool) (picture : Rect) (band : Layout) → controllerBandOf w h analog false picture ≡ some band → Formed (bandLabels analog false) (bandSticks analog false) band
-  band-formed analog picture band e = (band-inputs w h analog false picture band e, band-arrays w h analog picture band e)
+  pub band-formed : (analog psp : Bool) (picture : Rect) (band : Layout) → controllerBandOf w h analog psp picture ≡ some band → Formed (bandLabels analog psp) (bandSticks analog psp) band
+  band-formed analog psp picture band e = (band-inputs w h analog psp picture band e, band-arrays w h analog psp picture band e)
 
   pub default-formed : (cutouts : List Rect) (picture : Rect) → Formed standardLabels 0 (defaultInOf w h cutouts picture)
   default-formed cutouts picture =
       default-case (Formed standardLabels 0) w h cutouts picture
       (λ compact. clear-formed standardLabels 0 (arrangedOf w h compact) picture (arranged-inputs w h compact, arranged-arrays w h compact))
       (clear-formed standardLabels 0 (sideRailsOf w h (picture .h) cutouts) picture (side-rails-inputs w h (picture .h) cutouts, side-rails-arrays w h (picture .h) cutouts))
-      (band-formed false picture)
+      (band-formed false false picture)
 
   pub full-formed : Formed analogLabels 2 (analogFullOf w h)
   unfolding analogFullOf
@@ -185,14 +201,14 @@ module _ (w h : Float) where
       let f = full-formed (full .w) (full .h) in
       let c = f .0 .1 in
       let s = f .0 .2 in
-      let k = shrunk-formed analogLabels 2 layout (size w h) full (omega arith) (omega arith) f in
+      let k = shrunk-formed analogLabels 2 layout (omega arith) (omega arith) (size w h) full f in
       band-case (Formed analogLabels 2) w h true (newOf k0 k0 w h)
       (finished-inputs analogLabels 2 (shrunkOf layout (size w h) full) w h (k .0), finished-arrays (shrunkOf layout (size w h) full) w h (k .1))
-      (band-formed w h true (newOf k0 k0 w h))
+      (band-formed w h true false (newOf k0 k0 w h))
 
   pub psp-formed : Formed pspLabels 1 (pspOf w h)
   unfolding pspOf onPspOf maskOf idOf atMostOneOf
-  psp-formed = let f = analog-formed in (psp-inputs (analogDefaultOf w h) analogLabels 2 refl (f .0), psp-arrays (analogDefaultOf w h) (f .0 .1) (f .1))
+  psp-formed = let f = analog-formed in let n = f .0 .1 in (psp-inputs (analogDefaultOf w h) analogLabels 2 refl (f .0), psp-arrays (analogDefaultOf w h) (omega arith) (f .1))
 
 -- a layout that is one of them, with its counts
 pub with-counts : (labels : List Label) (sticks : ℕ) (l : Layout) {r : Layout} → Formed labels sticks l → r ≡ l → (r ≡ l) × (r .count ≡ length labels) × (r .stickcount ≡ sticks)

@@ -17,12 +17,12 @@ use Rattle.numerics.specs.Rects.{Element, maxArea, Area, OnScreen, Key, margin}
 use Rattle.numerics.specs.Range.{In, at}
 use Rattle.numerics.specs.Each.{Each}
 use Rattle.numerics.specs.Bounds.{eps-pos, most-more, le-not, max-law, zero-most}
-use Rattle.numerics.specs.Ranges.{in-more, add-in, sub-in, div-in, max-in, lower, clamp-in, cond-in, range-most, placed-in, placed-element}
+use Rattle.numerics.specs.Ranges.{in-more, add-in, sub-in, div-in, max-in, lower, clamp-in, cond-in, range-most, placed-in}
 use Rattle.numerics.specs.Literals.{i0, i8, i16, i20, i24, i32, i48, i56, i76, i88, i104, i122, i128, i184, i336, i360, f2}
 use Rattle.numerics.specs.Shrunk.{Shrinks, shrunkMargin, shrunk-placed, placed-shrunk}
-use Rattle.search.specs.Bounded.{Every, Bounded, Arranged}
+use Rattle.search.specs.Bounded.{Arranged, Shrunk}
 use Rattle.search.proofs.Layouts.{place-bounded}
-use Rattle.search.proofs.Changes.{every-imp, arranged-bounded, dpad-in, psp-in, map-elements-in}
+use Rattle.search.proofs.Changes.{arranged-shrunk, anchored-shrunk, dpad-in, psp-in, map-elements-in}
 use Rattle.arranged.specs.Arranged.{middle}
 use Rattle.arranged.specs.PlaceRanges.{Coordinate, coordinate, cap-in, step-in, FacesIn, faces-in, PlacesIn, controls-placed}
 use Rattle.arranged.specs.ArrangedRanges.{finished-in, arranged-in, side-rails-in}
@@ -143,30 +143,26 @@ full-in W H =
     let places = half-places-in B in
     let high = in-more (at 0) (at 8192) H tt tt in
     let standard = default-in [] (in-more (at 0) (at 8192) W tt tt) high tt (screen-area (in-more (at 1) (at 8192) W tt tt) (in-more (at 1) (at 8192) H tt tt)) high in
-    let digital = dpad-in (controls-placed standard places) (placed-in (B .x) (B .facey) (B .face) (B .face) tt) in
+    let digital = dpad-in (controls-placed (λ r P. P) standard places) (placed-in (B .x) (B .facey) (B .face) (B .face) tt) in
     with-analog-in digital (places .l3) (places .r3) (placed-in i16 (B .y) (B .stick) (B .stick) tt) (placed-in (sub-in (sub-in W i16 tt) (B .stick) tt) (B .y) (B .stick) (B .stick) tt)
 
 -- ---- `shrunk`
--- the layouts that it makes
-abbrev Shrunk : Layout → Type 0
-Shrunk l = Every (OnScreen shrunkMargin) (Key shrunkMargin) l
-
 shrunk-layout-in : (l : Layout) {requested full : Size} → Shrinks (requested .w) (full .w) → Shrinks (requested .h) (full .h) → l .count ≤ length (l .controls) → l .stickcount ≤ length (l .sticks) → Arranged l
     → Shrunk (shrunkOf l requested full)
 unfolding shrunkOf
 shrunk-layout-in l {requested} {full} W H cs ss L =
     either Shrunk (ne (requested .w) (full .w) || ne (requested .h) (full .h))
     (map-elements-in (OnScreen margin) (Key margin) (OnScreen shrunkMargin) (Key shrunkMargin) (scaledRectOf requested full) (λ r P. shrunk-placed W H P tt) (λ r P. shrunk-placed W H P tt) (λ r P. placed-shrunk P tt) l cs ss L)
-    (every-imp (λ r P. placed-shrunk P tt) (λ r P. placed-shrunk P tt) L)
+    (arranged-shrunk L)
 
 shrinks : {x : Float} → In x (at 1) (at 8192) → Shrinks x (maxOf x k360)
 shrinks {x} X = record { part = X; full = in-more (at 360) (at 8192) (max-in X i360) tt tt; less = max-law 1 x k360 (X .whole) (i360 .whole) .first }
 
 -- ---- `analog_default` and `psp`, on screens of 1 by 1 at least
 module _ {w h : Float} (W : In w (at 1) (at 8192)) (H : In h (at 1) (at 8192)) where
-  pub analog-bounded : Bounded (analogDefaultOf w h)
+  pub analog-in : Shrunk (analogDefaultOf w h)
   unfolding analogDefaultOf
-  analog-bounded =
+  analog-in =
       let full = size (maxOf w k360) (maxOf h k360) in
       let layout = analogFullOf (full .w) (full .h) in
       let wide = in-more (at 0) (at 8192) W tt tt in
@@ -177,10 +173,8 @@ module _ {w h : Float} (W : In w (at 1) (at 8192)) (H : In h (at 1) (at 8192)) w
       let cs = f .1 .0 in
       let ss = f .1 .1 in
       let shrunk = shrunk-layout-in layout {requested = size w h} {full = full} (shrinks W) (shrinks H) (omega arith) (omega arith) (full-in (shrinks W .full) (shrinks H .full)) in
-      band-case Bounded w h true (newOf k0 k0 w h)
-      (every-imp (λ r P. placed-element P tt) (λ r P. placed-element P tt) (finished-in (shrunkOf layout (size w h) full) wide high shrunk))
-      (λ band e. arranged-bounded (band-in true false wide high (screen-area W H) e))
+      band-case Shrunk w h true (newOf k0 k0 w h) (anchored-shrunk (finished-in (shrunkOf layout (size w h) full) wide high shrunk)) (λ band e. arranged-shrunk (band-in true false wide high (screen-area W H) e))
 
-  pub psp-bounded : Bounded (pspOf w h)
+  pub psp-default-in : Shrunk (pspOf w h)
   unfolding pspOf
-  psp-bounded = psp-in analog-bounded
+  psp-default-in = psp-in analog-in

@@ -1,4 +1,4 @@
--- A number scaled down, x * y / z with y at most z, as `analog_default` does on a small surface: it keeps its sign, and so its range but for 11/256.
+-- A number scaled, x * y / z with y and z above 0, keeps its sign. So scaled down, as `analog_default` does on a small surface, it keeps its range but for 11/256.
 use mathlib.Core.Path.{_≡_, refl, ap, _∙_}
 use mathlib.Core.Bool.{Bool, true, false, cond, _&&_}
 use Prim.Native.Nat.{ℕ, zero, suc, _+_, _-_, _*_, _≤_, _<_, _^_}
@@ -75,31 +75,21 @@ positive {y} {a} i t = go (sign y) refl (parts y (sign y) refl) (mul-le-mul-left
     go false q v k e = record { plus = q; size = omega (arith, i .lo, v .pos) }
     go true q v k e = absurd (let z : ⊥ = omega (arith, i .lo, v .pos) in z)
 
--- ---- y from 1 to 8192, and at most z, which is 360 at least
-pub record Shrinks (y z : Float) : Type 0 where
-  pub part : In y (at 1) (at 8192)
-  pub full : In z (at 360) (at 8192)
-  pub less : Le 1 y z
-
-abbrev pub shrinkable : ℕ → ℕ → Bool
-shrinkable a b = scaledable 1 a b (at 1) (at 8192) (at 360)
-
-module _ {y z : Float} (S : Shrinks y z) where
-  shrunk-sign : (x : Float) → Whole x → Whole (x ⊗ y ⊘ z) → sign (x ⊗ y ⊘ z) ≡ sign x
-  shrunk-sign x p r =
-      let Y = positive (S .part) tt in
-      let Z = positive (S .full) tt in
-      rw (div-sign (x ⊗ y) z r (S .full .whole) (Z .size), mul-sign x y p (S .part .whole), Y .plus, Z .plus) (like (sign x))
+-- ---- y and z above 0, and y at most j times z
+module _ (j : ℕ) {y z : Float} {c d e f : ℕ} (Y : In y c d) (Z : In z e f) (less : magnitude y ≤ j * magnitude z) (y0 : T (ltb limit c)) (z0 : T (ltb limit e)) where
+  scaled-sign : (x : Float) → Whole x → Whole (x ⊗ y ⊘ z) → sign (x ⊗ y ⊘ z) ≡ sign x
+  scaled-sign x p r =
+      let u = positive Y y0 in
+      let v = positive Z z0 in
+      rw (div-sign (x ⊗ y) z r (Z .whole) (v .size), mul-sign x y p (Y .whole), u .plus, v .plus) (like (sign x))
     where
       like : (s : Bool) → unlike (unlike s false) false ≡ s
       like false = refl
       like true = refl
 
-  shrunk : {x : Float} {a b : ℕ} → In x a b → T (shrinkable a b) → In (x ⊗ y ⊘ z) (limit - (reach a b * 1 + 11)) (limit + (reach a b * 1 + 11))
-  shrunk i t = scaled-in 1 i (S .part) (S .full) (le-magnitude z (S .part) tt (S .less)) t
-
-  pub shrunk-in : {x : Float} {a b : ℕ} → In x a b → T (shrinkable a limit) → T (shrinkable limit b) → In (x ⊗ y ⊘ z) (limit - (reach a limit * 1 + 11)) (limit + (reach limit b * 1 + 11))
-  shrunk-in {x} {a} {b} i t u = go (sign x) (parts x (sign x) refl) refl
+  -- each end of the range by itself
+  pub signed-in : {x : Float} {a b : ℕ} → In x a b → T (scaledable j a limit c d e) → T (scaledable j limit b c d e) → In (x ⊗ y ⊘ z) (limit - (reach a limit * j + 11)) (limit + (reach limit b * j + 11))
+  signed-in {x} {a} {b} i t u = go (sign x) (parts x (sign x) refl) refl
     where
       r : Float
       r = x ⊗ y ⊘ z
@@ -110,15 +100,31 @@ module _ {y z : Float} (S : Shrinks y z) where
       upper : (k : ℕ) → eps * limit ≤ eps * (limit + k)
       upper k = mul-le-mul-left eps (omega arith)
 
-      go : (s : Bool) → Parts s x → sign x ≡ s → In r (limit - (reach a limit * 1 + 11)) (limit + (reach limit b * 1 + 11))
+      go : (s : Bool) → Parts s x → sign x ≡ s → In r (limit - (reach a limit * j + 11)) (limit + (reach limit b * j + 11))
       go false v q =
-          let near = shrunk {a = limit} {b = b} (record { whole = i .whole; lo = omega (arith, v .neg); hi = i .hi }) u in
-          let w = parts r false (shrunk-sign x (i .whole) (near .whole) ∙ q) in
-          record { whole = near .whole; lo = omega (arith, w .neg, lower (reach a limit * 1 + 11)); hi = near .hi }
+          let near = scaled-in j {a = limit} {b = b} (record { whole = i .whole; lo = omega (arith, v .neg); hi = i .hi }) Y Z less u in
+          let w = parts r false (scaled-sign x (i .whole) (near .whole) ∙ q) in
+          record { whole = near .whole; lo = omega (arith, w .neg, lower (reach a limit * j + 11)); hi = near .hi }
       go true v q =
-          let near = shrunk {a = a} {b = limit} (record { whole = i .whole; lo = i .lo; hi = omega (arith, v .pos) }) t in
-          let w = parts r true (shrunk-sign x (i .whole) (near .whole) ∙ q) in
-          record { whole = near .whole; lo = near .lo; hi = omega (arith, w .pos, upper (reach limit b * 1 + 11)) }
+          let near = scaled-in j {a = a} {b = limit} (record { whole = i .whole; lo = i .lo; hi = omega (arith, v .pos) }) Y Z less t in
+          let w = parts r true (scaled-sign x (i .whole) (near .whole) ∙ q) in
+          record { whole = near .whole; lo = near .lo; hi = omega (arith, w .pos, upper (reach limit b * j + 11)) }
+
+-- ---- y from 1 to 8192, and at most z, which is 360 at least
+pub record Shrinks (y z : Float) : Type 0 where
+  pub part : In y (at 1) (at 8192)
+  pub full : In z (at 360) (at 8192)
+  pub less : Le 1 y z
+
+abbrev pub shrinkable : ℕ → ℕ → Bool
+shrinkable a b = scaledable 1 a b (at 1) (at 8192) (at 360)
+
+module _ {y z : Float} (S : Shrinks y z) where
+  shrunk : {x : Float} {a b : ℕ} → In x a b → T (shrinkable a b) → In (x ⊗ y ⊘ z) (limit - (reach a b * 1 + 11)) (limit + (reach a b * 1 + 11))
+  shrunk i t = scaled-in 1 i (S .part) (S .full) (le-magnitude z (S .part) tt (S .less)) t
+
+  pub shrunk-in : {x : Float} {a b : ℕ} → In x a b → T (shrinkable a limit) → T (shrinkable limit b) → In (x ⊗ y ⊘ z) (limit - (reach a limit * 1 + 11)) (limit + (reach limit b * 1 + 11))
+  shrunk-in i t u = signed-in 1 (S .part) (S .full) (le-magnitude z (S .part) tt (S .less)) tt tt i t u
 
 -- ---- a rectangle of an arrangement, which may lie a little further off the screen then
 abbrev pub shrunkMargin : ℕ

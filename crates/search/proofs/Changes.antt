@@ -1,4 +1,4 @@
--- Layouts in range: arranged ones are bounded, and what a change keeps: another d-pad, the inputs of a psp, a rectangle for each element, a change of every element.
+-- Layouts in range: arranged ones are bounded, scaled down or not, and what a change keeps: another d-pad, the inputs of a psp, a rectangle for each element, a change of every element.
 use mathlib.Core.Path.{_≡_, sym, ap, _∙_, subst}
 use mathlib.Core.Bool.{Bool}
 use mathlib.Core.List.{List, [], _∷_, _++_, map, map-append, zipWith}
@@ -16,8 +16,10 @@ use Rattle.layout.specs.ElementLaws.{length-bounds}
 use Rattle.layout.specs.Psp.{onPsp, pspInputsOf}
 use Rattle.numerics.specs.Each.{Each}
 use Rattle.numerics.specs.Lists.{each-take, each-append, each-map, each-imp}
+use Rattle.numerics.specs.Rects.{OnScreen, Key, margin}
 use Rattle.numerics.specs.Ranges.{placed-element}
-use Rattle.search.specs.Bounded.{Every, Bounded, Arranged}
+use Rattle.numerics.specs.Shrunk.{shrunkMargin, placed-shrunk}
+use Rattle.search.specs.Bounded.{Every, Bounded, Arranged, Shrunk}
 use Rattle.search.proofs.Placement.{each-filter}
 
 -- ---- what holds of each element of a list, and of one that is made of it
@@ -62,8 +64,18 @@ every-imp {C} {C' = C'} {l = l} c d L =
       sticks = each-imp C C' c (l .sticks) (L .sticks);
     }
 
+pub shrunk-bounded : {l : Layout} → Shrunk l → Bounded l
+shrunk-bounded L = every-imp (λ r P. placed-element P tt) (λ r P. placed-element P tt) L
+
+pub arranged-shrunk : {l : Layout} → Arranged l → Shrunk l
+arranged-shrunk L = every-imp (λ r P. placed-shrunk P tt) (λ r P. placed-shrunk P tt) L
+
 pub arranged-bounded : {l : Layout} → Arranged l → Bounded l
-arranged-bounded L = every-imp (λ r P. placed-element P tt) (λ r P. placed-element P tt) L
+arranged-bounded L = shrunk-bounded (arranged-shrunk L)
+
+-- where the toolbar was anchored anew
+pub anchored-shrunk : {l : Layout} → Every (OnScreen shrunkMargin) (Key margin) l → Shrunk l
+anchored-shrunk L = every-imp (λ r P. P) (λ r P. placed-shrunk P tt) L
 
 module _ {C D : Rect → Type 0} {l : Layout} (L : Every C D l) where
   pub dpad-in : {r : Rect} → C r → Every C D (withDpad l r)

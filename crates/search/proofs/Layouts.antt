@@ -61,13 +61,13 @@ layout-widest S l L B offset ox oy = game-widest B S (elementsOf l) (elements-in
 abbrev most : ℕ
 most = maxArea + 16
 
-record Picture (g : Rect) : Type 0 where
+pub record Picture (g : Rect) : Type 0 where
   pub x : AtMost (g .x) most
   pub y : AtMost (g .y) most
   pub w : AtMost (g .w) most
   pub h : AtMost (g .h) most
 
-picture-in : {b g : Rect} → Area b → Inside 1 (b .w) (b .h) g → Picture g
+pub picture-in : {b g : Rect} → Area b → Inside 1 (b .w) (b .h) g → Picture g
 picture-in {b} {g} B I =
     let w = most-size 1 (b .w) maxArea (B .w) in
     let h = most-size 1 (b .h) maxArea (B .h) in

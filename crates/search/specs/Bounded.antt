@@ -5,6 +5,7 @@ use Rattle.layout.specs.declared.Layout.{Layout}
 use Rattle.numerics.specs.Value.{AtMost}
 use Rattle.numerics.specs.Rects.{Element, OnScreen, Key, margin}
 use Rattle.numerics.specs.Each.{Each}
+use Rattle.numerics.specs.Shrunk.{shrunkMargin}
 
 -- C holds of the d-pad, the controls and the sticks, D of the toolbar's keys: of every rectangle but the game, and of the unused places of the arrays too
 pub record Every (C D : Rect → Type 0) (l : Layout) : Type 0 where
@@ -22,6 +23,10 @@ Bounded l = Every Element Element l
 -- a layout as arrangements make it
 abbrev pub Arranged : Layout → Type 0
 Arranged l = Every (OnScreen margin) (Key margin) l
+
+-- the same, scaled down or not
+abbrev pub Shrunk : Layout → Type 0
+Shrunk l = Every (OnScreen shrunkMargin) (Key shrunkMargin) l
 
 -- a game
 pub record BoundedGame (g : Rect) : Type 0 where

@@ -1,0 +1,155 @@
+-- The layout of `analog_camera_rails` is in range, on screens up to 8192 by 8192.
+use mathlib.Core.Path.{_≡_}
+use mathlib.Core.Bool.{Bool, false, cond, not}
+use mathlib.Core.List.{List, []}
+use mathlib.Core.Option.{some}
+use native.Mathlib.Omega.{arith}
+use lib.Dec.{T}
+use lib.Ieee.{Float, lt}
+use Rattle.float.specs.Float.{_⊖_, _⊗_, _⊘_, k0, k1, k2, k3, k4, k48, k122, k184, k272, k480}
+use Rattle.float.specs.MinMax.{minOf}
+use Rattle.geometry.specs.declared.Rect.{Rect}
+use Rattle.layout.specs.declared.Layout.{Layout}
+use Rattle.layout.specs.Lists.{filterMap}
+use Rattle.numerics.specs.Value.{P, N, E}
+use Rattle.numerics.specs.Rects.{Element, Area}
+use Rattle.numerics.specs.Range.{In, at, minus}
+use Rattle.numerics.specs.Each.{Each, _&_}
+use Rattle.numerics.specs.Lists.{fold-ind}
+use Rattle.numerics.specs.Bounds.{sub-law, div-law, lt-not, le-law}
+use Rattle.numerics.specs.Ranges.{in-reach, in-more, most-in, add-in, sub-in, mul-in, div-in, min-in, max-in, cond-in, neg-in, raise, placed-in}
+use Rattle.numerics.specs.Literals.{i0, i4, i8, i24, i32, i48, i52, i104, i122, i128, i156, i184, i224, i272, i480, f2, f3, f4, psp-wide}
+use Rattle.numerics.specs.Shrunk.{signed-in, placed-shrunk}
+use Rattle.search.specs.Bounded.{Bounded, Shrunk}
+use Rattle.search.proofs.Placement.{each-filter}
+use Rattle.search.proofs.Layouts.{place-bounded}
+use Rattle.search.proofs.Changes.{shrunk-bounded, anchored-shrunk, dpad-in, psp-in}
+use Rattle.toolbar.specs.ToolbarRanges.{uncovered-in, anchor-in}
+use Rattle.arranged.specs.Arranged.{middle}
+use Rattle.arranged.specs.PlaceRanges.{coordinate, cap-in, step-in, faces-in, PlacesIn, controls-placed}
+use Rattle.band.specs.Band.{aspectOf}
+use Rattle.defaults.specs.DefaultCases.{either}
+use Rattle.defaults.specs.DefaultRanges.{analog-in}
+use Rattle.cutouts.specs.Cutouts.{avoidCutoutsOf}
+use Rattle.cutouts.specs.CutoutRanges.{avoid-bounded}
+use Rattle.camera_rails.specs.CameraRails.{measureRailOf, inRailOf, cameraTopOf, sizeFaceOf, cameraPlacesOf, cameraRailedOf, anchoredRailsOf, analogCameraRailsOf}
+use Rattle.camera_rails.specs.CameraCases.{cameraRail, cameraFace, cameraLayout, camera-case}
+use Rattle.camera_rails.specs.CameraLabels.{anchored-holds}
+
+-- ---- the rail
+record RailIn (w rail : Float) : Type 0 where
+  pub width : In rail (at 184) (at 4097)
+  -- the right edge of the keys in the right rail
+  pub right : In (w ⊖ (rail ⊖ k48)) (at 0) (at 8192)
+
+-- the width of a picture of full height
+wide-in : {high : Float} (psp : Bool) → In high (at 0) (at 8192) → In (cond psp (high ⊗ k480 ⊘ k272) (high ⊗ k4 ⊘ k3)) (minus 1) (at 16385)
+wide-in psp H = in-more (minus 1) (at 16385) (cond-in psp (signed-in 2 i480 i272 psp-wide tt tt H tt tt) (div-in (mul-in H f4 tt) f3 tt)) tt tt
+
+-- The rail is half the screen at most, and its keys lie inside it.
+right-in : {w wide : Float} → In w (at 1) (at 8192) → In wide (minus 1) (at 16385) → In ((w ⊖ wide) ⊘ k2) (at 184) (at 4097) → In (w ⊖ ((w ⊖ wide) ⊘ k2 ⊖ k48)) (at 0) (at 8192)
+unfolding P N E
+right-in W F R =
+    let left = sub-in W F tt in
+    let inner = sub-in R i48 tt in
+    let right = in-more (minus 8192) (at 8192) (sub-in W inner tt) tt tt in
+    let a = sub-law 1 (in-reach W) (in-reach F) tt .over in
+    let b = div-law 1 (in-reach left) f2 tt .over in
+    let c = sub-law 1 (in-reach R) (in-reach i48) tt .over in
+    let d = sub-law 1 (in-reach W) (in-reach inner) tt .under in
+    record { whole = right .whole; lo = omega (arith, W .lo, F .lo, i48 .lo); hi = right .hi }
+
+rail-in : {w : Float} (psp : Bool) {picture : Rect} → In w (at 1) (at 8192) → Area picture → T (not (lt (measureRailOf w picture psp) k184)) → RailIn w (measureRailOf w picture psp)
+unfolding measureRailOf
+rail-in psp {picture} W A t =
+    let high = most-in (A .h) tt in
+    let wide = wide-in psp (raise high i0 (le-law 1 k0 (picture .h) (i0 .whole) (high .whole) (A .h0))) in
+    let rail = in-more (minus 8193) (at 4097) (div-in (sub-in W wide tt) f2 tt) tt tt in
+    let room = raise rail i184 (lt-not 1 _ k184 (rail .whole) (i184 .whole) t) in
+    record { width = room; right = right-in W wide room }
+
+-- ---- the digital well
+camera-top-in : (w rail : Float) {h : Float} (cutouts : List Rect) → In h (at 1) (at 8192) → Each Element cutouts → In (cameraTopOf w h rail cutouts) (minus 21875) (at 8192)
+unfolding cameraTopOf
+camera-top-in w rail {h} cutouts H O =
+    fold-ind (λ y. In y (minus 21875) (at 8192)) (λ y. In y (minus 21875) (at 21875)) minOf (λ x y X Y. min-in X Y) (filterMap (inRailOf w rail) (λ c. c .y) cutouts) h (in-more (minus 21875) (at 8192) H tt tt)
+    (each-filter (inRailOf w rail) (λ c. c .y) Element (λ y. In y (minus 21875) (at 21875)) (λ c C. most-in (C .y) tt) cutouts O)
+
+face-in : (w : Float) {h rail : Float} (cutouts : List Rect) → In h (at 1) (at 8192) → In rail (at 184) (at 4097) → Each Element cutouts → T (not (lt (sizeFaceOf w h rail cutouts) k122)) → In (sizeFaceOf w h rail cutouts) (at 122) (at 184)
+unfolding sizeFaceOf
+face-in w {rail = rail} cutouts H R O t =
+    let below = sub-in (sub-in (camera-top-in w rail cutouts H O) i32 tt) i8 tt in
+    let face = in-more (minus 24576) (at 184) (min-in (min-in (min-in (sub-in R i8 tt) i184) below) (sub-in (sub-in H i32 tt) i224 tt)) tt tt in
+    raise face i122 (lt-not 1 _ k122 (face .whole) (i122 .whole) t)
+
+-- ---- the places of the controls
+camera-places-in : {w rail face : Float} → In w (at 1) (at 8192) → RailIn w rail → In face (at 122) (at 184) → PlacesIn (cameraPlacesOf w rail face)
+unfolding cameraPlacesOf
+camera-places-in W R face =
+    let y = add-in (add-in i32 face tt) i8 tt in
+    let cap = cap-in (in-more (at 122) (at 200) face tt tt) in
+    let step = step-in (div-in (sub-in face cap tt) f2 tt) tt tt in
+    let half = div-in face f2 tt in
+    let faces = faces-in (coordinate (sub-in (sub-in W i4 tt) half tt) tt) (coordinate (add-in i32 half tt) tt) step step cap in
+    let left = sub-in (R .width) i48 tt in
+    let right = sub-in (R .right) i48 tt in
+    let y1 = add-in y i52 tt in
+    let y2 = add-in y i104 tt in
+    let y3 = add-in y i156 tt in
+    record {
+      tri = faces .tri;
+      o = faces .o;
+      x = faces .x;
+      sq = faces .sq;
+      l1 = placed-in left y1 i48 i48 tt;
+      l2 = placed-in left y i48 i48 tt;
+      r2 = placed-in right y i48 i48 tt;
+      r1 = placed-in right y1 i48 i48 tt;
+      select = placed-in left y2 i48 i48 tt;
+      start = placed-in right y2 i48 i48 tt;
+      l3 = placed-in left y3 i48 i48 tt;
+      r3 = placed-in right y3 i48 i48 tt;
+    }
+
+-- ---- the layout
+module _ {w h : Float} (W : In w (at 1) (at 8192)) (H : In h (at 1) (at 8192)) where
+  wide : In w (at 0) (at 8192)
+  wide = in-more (at 0) (at 8192) W tt tt
+
+  high : In h (at 0) (at 8192)
+  high = in-more (at 0) (at 8192) H tt tt
+
+  railed-in : {rail face : Float} → RailIn w rail → In face (at 122) (at 184) → Shrunk (cameraRailedOf w h rail face)
+  unfolding cameraRailedOf
+  railed-in R face =
+      let y = sub-in (sub-in H i24 tt) i128 tt in
+      let L = dpad-in (controls-placed (λ r P. placed-shrunk P tt) (analog-in W H) (camera-places-in W R face)) (placed-in i4 i32 face face tt) in
+      record {
+        dpad = L .dpad;
+        controls = L .controls;
+        pause = L .pause;
+        playback = L .playback;
+        speed = L .speed;
+        mute = L .mute;
+        sticks = placed-in i4 y i128 i128 tt & placed-in (sub-in (sub-in W i4 tt) i128 tt) y i128 i128 tt & tt;
+      }
+
+  module _ {picture : Rect} (A : Area picture) (psp : Bool) where
+    pub anchored-in : (cutouts : List Rect) → Each Element cutouts → T (not (lt (cameraRail w h picture cutouts psp) k184)) → T (not (lt (cameraFace w h picture cutouts psp) k122)) → Shrunk (cameraLayout w h picture cutouts psp)
+    unfolding anchoredRailsOf
+    anchored-in cutouts O r f =
+        let R = rail-in psp W A r in
+        let L = railed-in R (face-in w cutouts H (R .width) O f) in
+        let top = max-in (neg-in (most-in (A .y) tt) tt) i0 in
+        anchored-shrunk (anchor-in _ cutouts wide high top (in-more (minus 8192) (at 8192) i0 tt tt) (uncovered-in _ cutouts O) (either Shrunk psp (psp-in L) L))
+
+    pub camera-bounded : {l : Layout} (cutouts : List Rect) → Each Element cutouts → analogCameraRailsOf w h picture cutouts psp ≡ some l → Bounded l
+    camera-bounded cutouts O e =
+        let holds = anchored-holds w h (cameraRail w h picture cutouts psp) (cameraFace w h picture cutouts psp) picture cutouts psp in
+        camera-case w h picture cutouts psp Bounded
+        (λ r f. place-bounded (avoid-bounded wide high (cameraLayout w h picture cutouts psp) cutouts (holds .0) (holds .1) (shrunk-bounded (anchored-in cutouts O r f))) picture false k1 middle (aspectOf psp)) e
+
+    -- with no cutouts no element moves
+    pub camera-in : {l : Layout} → analogCameraRailsOf w h picture [] psp ≡ some l → Shrunk l
+    unfolding avoidCutoutsOf
+    camera-in e = camera-case w h picture [] psp Shrunk (λ r f. place-bounded (anchored-in [] tt r f) picture false k1 middle (aspectOf psp)) e
