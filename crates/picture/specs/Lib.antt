@@ -1,1 +1,4 @@
 pub mod Picture
+pub mod PictureCases
+pub mod PictureLabels
+pub mod PictureRanges
