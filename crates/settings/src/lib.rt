@@ -55,7 +55,7 @@ impl Preset {
     }
 
     // The game at its whole size, in the middle.
-    fn untouched(self) -> bool
+    pub fn untouched(self) -> bool
         ensures { λ r. ⌜ r ≡ untouchedOf self ⌝ }
     {
         self.scale == 1.0 && (self.offset.x == 0.5 && self.offset.y == 0.5)

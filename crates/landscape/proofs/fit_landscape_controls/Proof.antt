@@ -1,0 +1,45 @@
+-- `fit_landscape_controls` is `fitLandscapeControlsOf`.
+use borrow.Author.Needs.{needs}
+use Rattle.landscape.specs.Landscape.{fitLandscapeControlsOf}
+use Rattle.landscape.proofs.fit_landscape_controls.Statement.{statement}
+use Rattle.landscape.proofs.fit_landscape_controls.Tie as tie
+
+returns : tie.Need-returns
+unfolding fitLandscapeControlsOf
+returns c = rw (c .if1 .taken)
+
+returns-2 : tie.Need-returns-2
+unfolding fitLandscapeControlsOf
+returns-2 c =
+    let m = c .before .before in
+    rw (m .before .before .before .before .if1 .left, ← m .measure-row .ensures, ← c .before .tight .ensures, c .if2 .taken)
+
+returns-3 : tie.Need-returns-3
+unfolding fitLandscapeControlsOf
+returns-3 c =
+    let p = c .before .before .before .before .before in
+    let t = p .before .before in
+    let m = t .before .before in
+    rw (m .before .before .before .before .if1 .left, ← m .measure-row .ensures, ← t .before .tight .ensures, t .if2 .left, ← p .before .rowed .ensures .0, ← p .place-game-in-aspect .ensures, c .if3 .taken)
+
+returns-4 : tie.Need-returns-4
+unfolding fitLandscapeControlsOf
+returns-4 c =
+    let p = c .before .before .before .before .before in
+    let t = p .before .before in
+    let m = t .before .before in
+    rw (m .before .before .before .before .if1 .left, ← m .measure-row .ensures, ← t .before .tight .ensures, t .if2 .left, ← p .before .rowed .ensures .0, ← p .place-game-in-aspect .ensures, c .if3 .left)
+
+pub fit-landscape-controls-spec : {M : Type 1} → statement M
+fit-landscape-controls-spec =
+    tie.close
+    (tie.spec
+    returns
+    (λ c. search needs)
+    (λ c κs. search needs)
+    (λ c κs. search needs)
+    returns-2
+    (λ c κs. search needs)
+    (λ c κs. search needs)
+    returns-3
+    returns-4)

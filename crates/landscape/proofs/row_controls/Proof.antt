@@ -1,0 +1,71 @@
+-- `row_controls` is `mapFirst` of `inRow`.
+use borrow.Author.Needs.{needs}
+use mathlib.Core.Path.{ap, _≡_}
+use lib.ListN.{length, length-set, getD}
+use Rattle.layout.specs.Layout.{anyControl, withBounds}
+use Rattle.layout.specs.Lists.{mapFirst}
+use Rattle.layout.proofs.Loops.{sized, mapFirst-zero, mapFirst-step}
+use Rattle.landscape.specs.Landscape.{inRow}
+use native.Mathlib.Omega.{arith}
+use Prim.Native.Nat.{_-_, _≤_}
+use Rattle.landscape.proofs.row_controls.Statement.{statement}
+use Rattle.landscape.proofs.row_controls.Tie as tie
+
+abbrev Inv-loop : tie.InvT-loop
+Inv-loop count row dx dy out₀ i₀ out i = (i ≤ count) × (length out ≡ 12) × (out ≡ mapFirst (inRow row dx dy) i out₀)
+
+abbrev μ-loop : tie.MeasureT-loop
+μ-loop count row dx dy out₀ i₀ out i = count - i
+
+loop-holds : tie.Need-loop-holds Inv-loop μ-loop
+loop-holds c = (omega arith, search sized, mapFirst-zero (inRow (c .args .row) (c .args .dx) (c .args .dy)) (c .args .controls))
+
+mul-c : tie.Need-mul-c Inv-loop μ-loop
+mul-c c = omega arith
+
+array-copy-out-c : tie.Need-array-copy-out-c Inv-loop μ-loop
+array-copy-out-c c = omega arith
+
+place-requires : tie.Need-place-requires Inv-loop μ-loop
+place-requires c κs = search needs
+
+mul-out : tie.Need-mul-out Inv-loop μ-loop
+mul-out c = omega arith
+
+array-set-from-out : tie.Need-array-set-from-out Inv-loop μ-loop
+array-set-from-out c = omega arith
+
+add-i : tie.Need-add-i Inv-loop μ-loop
+add-i c = omega arith
+
+loop-less : tie.Need-loop-less Inv-loop μ-loop
+loop-less c = omega arith
+
+loop-again : tie.Need-loop-again Inv-loop μ-loop
+loop-again c =
+    let l = c .before .before .before in
+    let a = l .before .args in
+    let now = getD (l .loop .out) (l .loop .i) anyControl in
+    (omega arith, rw length-set (l .loop .inv .1), mapFirst-step (inRow (a .row) (a .dx) (a .dy)) (l .loop .i) (a .controls) (l .loop .out) _ anyControl (l .loop .inv .2) (ap (withBounds now) (c .place .ensures)))
+
+returns : tie.Need-returns Inv-loop μ-loop
+returns c =
+    let e : c .before .before .args .count ≡ c .before .loop .i = omega arith in
+    rw e (c .before .loop .inv .2)
+
+pub row-controls-spec : {M : Type 1} → statement M
+row-controls-spec =
+    tie.close
+    (tie.spec
+    Inv-loop
+    μ-loop
+    loop-holds
+    mul-c
+    array-copy-out-c
+    place-requires
+    mul-out
+    array-set-from-out
+    add-i
+    loop-less
+    loop-again
+    returns)

@@ -1,0 +1,25 @@
+-- `row_sticks` is `rowSticksOf`.
+use borrow.Author.Tests.{le-ltb, lt-ltb}
+use borrow.Author.Needs.{needs}
+use Rattle.landscape.specs.Landscape.{rowSticksOf}
+use Rattle.landscape.proofs.row_sticks.Statement.{statement}
+use Rattle.landscape.proofs.row_sticks.Tie as tie
+
+returns : tie.Need-returns
+unfolding rowSticksOf
+returns c = rw (← c .before .before .before .new .ensures, ← c .new2 .ensures, lt-ltb _ _ (c .before .before .if1 .taken))
+
+returns-2 : tie.Need-returns-2
+unfolding rowSticksOf
+returns-2 c = rw (← c .before .new .ensures, le-ltb _ _ (c .if1 .left))
+
+pub row-sticks-spec : {M : Type 1} → statement M
+row-sticks-spec =
+    tie.close
+    (tie.spec
+    (λ c κs. search needs)
+    (λ c. search needs)
+    (λ c κs. search needs)
+    (λ c. search needs)
+    returns
+    returns-2)

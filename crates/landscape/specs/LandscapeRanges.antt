@@ -1,0 +1,198 @@
+-- `fit_landscape_controls` keeps a layout in range, on screens up to 8192 by 8192, and its game the widest.
+use mathlib.Core.Bool.{Bool, true, false, cond, not, _||_}
+use mathlib.Core.List.{List, [], _∷_}
+use Prim.Native.Nat.{ℕ, zero, suc, _+_, _≤_, _<_}
+use native.Mathlib.Nat.{mul-le-mul-left}
+use native.Mathlib.Omega.{arith}
+use lib.Dec.{T, leb, leb→le, ltb}
+use lib.Ieee.{Float, lt}
+use lib.ListN.{length, getD, set}
+use Rattle.float.specs.Float.{_⊖_, k1, k18, k104, k122}
+use Rattle.geometry.specs.declared.Rect.{Rect}
+use Rattle.geometry.specs.Rect.{emptyRect}
+use Rattle.layout.specs.declared.Control.{Control}
+use Rattle.layout.specs.declared.Label.{Label}
+use Rattle.layout.specs.declared.Label.the-variants.{Tri, O, X, Sq, L1, L2, R2, R1, Select, Start, L3, R3}
+use Rattle.layout.specs.declared.Layout.{Layout}
+use Rattle.layout.specs.Actions.{joinOf, actionBoundsOf}
+use Rattle.layout.specs.ActionLaws.{action-bounds}
+use Rattle.layout.specs.Label.{isFaceOf}
+use Rattle.layout.specs.Layout.{anyRect, controlsOf, elementsOf}
+use Rattle.layout.specs.Lists.{mapFirst, filterMap, reduce}
+use Rattle.numerics.specs.Value.{AtMost, eps, limit}
+use Rattle.numerics.specs.Rects.{Area, Element, OnScreen, maxArea, maxCorner, maxSide}
+use Rattle.numerics.specs.Range.{In, at, minus, reach}
+use Rattle.numerics.specs.Each.{Each}
+use Rattle.numerics.specs.Lists.{each-take, each-set, each-imp, fold-ind}
+use Rattle.numerics.specs.Operations.{sub-near}
+use Rattle.numerics.specs.Bounds.{lt-not, most-more, room}
+use Rattle.numerics.specs.Ranges.{in-more, in-reach, most-in, add-in, sub-in, div-in, times-in, min-in, raise, range-most, element-in, placed-element}
+use Rattle.numerics.specs.Literals.{i0, i0·5, i1, i4, i8, i16, i18, i24, i48, i64, i72, i104, i120, i122, f2}
+use Rattle.numerics.specs.Shrunk.{shrunkMargin}
+use Rattle.search.specs.Bounded.{Every, Bounded, BoundedGame}
+use Rattle.search.specs.Widest.{Widest, centredWidth}
+use Rattle.search.proofs.Changes.{every-imp}
+use Rattle.search.proofs.Layouts.{place-bounded, place-game-in, place-widest}
+use Rattle.search.proofs.Placement.{each-filter}
+use Rattle.search.proofs.Shapes.{Shape}
+use Rattle.arranged.specs.Arranged.{middle}
+use Rattle.moves.specs.declared.Move.the-variants.{Go}
+use Rattle.moves.specs.Moves.{movedOf}
+use Rattle.landscape.specs.declared.Row.{Row}
+use Rattle.landscape.specs.Landscape.{measureRowOf, tightOf, placeOf, inRow, rowSticksOf, rowedOf, rowOf, fitLandscapeControlsOf}
+use Rattle.landscape.specs.LandscapeLaws.{landscape-case}
+
+-- demand 3, of a layout's own game
+abbrev pub WidestGame : ℕ → ℕ → Rect → Float → Layout → Type 0
+WidestGame p q picture aspect l = Widest p q (elementsOf l) picture (centredWidth (elementsOf l) picture aspect) (l .game)
+
+-- an element of the layout
+abbrev Old : Rect → Type 0
+Old e = OnScreen shrunkMargin e
+
+-- ---- the row, where it is not tight
+record RowIn (r : Row) : Type 0 where
+  pub w : In (r .w) (at 1) (at 8192)
+  pub face : In (r .face) (at 122) (at 8200)
+  pub stick : In (r .stick) (at 104) (at 8200)
+  pub shoulder : In (r .shoulder) (at 0) (at 4200)
+  pub rowy : In (r .rowy) (minus 64) (at 8192)
+  pub sticky : In (r .sticky) (minus 8400) (at 8192)
+  pub facey : In (r .facey) (at 0) (at 8192)
+  pub shouldery : In (r .shouldery) (at 0) (at 8192)
+
+-- the lower end of a difference gives one to its first number
+sub-back : {x y : Float} {a b c d e f : ℕ} (k : ℕ) → In x a b → In y c d → In (x ⊖ y) e f → T (ltb (reach a b + reach c d) limit) → T (leb (k + (limit + 1)) (e + c)) → In x k b
+sub-back {x} {y} {a} {b} {c} {d} {e} k i j r s t =
+    let n = sub-near x y (i .whole) (j .whole) (room x y (reach a b) (reach c d) (in-reach i) (in-reach j) s) in
+    let m = mul-le-mul-left eps (leb→le (k + (limit + 1)) (e + c) t) in
+    record { whole = i .whole; lo = omega (arith, n .over, j .lo, r .lo, m); hi = i .hi }
+
+-- no test holds
+none : (a b c : Bool) → T (not (a || (b || c))) → T (not a) × T (not b) × T (not c)
+none true b c t = absurd t
+none false true c t = absurd t
+none false false true t = absurd t
+none false false false t = (tt, tt, tt)
+
+-- the shoulders lie below the toolbar, so the wells below them are on the screen too
+row-in : {w h face stick : Float} → In w (at 1) (at 8192) → In h (at 1) (at 8192) → AtMost face (maxArea + shrunkMargin) → AtMost stick (maxArea + shrunkMargin) → T (not (tightOf (measureRowOf w h face stick))) → RowIn (measureRowOf w h face stick)
+unfolding measureRowOf tightOf
+row-in {w} {h} {face} {stick} W H F S t =
+    let r = measureRowOf w h face stick in
+    let n = none (lt (r .shouldery) k18) (lt face k122) (lt stick k104) t in
+    let f = in-more (at 122) (at 8200) (raise (most-in F tt) i122 (lt-not 1 face k122 (F .whole) (i122 .whole) (n .1))) tt tt in
+    let s = in-more (at 104) (at 8200) (raise (most-in S tt) i104 (lt-not 1 stick k104 (S .whole) (i104 .whole) (n .2))) tt tt in
+    let rowY = sub-in (sub-in H i4 tt) i48 tt in
+    let stickY = sub-in (sub-in rowY i8 tt) s tt in
+    let faceY = sub-in (sub-in stickY i8 tt) f tt in
+    let above = sub-in faceY i8 tt in
+    let high = sub-in above i48 tt in
+    let shoulderY = raise high i18 (lt-not 1 (r .shouldery) k18 (high .whole) (i18 .whole) (n .0)) in
+    record {
+      w = W;
+      face = f;
+      stick = s;
+      shoulder = in-more (at 0) (at 4200) (div-in (sub-in f i8 tt) f2 tt) tt tt;
+      rowy = in-more (minus 64) (at 8192) rowY tt tt;
+      sticky = in-more (minus 8400) (at 8192) stickY tt tt;
+      facey = in-more (at 0) (at 8192) (sub-back (at 1) faceY i8 (sub-back (at 10) above i48 shoulderY tt tt) tt tt) tt tt;
+      shouldery = in-more (at 0) (at 8192) shoulderY tt tt;
+    }
+
+-- ---- the box around the faces
+record Corner (r : Rect) : Type 0 where
+  pub x : In (r .x) (minus shrunkMargin) (at (8192 + shrunkMargin))
+  pub y : In (r .y) (minus shrunkMargin) (at (8192 + shrunkMargin))
+
+join-corner : (a b : Rect) → Corner a → Corner b → Corner (joinOf a b)
+unfolding joinOf
+join-corner a b A B = record { x = min-in (A .x) (B .x); y = min-in (A .y) (B .y) }
+
+boxes-corner : (rs : List Rect) → Each Corner rs → Corner (reduce joinOf emptyRect rs)
+boxes-corner [] e = let zero = in-more (minus shrunkMargin) (at (8192 + shrunkMargin)) i0 tt tt in record { x = zero; y = zero }
+boxes-corner (r ∷ rs) e = fold-ind Corner Corner joinOf join-corner rs r (e .0) (e .1)
+
+actions-in : (l : Layout) → l .count ≤ length (l .controls) → Each (λ c. Old (c .bounds)) (l .controls) → Corner (actionBoundsOf l)
+actions-in l cs e =
+    rw (action-bounds l cs)
+    (boxes-corner (filterMap (λ c. isFaceOf (c .label)) (λ c. c .bounds) (controlsOf l))
+    (each-filter (λ c. isFaceOf (c .label)) (λ c. c .bounds) (λ c. Old (c .bounds)) Corner (λ c P. record { x = P .x; y = P .y }) (controlsOf l) (each-take (λ c. Old (c .bounds)) (l .count) (l .controls) e)))
+
+-- ---- the places
+module _ {r : Row} {dx dy : Float} (R : RowIn r) (DX : In dx (minus 17500) (at 9100)) (DY : In dy (minus 9300) (at 9300)) where
+  face-in : {bounds : Rect} → Old bounds → Element (movedOf (Go dx dy) bounds)
+  face-in B = record { x = range-most maxCorner (add-in (B .x) DX tt) tt; y = range-most maxCorner (add-in (B .y) DY tt) tt; w = most-more (B .w) maxSide tt; h = most-more (B .h) maxSide tt }
+
+  place-in : {bounds : Rect} → Old bounds → (label : Label) → Element (placeOf r dx dy bounds label)
+  unfolding placeOf
+  place-in B Tri = face-in B
+  place-in B O = face-in B
+  place-in B X = face-in B
+  place-in B Sq = face-in B
+  place-in B L1 = element-in i16 (R .shouldery) (R .shoulder) i48 tt
+  place-in B L2 = element-in (add-in i24 (R .shoulder) tt) (R .shouldery) (R .shoulder) i48 tt
+  place-in B R2 = element-in (sub-in (sub-in (R .w) i24 tt) (times-in f2 (R .shoulder) tt) tt) (R .shouldery) (R .shoulder) i48 tt
+  place-in B R1 = element-in (sub-in (sub-in (R .w) i16 tt) (R .shoulder) tt) (R .shouldery) (R .shoulder) i48 tt
+  place-in B Select = element-in i72 (R .rowy) i48 i48 tt
+  place-in B Start = element-in (sub-in (R .w) i120 tt) (R .rowy) i48 i48 tt
+  place-in B L3 = element-in i16 (R .rowy) i48 i48 tt
+  place-in B R3 = element-in (sub-in (R .w) i64 tt) (R .rowy) i48 i48 tt
+
+  -- the controls past the first n are on the screen as they were
+  controls-in : (n : ℕ) (cs : List Control) → Each (λ c. Old (c .bounds)) cs → Each (λ c. Element (c .bounds)) (mapFirst (inRow r dx dy) n cs)
+  unfolding mapFirst
+  controls-in zero cs e = each-imp (λ c. Old (c .bounds)) (λ c. Element (c .bounds)) (λ c P. placed-element P tt) cs e
+  controls-in (suc n) [] e = tt
+  controls-in (suc n) (c ∷ cs) e = (place-in (e .0) (c .label), controls-in n cs (e .1))
+
+sticks-in : {r : Row} → RowIn r → (sticks : List Rect) (count : ℕ) → Each Element sticks → Each Element (rowSticksOf sticks count r)
+unfolding rowSticksOf
+sticks-in R sticks count e =
+    go (ltb 1 count) (element-in i16 (R .sticky) (R .stick) (R .stick) tt) (element-in (sub-in (sub-in (R .w) i16 tt) (R .stick) tt) (R .sticky) (R .stick) (R .stick) tt)
+  where
+    go : (b : Bool) {left right : Rect} → Element left → Element right → Each Element (cond b (set (set sticks 0 left) 1 right) (set sticks 0 left))
+    go true {left} {right} A B = each-set Element 1 (set sticks 0 left) right (each-set Element 0 sticks left e A) B
+    go false {left} A B = each-set Element 0 sticks left e A
+
+-- ---- the layout
+module _ (l : Layout) (cs : l .count ≤ length (l .controls)) (ss : 0 < length (l .sticks)) (L : Every Old Element l) where
+  rowed-in : {r : Row} → RowIn r → Bounded (rowedOf l r)
+  unfolding rowedOf
+  rowed-in R =
+      let A = actions-in l cs (L .controls) in
+      let dx = in-more (minus 17500) (at 9100) (sub-in (sub-in (sub-in (R .w) i16 tt) (R .face) tt) (A .x) tt) tt tt in
+      let dy = in-more (minus 9300) (at 9300) (sub-in (R .facey) (A .y) tt) tt tt in
+      record {
+        dpad = element-in i16 (R .facey) (R .face) (R .face) tt;
+        controls = controls-in R dx dy (l .count) (l .controls) (L .controls);
+        pause = L .pause;
+        playback = L .playback;
+        speed = L .speed;
+        mute = L .mute;
+        sticks = sticks-in R (l .sticks) (l .stickcount) (each-imp Old Element (λ e P. placed-element P tt) (l .sticks) (L .sticks));
+      }
+
+  stick-in : AtMost (getD (l .sticks) 0 anyRect .w) (maxArea + shrunkMargin)
+  stick-in = go (l .sticks) ss (L .sticks)
+    where
+      go : (sticks : List Rect) → 0 < length sticks → Each Old sticks → AtMost (getD sticks 0 anyRect .w) (maxArea + shrunkMargin)
+      go [] h e = absurd (let z : ⊥ = omega arith in z)
+      go (s ∷ sticks) h e = e .0 .w
+
+  module _ {w h : Float} (W : In w (at 1) (at 8192)) (H : In h (at 1) (at 8192)) where
+    row-bounded : T (not (tightOf (rowOf l w h))) → Bounded (rowedOf l (rowOf l w h))
+    row-bounded t = rowed-in (row-in W H (L .dpad .w) stick-in t)
+
+    pub landscape-bounded : (picture : Rect) (aspect : Float) → Bounded (fitLandscapeControlsOf l w h picture aspect)
+    landscape-bounded picture aspect =
+        landscape-case l w h picture aspect Bounded (every-imp (λ e P. placed-element P tt) (λ e P. P) L) (λ t. place-bounded (row-bounded t) picture false k1 middle aspect)
+
+    module _ {aspect : Float} {p q : ℕ} (S : Shape aspect p q) {picture : Rect} (A : Area picture) where
+      pub landscape-game-in : BoundedGame (l .game) → BoundedGame (fitLandscapeControlsOf l w h picture aspect .game)
+      landscape-game-in g =
+          landscape-case l w h picture aspect (λ m. BoundedGame (m .game)) g (λ t. place-game-in S (rowedOf l (rowOf l w h)) (row-bounded t) A middle (i0·5 .whole) (i0·5 .whole) false k1 (i1 .whole))
+
+      pub landscape-widest : WidestGame p q picture aspect l → WidestGame p q picture aspect (fitLandscapeControlsOf l w h picture aspect)
+      landscape-widest g =
+          landscape-case l w h picture aspect (WidestGame p q picture aspect) g (λ t. place-widest S (rowedOf l (rowOf l w h)) (row-bounded t) A middle (i0·5 .whole) (i0·5 .whole))

@@ -1,0 +1,3 @@
+pub mod Landscape
+pub mod LandscapeLaws
+pub mod LandscapeRanges

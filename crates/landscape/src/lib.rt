@@ -1,0 +1,149 @@
+// `fit_landscape_controls` of input.rs: on a wide screen, the keys beside the sticks in a row at the bottom.
+ghost use mathlib.Core.Path.{_≡_};
+ghost use Prim.Native.Nat.{_≤_};
+ghost use Rattle.layout.specs.Lists.{mapFirst};
+ghost use Rattle.landscape.specs.Landscape.{measureRowOf, tightOf, placeOf, inRow, rowSticksOf, rowedOf, fitLandscapeControlsOf};
+use geometry::Rect;
+use layout::Control;
+use layout::Label;
+use layout::Layout;
+use moves::moved;
+use search::Offset;
+use search::place_game_in_aspect;
+
+// The sizes of the digital wells, the sticks and the shoulders, and where they and the row lie.
+pub struct Row {
+    pub w: f32,
+    pub face: f32,
+    pub stick: f32,
+    pub shoulder: f32,
+    pub rowy: f32,
+    pub sticky: f32,
+    pub facey: f32,
+    pub shouldery: f32,
+}
+
+fn measure_row(w: f32, h: f32, face: f32, stick: f32) -> Row
+    ensures { λ r. ⌜ r ≡ measureRowOf w h face stick ⌝ }
+{
+    let row_y = h - 4.0 - 48.0;
+    let stick_y = row_y - 8.0 - stick;
+    let face_y = stick_y - 8.0 - face;
+    Row {
+        w,
+        face,
+        stick,
+        shoulder: (face - 8.0) / 2.0,
+        rowy: row_y,
+        sticky: stick_y,
+        facey: face_y,
+        shouldery: face_y - 8.0 - 48.0,
+    }
+}
+
+// The shoulders would reach into the toolbar, or a thumb's target is small already.
+fn tight(row: Row) -> bool
+    ensures { λ r. ⌜ r ≡ tightOf row ⌝ }
+{
+    row.shouldery < 18.0 || (row.face < 122.0 || row.stick < 104.0)
+}
+
+// The place of a control by its label: the faces go by dx and dy.
+fn place(row: Row, dx: f32, dy: f32, bounds: Rect, label: Label) -> Rect
+    ensures { λ r. ⌜ r ≡ placeOf row dx dy bounds label ⌝ }
+{
+    let w = row.w;
+    let shoulder = row.shoulder;
+    let y = row.shouldery;
+    match label {
+        Label::Tri => moved(bounds, dx, dy),
+        Label::O => moved(bounds, dx, dy),
+        Label::X => moved(bounds, dx, dy),
+        Label::Sq => moved(bounds, dx, dy),
+        Label::L1 => Rect::new(16.0, y, shoulder, 48.0),
+        Label::L2 => Rect::new(24.0 + shoulder, y, shoulder, 48.0),
+        Label::R2 => Rect::new(w - 24.0 - 2.0 * shoulder, y, shoulder, 48.0),
+        Label::R1 => Rect::new(w - 16.0 - shoulder, y, shoulder, 48.0),
+        Label::Select => Rect::new(72.0, row.rowy, 48.0, 48.0),
+        Label::Start => Rect::new(w - 120.0, row.rowy, 48.0, 48.0),
+        Label::L3 => Rect::new(16.0, row.rowy, 48.0, 48.0),
+        Label::R3 => Rect::new(w - 64.0, row.rowy, 48.0, 48.0),
+    }
+}
+
+fn row_controls(controls: [Control; 12], count: usize, row: Row, dx: f32, dy: f32) -> [Control; 12]
+    requires { ⌜ count ≤ 12 ⌝ }
+    ensures { λ r. ⌜ r ≡ mapFirst (inRow row dx dy) count controls ⌝ }
+{
+    let mut out = controls;
+    for i in 0..count {
+        let c = out[i];
+        let label = c.label;
+        let bounds = place(row, dx, dy, c.bounds, label);
+        out[i] = Control { bounds, label };
+    }
+    out
+}
+
+// The sticks above the row, the right one if there are two.
+fn row_sticks(sticks: [Rect; 2], count: usize, row: Row) -> [Rect; 2]
+    ensures { λ r. ⌜ r ≡ rowSticksOf sticks count row ⌝ }
+{
+    let stick = row.stick;
+    let mut out = sticks;
+    out[0] = Rect::new(16.0, row.sticky, stick, stick);
+    if 1 < count {
+        out[1] = Rect::new(row.w - 16.0 - stick, row.sticky, stick, stick);
+    }
+    out
+}
+
+// The layout with the row.
+fn rowed(l: Layout, row: Row) -> Layout
+    requires { ⌜ l .count ≤ 12 ⌝ }
+    ensures { λ r. ⌜ (r ≡ rowedOf l row) × (r .count ≡ l .count) × (r .stickcount ≡ l .stickcount) ⌝ }
+{
+    let actions = l.action_bounds();
+    let dx = row.w - 16.0 - row.face - actions.x;
+    let dy = row.facey - actions.y;
+    let controls = l.controls;
+    let placed = row_controls(controls, l.count, row, dx, dy);
+    let sticks = l.sticks;
+    let raised = row_sticks(sticks, l.stickcount, row);
+    let mut out = l;
+    out.dpad = Rect::new(16.0, row.facey, row.face, row.face);
+    out.controls = placed;
+    out.sticks = raised;
+    out
+}
+
+// The row is kept only if it makes the game wider.
+pub fn fit_landscape_controls(l: Layout, w: f32, h: f32, picture: Rect, aspect: f32) -> Layout
+    requires { ⌜ (l .count ≤ 12) × (l .stickcount ≤ 2) ⌝ }
+    ensures { λ r. ⌜ r ≡ fitLandscapeControlsOf l w h picture aspect ⌝ }
+{
+    if (w <= h * 1.35) | (l.stickcount == 0) {
+        return l;
+    }
+    let dpad = l.dpad;
+    let sticks = l.sticks;
+    let stick = sticks[0];
+    let row = measure_row(w, h, dpad.w, stick.w);
+    if tight(row) {
+        return l;
+    }
+    let fitted = place_game_in_aspect(
+        rowed(l, row),
+        picture,
+        false,
+        1.0,
+        Offset { x: 0.5, y: 0.5 },
+        aspect,
+    );
+    let game = l.game;
+    let rival = fitted.game;
+    if rival.w <= game.w + 0.01 {
+        return l;
+    }
+    fitted
+}

@@ -1,0 +1,29 @@
+-- Settings whose numbers are in range, as arrangements and the search want them. Definitions only.
+use mathlib.Core.Path.{_≡_}
+use mathlib.Core.Bool.{true}
+use lib.Ieee.{eq, neg}
+use Rattle.float.specs.Float.{k0, k1}
+use Rattle.float.specs.MinMax.{maxOf}
+use Rattle.layout.specs.Layout.{cutoutList}
+use Rattle.numerics.specs.Value.{Whole}
+use Rattle.numerics.specs.Range.{In, at}
+use Rattle.numerics.specs.Rects.{Element, Area}
+use Rattle.numerics.specs.Each.{Each}
+use Rattle.settings.specs.declared.Settings.{Settings}
+
+pub record InRange (s : Settings) : Type 0 where
+  pub w : In (s .w) (at 0) (at 8192)
+  pub h : In (s .h) (at 0) (at 8192)
+  -- `layout_in` raises w and h to at least 1
+  pub raised-w : In (maxOf (s .w) k1) (at 1) (at 8192)
+  pub raised-h : In (maxOf (s .h) k1) (at 1) (at 8192)
+  pub area : Area (s .picture)
+  pub area-h : In (s .picture .h) (at 0) (at 8192)
+  -- the height above the picture that the toolbar may use
+  pub reusable-top : In (maxOf (neg (s .picture .y)) k0) (at 0) (at 8192)
+  pub cutouts : Each Element (cutoutList (s .cutouts))
+  pub scale : Whole (s .preset .scale)
+  pub offset-x : Whole (s .preset .offset .x)
+  pub offset-y : Whole (s .preset .offset .y)
+  -- one f32 alone passes the test for the size factor 1
+  pub whole-size : eq (s .preset .scale) k1 ≡ true → s .preset .scale ≡ k1

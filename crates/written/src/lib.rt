@@ -1,0 +1,1 @@
+// No code: specs/ has how a written layout is read, and that reading gives back what was written.
