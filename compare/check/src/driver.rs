@@ -1,6 +1,6 @@
 //! Runs two functions on the same generated cases and counts the differences.
 use crate::random::Random;
-use player::words::{Value, Word, line, words};
+use player::words::{Value, line, words};
 use std::{
     fmt,
     panic::{AssertUnwindSafe, catch_unwind},
@@ -20,6 +20,8 @@ pub struct Summary {
     pub name: &'static str,
     pub cases: u64,
     pub differences: u64,
+    /// How many answers were more than `none` or `false`.
+    pub some: u64,
     pub seed: u64,
     pub time: Duration,
 }
@@ -28,13 +30,17 @@ impl fmt::Display for Summary {
     fn fmt(&self, f: &mut fmt::Formatter) -> fmt::Result {
         write!(
             f,
-            "{:<20} {:>10} cases {:>8} differences  seed {}  {:.1} s",
+            "{:<24} {:>10} cases {:>8} differences  seed {}  {:.1} s",
             self.name,
             self.cases,
             self.differences,
             self.seed,
             self.time.as_secs_f64()
-        )
+        )?;
+        if self.some < self.cases {
+            write!(f, "  {} some", self.some)?;
+        }
+        Ok(())
     }
 }
 
@@ -84,12 +90,13 @@ fn drive<I: Value, O: Value>(
 ) -> Summary {
     let start = Instant::now();
     let mut random = Random::new(limits.seed);
-    let (mut cases, mut differences) = (0, 0);
+    let (mut cases, mut differences, mut some) = (0, 0, 0);
     // The clock is read seldom, so that it takes no time.
     while cases < limits.cases && (cases % 256 != 0 || start.elapsed() < limits.time) {
         let input = generate(&mut random);
         let (our, their) = (answer(&ours, &input), answer(&theirs, &input));
         cases += 1;
+        some += u64::from(their.as_ref().is_some_and(Value::some));
         if !same(&our, &their) {
             differences += 1;
             if differences <= limits.shown {
@@ -104,36 +111,36 @@ fn drive<I: Value, O: Value>(
         name,
         cases,
         differences,
+        some,
         seed: limits.seed,
         time: start.elapsed(),
     }
 }
 
-/// The words of a function's answer; none if it panicked.
-type Answer = Option<Vec<Word>>;
-
-fn answer<I, O: Value>(function: impl Fn(&I) -> O, input: &I) -> Answer {
-    let answer = catch_unwind(AssertUnwindSafe(|| function(input))).ok()?;
-    Some(words(&answer))
+/// A function's answer; none if it panicked.
+fn answer<I, O>(function: impl Fn(&I) -> O, input: &I) -> Option<O> {
+    catch_unwind(AssertUnwindSafe(|| function(input))).ok()
 }
 
 /// Equal word for word, as numbers. A panic equals nothing.
-fn same(our: &Answer, their: &Answer) -> bool {
+fn same(our: &Option<impl Value>, their: &Option<impl Value>) -> bool {
     let (Some(our), Some(their)) = (our, their) else {
         return false;
     };
-    our.len() == their.len() && our.iter().zip(their).all(|(a, b)| a.same(*b))
+    let (our, their) = (words(our), words(their));
+    our.len() == their.len() && our.iter().zip(their).all(|(a, b)| a.same(b))
 }
 
-fn text(answer: &Answer) -> String {
+fn text(answer: &Option<impl Value>) -> String {
     answer
         .as_ref()
-        .map_or("panicked".into(), |words| line(words))
+        .map_or("panicked".into(), |value| line(&words(value)))
 }
 
 #[cfg(test)]
 mod tests {
     use super::*;
+    use player::words::Word;
 
     fn differences(ours: impl Fn(&f32) -> f32 + 'static) -> u64 {
         let limits = Limits {

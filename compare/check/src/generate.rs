@@ -117,6 +117,27 @@ pub fn screen(r: &mut Random) -> [f32; 2] {
     [w.clamp(1., LIMIT), h.clamp(1., LIMIT)]
 }
 
+/// A screen that is mostly of a tablet's size, square, narrow or wide, or of
+/// the shape between the two: large enough for most arrangements.
+pub fn tablet(r: &mut Random) -> [f32; 2] {
+    let h = r.between(300., 1600.);
+    let h = r.pick(&[h, h.round()]);
+    match r.below(8) {
+        0 => screen(r),
+        1 => r.pick(&[
+            [1280., 800.],
+            [800., 1280.],
+            [1024., 768.],
+            [768., 1024.],
+            [1180., 820.],
+            [712., 712.],
+        ]),
+        2 => [h, h],
+        3 => [h * 1.35, h],
+        _ => [h * r.between(0.5, 2.5), h],
+    }
+}
+
 /// A screen as an order has it: seldom below 1, to which layouts raise it.
 pub fn order_screen(r: &mut Random) -> [f32; 2] {
     let screen = screen(r);
@@ -145,6 +166,22 @@ pub fn cutouts(r: &mut Random, screen: [f32; 2]) -> Vec<Rect> {
             },
             _ => cutout,
         }
+    })
+}
+
+/// Cutouts of a camera's size, mostly on an edge, or any.
+pub fn cameras(r: &mut Random, screen: [f32; 2]) -> Vec<Rect> {
+    if r.below(3) == 0 {
+        return cutouts(r, screen);
+    }
+    let [w, h] = screen;
+    let most = r.pick(&[0, 1, 2, 4, 16]);
+    r.list(0, most, |r| {
+        let [x, y] = [r.between(0., w), r.between(0., h)];
+        let (x, y) = (r.pick(&[0., w - 30., x]), r.pick(&[0., h - 30., y, y]));
+        let [width, height] = [r.between(-5., 45.), r.between(-5., 45.)];
+        // At the top, 32 ends just where the rails beside a camera begin.
+        Rect::new(x, y, width, r.pick(&[height, height, 32.]))
     })
 }
 

@@ -2,7 +2,10 @@
 //! limits where the Rust does not panic.
 use crate::{
     driver::{Comparison, compare},
-    generate::{self, any_layout, any_number, any_rect, layout, number, rect_on, screen, stacked},
+    generate::{
+        self, any_layout, any_number, any_rect, cameras, layout, number, rect_on, screen, stacked,
+        tablet,
+    },
     hypot,
     lent::{self, layout_data, list},
     masks,
@@ -101,7 +104,7 @@ pub fn comparisons() -> Vec<Comparison> {
     });
     let arranged = [
         ("arranged", screen as fn(&mut Random) -> [f32; 2]),
-        ("arranged any", |r| [any_number(r), any_number(r)]),
+        ("arranged any", any_screen),
     ]
     .map(|(name, screen)| {
         compare(
@@ -162,9 +165,70 @@ pub fn comparisons() -> Vec<Comparison> {
             |(layout, [w, h], cutouts)| access::avoid_cutouts(layout, *w, *h, cutouts),
         )
     });
+    let defaults = [
+        ("default_in", surface as fn(&mut Random) -> Surface),
+        ("default_in any", any_surface),
+    ]
+    .map(|(name, surface)| {
+        compare(
+            name,
+            surface,
+            |([w, h], cutouts, picture)| {
+                let (cutouts, picture) = (list(cutouts), list(&[*picture]));
+                layout_data(&probe::default_in(*w, *h, &cutouts, &picture))
+            },
+            |([w, h], cutouts, picture)| access::default_in(*w, *h, cutouts, *picture),
+        )
+    });
+    let sticks = [
+        ("analog_default", tablet as fn(&mut Random) -> [f32; 2]),
+        ("analog_default any", any_screen),
+    ]
+    .map(|(name, screen)| {
+        compare(
+            name,
+            screen,
+            |&[w, h]| layout_data(&probe::analog_default(w, h)),
+            |&[w, h]| access::analog_default(w, h),
+        )
+    });
+    let psp = [
+        ("psp", tablet as fn(&mut Random) -> [f32; 2]),
+        ("psp any", any_screen),
+    ]
+    .map(|(name, screen)| {
+        compare(
+            name,
+            screen,
+            |&[w, h]| layout_data(&probe::psp(w, h)),
+            |&[w, h]| access::psp(w, h),
+        )
+    });
+    let camera = [
+        (
+            "analog_camera_rails",
+            beside as fn(&mut Random) -> CameraRails,
+        ),
+        ("analog_camera_rails any", any_beside),
+    ]
+    .map(|(name, beside)| {
+        compare(
+            name,
+            beside,
+            |([w, h], picture, cutouts, psp)| {
+                let (picture, cutouts) = (list(&[*picture]), list(cutouts));
+                let rails = probe::analog_camera_rails(*w, *h, &picture, &cutouts, *psp);
+                rails.as_ref().map(layout_data)
+            },
+            |([w, h], picture, cutouts, psp)| {
+                access::analog_camera_rails(*w, *h, *picture, cutouts, *psp)
+            },
+        )
+    });
     let list = [hypot].into_iter().chain(clear).chain(anchor);
     let list = list.chain(masks).chain(arranged).chain(rails);
-    list.chain(band).chain(avoid).collect()
+    let list = list.chain(band).chain(avoid).chain(defaults);
+    list.chain(sticks).chain(psp).chain(camera).collect()
 }
 
 /// Arguments of `clear_picture_aspect`.
@@ -292,6 +356,10 @@ fn tie_touch(r: &mut Random) -> Touch {
     (layout, [x, h / 2. + dy], 0)
 }
 
+fn any_screen(r: &mut Random) -> [f32; 2] {
+    [any_number(r), any_number(r)]
+}
+
 /// Arguments of `side_rails`: a screen, the picture's height, cutouts.
 type Rails = ([f32; 2], f32, Vec<Rect>);
 
@@ -401,6 +469,47 @@ fn dense_holes(r: &mut Random) -> Holes {
     (layout, screen, cutouts)
 }
 
+/// Arguments of `default_in`: a screen, cutouts, the picture's area.
+type Surface = ([f32; 2], Vec<Rect>, Rect);
+
+fn surface(r: &mut Random) -> Surface {
+    let screen = tablet(r);
+    (screen, cameras(r, screen), generate::picture(r, screen))
+}
+
+fn any_surface(r: &mut Random) -> Surface {
+    let (screen, _, cutouts) = any_rails(r);
+    let rect = r.pick(&[generate::rect, any_rect]);
+    (screen, cutouts, rect(r))
+}
+
+/// Arguments of `analog_camera_rails`: a screen, the picture's area, cutouts,
+/// psp.
+type CameraRails = ([f32; 2], Rect, Vec<Rect>, bool);
+
+/// Mostly a picture of whole numbers with about enough beside it for the rails,
+/// on a screen that is about wide and high enough.
+fn beside(r: &mut Random) -> CameraRails {
+    let (screen, cutouts, picture) = surface(r);
+    let psp = r.yes();
+    if r.below(4) == 0 {
+        return (screen, picture, cutouts, psp);
+    }
+    let (across, down) = if psp { (30., 17.) } else { (4., 3.) };
+    let units = (r.between(0., 1500.) / across).round();
+    let rails = [184., r.between(170., 400.), r.between(170., 400.)];
+    let w = units * across + 2. * r.pick(&rails);
+    let heights = [360., w / r.between(1.3, 2.5), w / r.between(1.3, 2.5)];
+    let screen = [w, r.pick(&heights)];
+    let picture = Rect::new(picture.x, picture.y, picture.w, units * down);
+    (screen, picture, cameras(r, screen), psp)
+}
+
+fn any_beside(r: &mut Random) -> CameraRails {
+    let (screen, cutouts, picture) = any_surface(r);
+    (screen, picture, cutouts, r.yes())
+}
+
 #[cfg(test)]
 mod tests {
     use super::*;
@@ -425,6 +534,38 @@ mod tests {
         }
         println!("{dense} {moved}");
         assert!(dense > 800 && moved > 800, "{dense} {moved}");
+    }
+
+    /// Each default arrangement is met, and screens too small for one.
+    #[test]
+    fn defaults_are_met() {
+        let r = &mut Random::new(1);
+        let mut counts = [0; 7];
+        for _ in 0..10_000 {
+            let ([w, h], cutouts, area) = surface(r);
+            let default = access::default_in(w, h, &cutouts, area);
+            let is = |l: LayoutData| l.dpad == default.dpad && l.controls == default.controls;
+            let [aw, ah] = tablet(r);
+            let full = Rect::new(0., 0., aw, ah);
+            let band = access::controller_band(aw, ah, true, false, full);
+            let banded = band == Some(access::analog_default(aw, ah));
+            let ([cw, ch], picture, cutouts_beside, psp) = beside(r);
+            let beside = access::analog_camera_rails(cw, ch, picture, &cutouts_beside, psp);
+            let met = [
+                is(access::arranged(w, h, false)),
+                is(access::arranged(w, h, true)),
+                is(access::side_rails(w, h, area.h, &cutouts)),
+                access::controller_band(w, h, false, false, area).is_some_and(is),
+                banded,
+                aw < 360. || ah < 360.,
+                beside.is_some(),
+            ];
+            for (count, met) in counts.iter_mut().zip(met) {
+                *count += u32::from(met);
+            }
+        }
+        println!("{counts:?}");
+        assert!(counts.iter().all(|count| *count > 300), "{counts:?}");
     }
 
     /// Each function has work to do in a good part of the cases.

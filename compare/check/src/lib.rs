@@ -12,4 +12,6 @@ pub mod library;
 #[cfg(feature = "probe")]
 pub mod masks;
 pub mod nearest;
+#[cfg(feature = "probe")]
+pub mod picture;
 pub mod random;

@@ -70,6 +70,68 @@ unsafe extern "C" {
         step: f32,
         out: &mut Rects,
     );
+    fn probe_default_in(
+        w: f32,
+        h: f32,
+        cutouts: &Rects,
+        n: usize,
+        picture: &Rects,
+        out: &mut Rects,
+    );
+    safe fn probe_analog_default(w: f32, h: f32, out: &mut Rects);
+    safe fn probe_psp(w: f32, h: f32, out: &mut Rects);
+    fn probe_analog_camera_rails(
+        w: f32,
+        h: f32,
+        picture: &Rects,
+        cutouts: &Rects,
+        n: usize,
+        psp: bool,
+        out: &mut Rects,
+    ) -> bool;
+    safe fn probe_diamond(well: &Rects, out: &mut Rects);
+    safe fn probe_auxiliary(
+        layout: &Rects,
+        columns: &Rects,
+        shoulders: f32,
+        system: f32,
+        out: &mut Rects,
+    );
+    safe fn probe_vertical(
+        w: f32,
+        h: f32,
+        columns: &Rects,
+        analog: bool,
+        psp: bool,
+        out: &mut Rects,
+    ) -> bool;
+    safe fn probe_horizontal(
+        w: f32,
+        h: f32,
+        band: &Rects,
+        analog: bool,
+        psp: bool,
+        out: &mut Rects,
+    ) -> bool;
+    fn probe_fits(
+        layout: &Rects,
+        kind: u8,
+        w: f32,
+        h: f32,
+        game: &Rects,
+        holes: &Rects,
+        n: usize,
+    ) -> bool;
+    fn probe_controls(
+        w: f32,
+        h: f32,
+        game: &Rects,
+        analog: bool,
+        psp: bool,
+        holes: &Rects,
+        n: usize,
+        out: &mut Rects,
+    ) -> bool;
 }
 
 /// The first `count` of the rectangles.
@@ -118,7 +180,7 @@ pub fn anchor_toolbar(
     cutouts: &List,
     runs: Runs,
 ) -> Layout {
-    assert!(cutouts.count <= 16);
+    let (holes, n) = lent(cutouts);
     let mut out = layout.clone();
     // SAFETY: the count is what the function requires.
     unsafe {
@@ -129,8 +191,8 @@ pub fn anchor_toolbar(
             h,
             reusable_top,
             covered_top,
-            &cutouts.at,
-            cutouts.count,
+            holes,
+            n,
             runs.times,
             runs.step,
             &mut out.at,
@@ -151,6 +213,24 @@ fn made(kind: u8, make: impl FnOnce(&mut Rects)) -> Layout {
     Layout { at, kind }
 }
 
+/// The same of a function that answers whether there is one.
+fn maybe(kind: u8, make: impl FnOnce(&mut Rects) -> bool) -> Option<Layout> {
+    let mut some = false;
+    let layout = made(kind, |out| some = make(out));
+    some.then_some(layout)
+}
+
+/// Cutouts as they are lent, at most 16.
+fn lent(cutouts: &List) -> (&Rects, usize) {
+    assert!(cutouts.count <= 16);
+    (&cutouts.at, cutouts.count)
+}
+
+/// The kind of a layout that is analog, or psp, which goes first.
+fn kind_of([analog, psp]: [bool; 2]) -> u8 {
+    if psp { 2 } else { u8::from(analog) }
+}
+
 pub fn arranged(w: f32, h: f32, compact: bool, runs: Runs) -> Layout {
     made(0, |out| {
         probe_arranged(w, h, compact, runs.times, runs.step, out)
@@ -158,8 +238,7 @@ pub fn arranged(w: f32, h: f32, compact: bool, runs: Runs) -> Layout {
 }
 
 pub fn side_rails(w: f32, h: f32, picture_height: f32, cutouts: &List, runs: Runs) -> Layout {
-    assert!(cutouts.count <= 16);
-    let (at, n) = (&cutouts.at, cutouts.count);
+    let (at, n) = lent(cutouts);
     // SAFETY: the count is what the function requires.
     made(0, |out| unsafe {
         probe_side_rails(w, h, picture_height, at, n, runs.times, runs.step, out)
@@ -170,19 +249,94 @@ pub fn side_rails(w: f32, h: f32, picture_height: f32, cutouts: &List, runs: Run
 pub fn controller_band(w: f32, h: f32, kind: u8, picture: &List, runs: Runs) -> Option<Layout> {
     let (analog, psp) = (kind > 0, kind > 1);
     let Runs { times, step } = runs;
-    let mut some = false;
-    let band = made(kind, |out| {
-        some = probe_controller_band(w, h, analog, psp, &picture.at, times, step, out)
-    });
-    some.then_some(band)
+    maybe(kind, |out| {
+        probe_controller_band(w, h, analog, psp, &picture.at, times, step, out)
+    })
 }
 
 pub fn avoid_cutouts(layout: &Layout, w: f32, h: f32, cutouts: &List, runs: Runs) -> Layout {
-    assert!(cutouts.count <= 16);
     let (Layout { at, kind }, Runs { times, step }) = (layout, runs);
-    let (holes, n) = (&cutouts.at, cutouts.count);
+    let (holes, n) = lent(cutouts);
     // SAFETY: the count is what the function requires.
     made(*kind, |out| unsafe {
         probe_avoid_cutouts(at, *kind, w, h, holes, n, times, step, out)
+    })
+}
+
+// The picture, the game, a band and a well are the first of a list; the left
+// and the right column the first two.
+
+pub fn default_in(w: f32, h: f32, cutouts: &List, picture: &List) -> Layout {
+    let (at, n) = lent(cutouts);
+    // SAFETY: the count is what the function requires.
+    made(0, |out| unsafe {
+        probe_default_in(w, h, at, n, &picture.at, out)
+    })
+}
+
+pub fn analog_default(w: f32, h: f32) -> Layout {
+    made(1, |out| probe_analog_default(w, h, out))
+}
+
+pub fn psp(w: f32, h: f32) -> Layout {
+    made(2, |out| probe_psp(w, h, out))
+}
+
+pub fn analog_camera_rails(
+    w: f32,
+    h: f32,
+    picture: &List,
+    cutouts: &List,
+    psp: bool,
+) -> Option<Layout> {
+    let (at, n) = lent(cutouts);
+    // SAFETY: the count is what the function requires.
+    maybe(kind_of([true, psp]), |out| unsafe {
+        probe_analog_camera_rails(w, h, &picture.at, at, n, psp, out)
+    })
+}
+
+/// A layout of which only the face caps are of meaning.
+pub fn diamond(well: &List) -> Layout {
+    made(1, |out| probe_diamond(&well.at, out))
+}
+
+/// A layout of which only the controls are of meaning; the face caps are the
+/// given layout's.
+pub fn auxiliary(layout: &Layout, columns: &List, shoulders: f32, system: f32) -> Layout {
+    made(1, |out| {
+        probe_auxiliary(&layout.at, &columns.at, shoulders, system, out)
+    })
+}
+
+pub fn vertical(w: f32, h: f32, columns: &List, [analog, psp]: [bool; 2]) -> Option<Layout> {
+    maybe(kind_of([analog, psp]), |out| {
+        probe_vertical(w, h, &columns.at, analog, psp, out)
+    })
+}
+
+pub fn horizontal(w: f32, h: f32, band: &List, [analog, psp]: [bool; 2]) -> Option<Layout> {
+    maybe(kind_of([analog, psp]), |out| {
+        probe_horizontal(w, h, &band.at, analog, psp, out)
+    })
+}
+
+pub fn fits(layout: &Layout, w: f32, h: f32, game: &List, holes: &List) -> bool {
+    let (at, n) = lent(holes);
+    // SAFETY: the count is what the function requires.
+    unsafe { probe_fits(&layout.at, layout.kind, w, h, &game.at, at, n) }
+}
+
+pub fn controls(
+    w: f32,
+    h: f32,
+    game: &List,
+    [analog, psp]: [bool; 2],
+    holes: &List,
+) -> Option<Layout> {
+    let (at, n) = lent(holes);
+    // SAFETY: the count is what the function requires.
+    maybe(kind_of([analog, psp]), |out| unsafe {
+        probe_controls(w, h, &game.at, analog, psp, at, n, out)
     })
 }

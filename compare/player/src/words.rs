@@ -40,6 +40,10 @@ pub trait Value: Sized {
     fn kind() -> String;
     fn put(&self, words: &mut Vec<Word>);
     fn take(rest: &mut Rest) -> Result<Self, String>;
+    /// Whether it is more than `none` or `false`.
+    fn some(&self) -> bool {
+        true
+    }
 }
 
 /// The words of a value.
@@ -114,6 +118,9 @@ impl Value for bool {
     fn take(rest: &mut Rest) -> Result<Self, String> {
         Ok(below(2, rest)? == 1)
     }
+    fn some(&self) -> bool {
+        *self
+    }
 }
 
 impl<T: Value, const N: usize> Value for [T; N] {
@@ -154,6 +161,9 @@ impl<T: Value> Value for Option<T> {
     }
     fn take(rest: &mut Rest) -> Result<Self, String> {
         bool::take(rest)?.then(|| T::take(rest)).transpose()
+    }
+    fn some(&self) -> bool {
+        self.is_some()
     }
 }
 

@@ -1,8 +1,16 @@
 // Document 01's corner cases, run. Each prints `ok NAME`, or `WRONG NAME got` with the answer's words in hexadecimal.
+ghost use mathlib.Core.Path.{_≡_};
+use arranged::MaybeLayout;
 use geometry::Rect;
 use geometry::safe::SafeContent;
 use geometry::safe::SafeEdges;
+use layout::Control;
+use layout::Layout;
 use libc::STDOUT_FILENO;
+
+mod layouts;
+mod packing;
+mod touches;
 
 fn main() {
     float_cases();
@@ -11,9 +19,17 @@ fn main() {
     safe_content_cases();
     safe_content_limits();
     safe_edges_cases();
+    layouts::clear_picture_cases();
+    layouts::controller_band_cases();
+    layouts::anchor_toolbar_cases();
+    packing::vertical_cases();
+    packing::fits_cases();
+    packing::controls_cases();
+    touches::dpad_cases();
+    touches::face_cases();
 }
 
-// An answer is five words: a refusal's number, or 0 and up to four numbers by their bit patterns.
+// An answer is five words: a refusal's number, or `none`, or 0 and up to four numbers by their bit patterns.
 fn case(name: &[u8], got: [u32; 5], want: [u32; 5]) {
     if same(got, want) {
         io::write_all(STDOUT_FILENO, b"ok ");
@@ -57,8 +73,21 @@ fn refusal(n: u32) -> [u32; 5] {
     [n, 0, 0, 0, 0]
 }
 
+fn none() -> [u32; 5] {
+    refusal(0xffff_ffff)
+}
+
 fn rect(x: f32, y: f32, w: f32, h: f32) -> [u32; 5] {
     [0, word(x), word(y), word(w), word(h)]
+}
+
+fn bounds(r: Rect) -> [u32; 5] {
+    rect(r.x, r.y, r.w, r.h)
+}
+
+fn dpad(m: MaybeLayout) -> [u32; 5] {
+    let l = m.layout;
+    if m.some { bounds(l.dpad) } else { none() }
 }
 
 fn edges(left: i32, top: i32, right: i32, bottom: i32) -> [u32; 5] {
@@ -68,6 +97,25 @@ fn edges(left: i32, top: i32, right: i32, bottom: i32) -> [u32; 5] {
         std::num::nearest_i32_to_f32(right),
         std::num::nearest_i32_to_f32(bottom),
     )
+}
+
+// A layout of a d-pad and two controls, with the game and every key of the toolbar at one place.
+fn bare(dpad: Rect, first: Control, second: Control, key: Rect) -> Layout
+    ensures { λ r. ⌜ (r .count ≡ 2) × (r .stickcount ≡ 0) ⌝ }
+{
+    let c = second;
+    Layout {
+        game: key,
+        dpad,
+        controls: [first, c, c, c, c, c, c, c, c, c, c, c],
+        count: 2,
+        pause: key,
+        playback: key,
+        speed: key,
+        mute: key,
+        sticks: [key; 2],
+        stickcount: 0,
+    }
 }
 
 fn float_cases() {
@@ -182,7 +230,7 @@ fn rect_cases() {
 
 fn content(size: [i32; 2], inset_size: [i32; 2], margins: [i32; 4]) -> [u32; 5] {
     match geometry::safe::safe_content(size, inset_size, margins) {
-        SafeContent::Area(r) => rect(r.x, r.y, r.w, r.h),
+        SafeContent::Area(r) => bounds(r),
         SafeContent::OffScale => refusal(6),
     }
 }

@@ -27,7 +27,7 @@ const KEY: f32 = 44.0;
 const MIN_WELL: f32 = 112.0; // Four separate caps of 44 points with gaps between them.
 
 // The four face caps in a square well.
-fn diamond(rect: Rect) -> Faces
+pub fn diamond(rect: Rect) -> Faces
     ensures { λ r. ⌜ r ≡ diamondOf rect ⌝ }
 {
     let cap = arranged::cap(rect.w);
@@ -63,7 +63,7 @@ fn diamond(rect: Rect) -> Faces
 }
 
 // The face caps as given, and in two columns the shoulders, the system and the stick keys.
-fn auxiliary(faces: Faces, left: Rect, right: Rect, shoulders: f32, system: f32) -> Places
+pub fn auxiliary(faces: Faces, left: Rect, right: Rect, shoulders: f32, system: f32) -> Places
     ensures { λ r. ⌜ r ≡ auxiliaryOf faces left right shoulders system ⌝ }
 {
     let pair = clamp((left.w - 12.0 - GAP) / 2.0, KEY, 64.0);
@@ -206,7 +206,7 @@ fn stacked(l: Layout, left: Rect, right: Rect, analog: bool, s: Stack) -> Layout
 }
 
 // A stack of controls in each of two columns, where there is room.
-fn vertical(base: Layout, left: Rect, right: Rect, analog: bool) -> MaybeLayout
+pub fn vertical(base: Layout, left: Rect, right: Rect, analog: bool) -> MaybeLayout
     requires { ⌜ (base .count ≤ 12) × (base .stickcount ≤ 2) ⌝ }
     ensures { λ r. ⌜ (maybe r ≡ verticalOf base left right analog) × (r .layout .count ≤ 12) × (r .layout .stickcount ≤ 2) ⌝ }
 {
@@ -340,7 +340,7 @@ fn rowed(l: Layout, w: f32, row: Row) -> Layout
 }
 
 // Sticks and wells side by side in a band, where there is room.
-fn horizontal(base: Layout, w: f32, band: Rect, analog: bool, psp: bool) -> MaybeLayout
+pub fn horizontal(base: Layout, w: f32, band: Rect, analog: bool, psp: bool) -> MaybeLayout
     requires { ⌜ (base .count ≤ 12) × (base .stickcount ≤ 2) ⌝ }
     ensures { λ r. ⌜ (maybe r ≡ horizontalOf base w band analog psp) × (r .layout .count ≤ 12) × (r .layout .stickcount ≤ 2) ⌝ }
 {
@@ -416,7 +416,7 @@ fn on_screen(r: Rect, w: f32, h: f32) -> bool
 }
 
 // Whether the controller's elements lie on the screen, clear of the picture, of the holes and of each other.
-fn fits(l: Layout, w: f32, h: f32, game: Rect, holes: Cutouts) -> bool
+pub fn fits(l: Layout, w: f32, h: f32, game: Rect, holes: Cutouts) -> bool
     requires { ⌜ (l .count ≤ 12) × (l .stickcount ≤ 2) × (holes .count ≤ 16) ⌝ }
     ensures { λ r. ⌜ r ≡ fitsOf l w h game (cutoutList holes) ⌝ }
 {
@@ -525,7 +525,7 @@ fn fitted(
     no_layout()
 }
 
-fn base(w: f32, h: f32, analog: bool, psp: bool) -> Layout
+pub fn base(w: f32, h: f32, analog: bool, psp: bool) -> Layout
     ensures { λ r. ⌜ (r ≡ baseOf w h analog psp) × (r .count ≤ 12) × (r .stickcount ≤ 2) ⌝ }
 {
     if psp {
