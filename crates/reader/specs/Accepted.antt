@@ -1,9 +1,10 @@
--- An accepted order gives settings in document 01's limits, each number of which is a value of binary32.
+-- An accepted order gives settings in document 01's limits, each number of which is a value of binary32; a refused one has a number from 1 to 7.
 use mathlib.Core.Path.{_≡_, refl, _∙_}
 use mathlib.Core.Bool.{Bool, true, false, _&&_, _||_, cond}
 use mathlib.Core.List.{List, [], _∷_, _++_}
-use Prim.Native.Nat.{ℕ, zero, suc, _+_, _-_, _*_, _/_}
+use Prim.Native.Nat.{ℕ, zero, suc, _+_, _-_, _*_, _/_, _<_, _≤_}
 use native.Mathlib.Omega.{arith}
+use borrow.Author.Tests.{ltb-true, leb-true}
 use lib.Dec.{T, eqb, ltb, leb}
 use lib.Ieee.{Float, binary32, ofBits, fits, lt, le, eq, ne, neg}
 use lib.Ieee.Bits.{is-true, ofBits-fits}
@@ -25,52 +26,59 @@ use Rattle.reader.specs.declared.Tag.{Tag}
 use Rattle.reader.specs.declared.Tag.the-variants as Tag
 use Rattle.reader.specs.Order.{must, andThen, shortOf, numberAtOf, rectAtOf, rects, filled, readScreenOf, readPictureOf, readModeOf, readFitOf, readPlaceOf, readCutoutsOf, readSavedOf, fromByteOf, readFieldOf, fields, blankOf, readOrderOf}
 
--- ---- a property of the value that an answer accepts
+-- ---- a property of the value that an answer accepts, while a refusal has one of the reader's numbers
+abbrev ofReader : ℕ → Bool
+ofReader n = ltb 0 n && leb n 7
+
 module _ {A : Type 0} (P : A → Type 0) where
   unfoldable Holds : Answer A → Type 0
   Holds (accepted x) = P x
-  Holds (refused n) = T true
+  Holds (refused n) = T (ofReader n)
 
   holds : (x : A) → P x → Holds (accepted x)
   unfolding Holds
   holds x p = p
 
-  refusal-holds : (n : ℕ) → Holds (refused n)
+  refusal-holds : (n : ℕ) → T (ofReader n) → Holds (refused n)
   unfolding Holds
-  refusal-holds n = tt
+  refusal-holds n t = t
 
-  holds-must : (test : Bool) (n : ℕ) (a : Answer A) → (test ≡ true → Holds a) → Holds (must test n a)
+  holds-must : (test : Bool) (n : ℕ) → T (ofReader n) → (a : Answer A) → (test ≡ true → Holds a) → Holds (must test n a)
   unfolding must
-  holds-must true n a h = h refl
-  holds-must false n a h = refusal-holds n
+  holds-must true n t a h = h refl
+  holds-must false n t a h = refusal-holds n t
 
   holds-then : (a : Answer A) (f : A → Answer A) → Holds a → ((x : A) → P x → Holds (f x)) → Holds (andThen a f)
   unfolding Holds
   holds-then (accepted x) f p h = h x p
-  holds-then (refused n) f p h = tt
+  holds-then (refused n) f p h = p
 
   holds-of : {a : Answer A} {x : A} → Holds a → a ≡ accepted x → P x
   unfolding Holds
   holds-of h e = rw e at h
 
+  number-of : {a : Answer A} {n : ℕ} → Holds a → a ≡ refused n → T (ofReader n)
+  unfolding Holds
+  number-of h e = rw e at h
+
 -- what holds of the settings that are blank, and after each field, holds of the order's
 module _ (P : Settings → Type 0) (each : (tag : Tag) (v : List ℕ) (s : Settings) → P s → Holds P (readFieldOf tag v s)) where
   fields-hold : (turns last : ℕ) (screen : Bool) (s : Settings) (bytes : List ℕ) → P s → Holds P (fields turns last screen s bytes)
   unfolding fields
-  fields-hold zero last screen s bytes p = refusal-holds P 2
-  fields-hold (suc turns) last screen s [] p = holds-must P screen _ _ (λ _. holds P s p)
-  fields-hold (suc turns) last screen s (a ∷ []) p = refusal-holds P 1
-  fields-hold (suc turns) last screen s (a ∷ b ∷ []) p = refusal-holds P 1
+  fields-hold zero last screen s bytes p = refusal-holds P 2 tt
+  fields-hold (suc turns) last screen s [] p = holds-must P screen 4 tt _ (λ _. holds P s p)
+  fields-hold (suc turns) last screen s (a ∷ []) p = refusal-holds P 1 tt
+  fields-hold (suc turns) last screen s (a ∷ b ∷ []) p = refusal-holds P 1 tt
   fields-hold (suc turns) last screen s (tag ∷ high ∷ low ∷ rest) p =
       let n = shortOf high low in
-      holds-must P (ltb last tag && leb tag 7) _ _ (λ _.
-      holds-must P (leb n (length rest)) _ _ (λ _.
+      holds-must P (ltb last tag && leb tag 7) 2 tt _ (λ _.
+      holds-must P (leb n (length rest)) 1 tt _ (λ _.
       holds-then P (readFieldOf (fromByteOf tag) (take n rest) s) _ (each (fromByteOf tag) (take n rest) s p)
       (λ t q. fields-hold turns tag (screen || eqb tag 1) t (drop n rest) q)))
 
-  order-holds : P blankOf → (bytes : List ℕ) {s : Settings} → readOrderOf bytes ≡ accepted s → P s
+  order-holds : P blankOf → (bytes : List ℕ) → Holds P (readOrderOf bytes)
   unfolding readOrderOf
-  order-holds p bytes e = holds-of P (fields-hold 8 0 false blankOf bytes p) e
+  order-holds p bytes = fields-hold 8 0 false blankOf bytes p
 
 -- ---- a property of each part of the settings
 record Parts (Screen : Float → Float → Type 0) (Picture : Rect → Type 0) (Place : Float → Offset → Type 0) (Cut : Cutouts → Type 0) (Saved : List Rect → ℕ → Type 0) (s : Settings) : Type 0 where
@@ -106,17 +114,17 @@ module _ (Screen : Float → Float → Type 0) (Picture : Rect → Type 0) (Plac
 
   each : (tag : Tag) (v : List ℕ) (s : Settings) → P s → Holds P (readFieldOf tag v s)
   unfolding readFieldOf readScreenOf readPictureOf readModeOf readFitOf readPlaceOf readCutoutsOf readSavedOf
-  each Tag.Screen v s p = holds-must P _ _ _ (λ _. holds-must P _ _ _ (λ e. let q = on-screen v e in holds P _ (record { screen = q .0; picture = q .1; place = p .place; cutouts = p .cutouts; saved = p .saved })))
-  each Tag.Picture v s p = holds-must P _ _ _ (λ _. holds-must P _ _ _ (λ e. holds P _ (record { screen = p .screen; picture = on-picture v e; place = p .place; cutouts = p .cutouts; saved = p .saved })))
-  each Tag.Mode v s p = holds-must P _ _ _ (λ _. holds-must P _ _ _ (λ _. holds P _ (record { screen = p .screen; picture = p .picture; place = p .place; cutouts = p .cutouts; saved = p .saved })))
-  each Tag.Fit v s p = holds-must P _ _ _ (λ _. holds-must P _ _ _ (λ _. holds P _ (record { screen = p .screen; picture = p .picture; place = p .place; cutouts = p .cutouts; saved = p .saved })))
-  each Tag.Place v s p = holds-must P _ _ _ (λ _. holds-must P _ _ _ (λ e. holds P _ (record { screen = p .screen; picture = p .picture; place = on-place v e; cutouts = p .cutouts; saved = p .saved })))
+  each Tag.Screen v s p = holds-must P _ 3 tt _ (λ _. holds-must P _ 6 tt _ (λ e. let q = on-screen v e in holds P _ (record { screen = q .0; picture = q .1; place = p .place; cutouts = p .cutouts; saved = p .saved })))
+  each Tag.Picture v s p = holds-must P _ 3 tt _ (λ _. holds-must P _ 6 tt _ (λ e. holds P _ (record { screen = p .screen; picture = on-picture v e; place = p .place; cutouts = p .cutouts; saved = p .saved })))
+  each Tag.Mode v s p = holds-must P _ 3 tt _ (λ _. holds-must P _ 5 tt _ (λ _. holds P _ (record { screen = p .screen; picture = p .picture; place = p .place; cutouts = p .cutouts; saved = p .saved })))
+  each Tag.Fit v s p = holds-must P _ 3 tt _ (λ _. holds-must P _ 5 tt _ (λ _. holds P _ (record { screen = p .screen; picture = p .picture; place = p .place; cutouts = p .cutouts; saved = p .saved })))
+  each Tag.Place v s p = holds-must P _ 3 tt _ (λ _. holds-must P _ 6 tt _ (λ e. holds P _ (record { screen = p .screen; picture = p .picture; place = on-place v e; cutouts = p .cutouts; saved = p .saved })))
   each Tag.Cutouts v s p =
-      holds-must P _ _ _ (λ _. holds-must P _ _ _ (λ few. holds-must P _ _ _ (λ e. holds P _ (record { screen = p .screen; picture = p .picture; place = p .place; cutouts = on-cutouts v (length v / 16) few e; saved = p .saved }))))
-  each Tag.Saved v s p = holds-must P _ _ _ (λ _. holds-must P _ _ _ (λ few. holds P _ (record { screen = p .screen; picture = p .picture; place = p .place; cutouts = p .cutouts; saved = on-saved v (length v / 16) few })))
+      holds-must P _ 3 tt _ (λ _. holds-must P _ 7 tt _ (λ few. holds-must P _ 6 tt _ (λ e. holds P _ (record { screen = p .screen; picture = p .picture; place = p .place; cutouts = on-cutouts v (length v / 16) few e; saved = p .saved }))))
+  each Tag.Saved v s p = holds-must P _ 3 tt _ (λ _. holds-must P _ 7 tt _ (λ few. holds P _ (record { screen = p .screen; picture = p .picture; place = p .place; cutouts = p .cutouts; saved = on-saved v (length v / 16) few })))
 
-  parts : (bytes : List ℕ) {s : Settings} → readOrderOf bytes ≡ accepted s → P s
-  parts bytes e = order-holds P each start bytes e
+  parts : (bytes : List ℕ) → Holds P (readOrderOf bytes)
+  parts bytes = order-holds P each start bytes
 
 -- ---- limits
 either : {A : Type 0} (P : A → Type 0) (b : Bool) {x y : A} → P x → P y → P (cond b x y)
@@ -148,12 +156,20 @@ blank-limits : InLimits blankOf
 unfolding blankOf defaultOf screenInLimitsOf rectInLimitsOf placeInLimitsOf cutoutsInLimitsOf inLimitsOf allOf le lt eq neg ofBits
 blank-limits = record { screen = refl; picture = refl; place = refl; cutouts = (refl, refl); saved = refl }
 
+limits : (bytes : List ℕ) → Holds InLimits (readOrderOf bytes)
+limits bytes =
+    parts _ _ _ _ _ blank-limits (λ v e. (e, default-picture (wide v) (high v) e)) (λ v e. e) (λ v e. e) (λ v n few e. (few, e)) (λ v n few. few) bytes
+
 pub accepted-order : (bytes : List ℕ) {s : Settings} → readOrderOf bytes ≡ accepted s → acceptedOf s ≡ true
 unfolding acceptedOf
 accepted-order bytes e =
-    let q = parts _ _ _ _ _
-    blank-limits (λ v e. (e, default-picture (wide v) (high v) e)) (λ v e. e) (λ v e. e) (λ v n few e. (few, e)) (λ v n few. few) bytes e in
+    let q = holds-of InLimits (limits bytes) e in
     rw (q .screen, q .picture, q .place, q .cutouts .0, q .cutouts .1, q .saved)
+
+pub refused-order : (bytes : List ℕ) {n : ℕ} → readOrderOf bytes ≡ refused n → (0 < n) × (n ≤ 7)
+refused-order bytes {n} e =
+    let b = both (ltb 0 n) (leb n 7) (is-true _ (number-of InLimits (limits bytes) e)) in
+    (ltb-true 0 n (b .0), leb-true n 7 (b .1))
 
 -- ---- values of binary32
 bits-f32 : (n : ℕ) → fits binary32 (ofBits binary32 n) ≡ true
@@ -207,7 +223,7 @@ blank-f32 = record { screen = (refl, refl); picture = refl; place = (refl, refl,
 
 pub order-f32 : (bytes : List ℕ) {s : Settings} → readOrderOf bytes ≡ accepted s → IsF32 s
 order-f32 bytes e =
-    let q = parts _ _ _ _ _
-    blank-f32 (λ v _. ((number-f32 v 0, number-f32 v 1), default-f32 (wide v) (high v) (number-f32 v 0) (number-f32 v 1))) (λ v _. rect-f32 v 0)
-    (λ v _. (number-f32 v 0, number-f32 v 1, number-f32 v 2)) (λ v n _ _. filled-f32 16 v n) (λ v n _. filled-f32 32 v n) bytes e in
+    let q = holds-of InF32
+    (parts _ _ _ _ _ blank-f32 (λ v _. ((number-f32 v 0, number-f32 v 1), default-f32 (wide v) (high v) (number-f32 v 0) (number-f32 v 1))) (λ v _. rect-f32 v 0)
+    (λ v _. (number-f32 v 0, number-f32 v 1, number-f32 v 2)) (λ v n _ _. filled-f32 16 v n) (λ v n _. filled-f32 32 v n) bytes) e in
     record { w = q .screen .0; h = q .screen .1; picture = q .picture; scale = q .place .0; across = q .place .1; down = q .place .2; cutouts = q .cutouts; saved = q .saved }

@@ -25,15 +25,14 @@ use Rattle.reader.specs.declared.Tag.the-variants as Tag
 unfoldable pub answerOf : Reading → Answer Settings
 answerOf r = cond (eqb (r .refusal) 0) (accepted (r .settings)) (refused (r .refusal))
 
-module _ {A : Type 0} where
-  -- the answer, if a test is met, else a refusal
-  unfoldable pub must : Bool → ℕ → Answer A → Answer A
-  must test number answer = cond test answer (refused number)
+-- the answer, if a test is met, else a refusal
+unfoldable pub must : {A : Type 0} → Bool → ℕ → Answer A → Answer A
+must test number answer = cond test answer (refused number)
 
-  -- what f makes of an accepted value
-  abbrev pub andThen : Answer A → (A → Answer A) → Answer A
-  andThen (accepted x) f = f x
-  andThen (refused n) f = refused n
+-- what f makes of an accepted value
+abbrev pub andThen : {A B : Type 0} → Answer A → (A → Answer B) → Answer B
+andThen (accepted x) f = f x
+andThen (refused n) f = refused n
 
 -- ---- bytes of a value: numbers, rectangles, bits
 

@@ -48,7 +48,7 @@ untouchedOf p = eq (p .scale) k1 && (eq (p .offset .x) k0·5 && eq (p .offset .y
 unfoldable pub pictureFitOf : Preset → Fit
 pictureFitOf p = unwrapOr (p .fit) (cond (untouchedOf p) Maximum KeepClear)
 
--- ---- document 01's limits of the numbers in tags 1, 2, 5 and 6
+-- ---- document 01's limits of the numbers in tags 1, 2, 5 and 6, and of the tops
 abbrev pub least : Float
 least = neg k8192
 
@@ -70,6 +70,10 @@ placeInLimitsOf scale offset =
 
 unfoldable pub cutoutsInLimitsOf : Cutouts → Bool
 cutoutsInLimitsOf c = allOf (rectInLimitsOf least) (cutoutList c)
+
+-- the tops of `PlayerViewport`: the height above the picture that may be reused, and the height that is covered for a while
+unfoldable pub topsInLimitsOf : Float → Float → Bool
+topsInLimitsOf reusable covered = inLimitsOf k0 reusable && inLimitsOf least covered
 
 -- the settings that an order may give
 unfoldable pub acceptedOf : Settings → Bool

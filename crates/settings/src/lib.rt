@@ -1,7 +1,7 @@
 // What an order sets: the screen, the picture's area, the preset of input.rs, the cutouts.
 ghost use mathlib.Core.Path.{_≡_};
 ghost use Prim.Native.Nat.{_≤_};
-ghost use Rattle.settings.specs.Settings.{defaultOf, untouchedOf, pictureFitOf, inLimitsOf, screenInLimitsOf, rectInLimitsOf, placeInLimitsOf, cutoutsInLimitsOf};
+ghost use Rattle.settings.specs.Settings.{defaultOf, untouchedOf, pictureFitOf, inLimitsOf, screenInLimitsOf, rectInLimitsOf, placeInLimitsOf, cutoutsInLimitsOf, topsInLimitsOf};
 use geometry::Rect;
 use layout::Cutouts;
 use search::Offset;
@@ -104,6 +104,13 @@ pub fn place_in_limits(scale: f32, offset: Offset) -> bool
     ensures { λ r. ⌜ r ≡ placeInLimitsOf scale offset ⌝ }
 {
     in_limits(-8192.0, scale) && (in_limits(-8192.0, offset.x) && in_limits(-8192.0, offset.y))
+}
+
+// The height above the picture that may be reused, and the height that is covered for a while.
+pub fn tops_in_limits(reusable: f32, covered: f32) -> bool
+    ensures { λ r. ⌜ r ≡ topsInLimitsOf reusable covered ⌝ }
+{
+    in_limits(0.0, reusable) && in_limits(-8192.0, covered)
 }
 
 pub fn cutouts_in_limits(c: Cutouts) -> bool

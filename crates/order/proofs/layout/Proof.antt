@@ -1,0 +1,47 @@
+use mathlib.Core.Path.{sym}
+use borrow.Author.Needs.{needs}
+use Rattle.reader.specs.Accepted.{accepted-order}
+use Rattle.written.proofs.Owned.{layout-owned}
+use Rattle.order.specs.Orders.{orderLayout, layoutOf, layoutOutputOf}
+use Rattle.order.specs.OrderLaws.{settings-few, never}
+use Rattle.order.proofs.Steps.{read-refused, read-accepted, layout-accepted}
+use Rattle.order.proofs.layout.Statement.{statement}
+use Rattle.order.proofs.layout.Tie as tie
+
+read-order-requires : tie.Need-read-order-requires
+read-order-requires c κs = search needs
+
+returns : tie.Need-returns
+unfolding layoutOf layoutOutputOf orderLayout
+returns c =
+    let e = read-refused _ (c .before .before .read-order .ensures) (c .if1 .taken) in
+    (rw e, (rw e, λ s n r a k. absurd (never (sym a))))
+
+settings-layout-requires : tie.Need-settings-layout-requires
+settings-layout-requires c κs = accepted-order _ (read-accepted _ (c .before .before .read-order .ensures) (c .if1 .left))
+
+write-requires : tie.Need-write-requires
+write-requires c κs =
+    let n = settings-few (c .before .before .before .before .read-order .result .settings) in
+    rw (c .before .settings-layout .ensures) (n .count, n .stickcount)
+
+same-length : tie.Need-same-length
+same-length c = search needs
+
+returns-2 : tie.Need-returns-2
+returns-2 c =
+    let e = read-accepted _ (c .before .before .before .before .before .before .before .read-order .ensures) (c .before .before .before .before .before .if1 .left) in
+    let l = c .before .before .before .before .settings-layout in
+    let w = c .before .before .write .ensures in
+    layout-accepted _ e (l .ensures) (layout-owned _ _ (l .ok)) _ (w .0) (w .1)
+
+pub layout-spec : {M : Type 1} → statement M
+layout-spec =
+    tie.close
+    (tie.spec
+    read-order-requires
+    returns
+    settings-layout-requires
+    write-requires
+    same-length
+    returns-2)

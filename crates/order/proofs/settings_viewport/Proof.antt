@@ -1,0 +1,14 @@
+use Rattle.order.specs.Orders.{settingsViewportOf}
+use Rattle.order.proofs.Steps.{few-settings}
+use Rattle.order.proofs.settings_viewport.Statement.{statement}
+use Rattle.order.proofs.settings_viewport.Tie as tie
+
+viewport-layout-requires : tie.Need-viewport-layout-requires
+viewport-layout-requires c κs = few-settings (c .args .s) (c .pre)
+
+returns : tie.Need-returns
+unfolding settingsViewportOf
+returns c = c .viewport-layout .ensures
+
+pub settings-viewport-spec : {M : Type 1} → statement M
+settings-viewport-spec = tie.close (tie.spec viewport-layout-requires returns)

@@ -1,0 +1,65 @@
+use borrow.Author.Needs.{needs}
+use borrow.Author.Tests.{not-true, not-false}
+use Rattle.reader.specs.Accepted.{accepted-order}
+use Rattle.reader.specs.Order.{must}
+use Rattle.order.specs.Orders.{orderViewport, viewportLayoutOf, viewportOutputOf}
+use Rattle.order.specs.OrderLaws.{viewport-few}
+use Rattle.order.proofs.Steps.{read-refused, read-accepted}
+use Rattle.order.proofs.viewport_layout.Statement.{statement}
+use Rattle.order.proofs.viewport_layout.Tie as tie
+
+read-order-requires : tie.Need-read-order-requires
+read-order-requires c κs = search needs
+
+returns : tie.Need-returns
+unfolding viewportLayoutOf viewportOutputOf orderViewport
+returns c =
+    let e = read-refused _ (c .before .before .read-order .ensures) (c .if1 .taken) in
+    (rw e, rw e)
+
+tops-in-limits-requires : tie.Need-tops-in-limits-requires
+tops-in-limits-requires c κs = search needs
+
+returns-2 : tie.Need-returns-2
+unfolding viewportLayoutOf viewportOutputOf orderViewport must
+returns-2 c =
+    let e = read-accepted _ (c .before .before .before .before .read-order .ensures) (c .before .before .if1 .left) in
+    let t = c .before .tops-in-limits .ensures in
+    let no = not-true (c .before .tops-in-limits .result) (c .if2 .taken) in
+    (rw (e, ← t, no), rw (e, ← t, no))
+
+settings-viewport-requires : tie.Need-settings-viewport-requires
+settings-viewport-requires c κs =
+    accepted-order _ (read-accepted _ (c .before .before .before .before .read-order .ensures) (c .before .before .if1 .left))
+
+write-requires : tie.Need-write-requires
+write-requires c κs =
+    let s = c .before .before .before .before .before .before in
+    let n = viewport-few (s .read-order .result .settings) _ _ in
+    rw (c .before .settings-viewport .ensures) (n .count, n .stickcount)
+
+same-length : tie.Need-same-length
+same-length c = search needs
+
+returns-3 : tie.Need-returns-3
+unfolding viewportLayoutOf viewportOutputOf orderViewport must
+returns-3 c =
+    let r = c .before .before .before .before .before .before .before .before .before in
+    let e = read-accepted _ (r .read-order .ensures) (c .before .before .before .before .before .before .before .if1 .left) in
+    let t = c .before .before .before .before .before .before .tops-in-limits .ensures in
+    let yes = not-false (c .before .before .before .before .before .before .tops-in-limits .result) (c .before .before .before .before .before .if2 .left) in
+    let w = rw (c .before .before .before .before .settings-viewport .ensures) at (c .before .before .write .ensures) in
+    (rw (e, ← t, yes) (w .0), rw (e, ← t, yes) (w .1))
+
+pub viewport-layout-spec : {M : Type 1} → statement M
+viewport-layout-spec =
+    tie.close
+    (tie.spec
+    read-order-requires
+    returns
+    tops-in-limits-requires
+    returns-2
+    settings-viewport-requires
+    write-requires
+    same-length
+    returns-3)

@@ -1,0 +1,3 @@
+pub mod Orders
+pub mod Demands
+pub mod OrderLaws

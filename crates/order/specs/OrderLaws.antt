@@ -1,0 +1,147 @@
+-- What the functions over orders give: so many bytes for each mode, one of eight refusals, which changes nothing, and the widest picture.
+use mathlib.Core.Path.{_≡_, refl, _∙_}
+use mathlib.Core.Bool.{Bool, true, false, cond, _||_}
+use mathlib.Core.List.{List, _++_}
+use Prim.Native.Nat.{ℕ, _<_, _≤_}
+use native.Mathlib.Omega.{arith}
+use lib.Dec.{leb}
+use lib.Ieee.{Float, lt}
+use lib.ListN.{length, drop}
+use Rattle.float.specs.Float.{k0}
+use Rattle.geometry.specs.Answer.{Answer, accepted, refused}
+use Rattle.layout.specs.declared.Layout.{Layout}
+use Rattle.layout.specs.Layout.{cutoutList}
+use Rattle.limits.specs.InRange.{InRange}
+use Rattle.limits.specs.SettingsRanges.{accepted-in-range}
+use Rattle.settings.specs.declared.Preset.{Preset}
+use Rattle.settings.specs.declared.Settings.{Settings}
+use Rattle.settings.specs.Settings.{topsInLimitsOf}
+use Rattle.band.specs.BandLabels.{bandLabels, bandSticks}
+use Rattle.defaults.specs.DefaultCases.{either}
+use Rattle.reader.specs.Accepted.{accepted-order, refused-order, order-f32}
+use Rattle.reader.specs.Order.{must, andThen, readOrderOf}
+use Rattle.writer.specs.Bytes.{layoutBytes, writeLayoutOf, outputOf}
+use Rattle.writer.specs.Length.{lengthFor, length-layout}
+use Rattle.written.specs.Written.{LayoutIsF32}
+use Rattle.written.specs.WidestWritten.{widest-written}
+use Rattle.preset.specs.Preset as Preset
+use Rattle.preset.specs.Preset.{sticksOf}
+use Rattle.preset.specs.Demand.{WidestFor}
+use Rattle.preset.specs.PresetLabels.{OfMode, Few, few, anchor-mode, layout-mode}
+use Rattle.preset.specs.PresetWidest.{layout-widest}
+use Rattle.order.specs.Orders.{settingsLayoutOf, orderLayout, writtenAnswer, writtenOutput, layoutOf, layoutOutputOf, touchOf, settingsViewportOf, orderViewport, viewportLayoutOf, viewportOutputOf}
+use Rattle.order.specs.Demands.{WidestWritten}
+
+-- ---- modes
+pub settings-mode : (s : Settings) → OfMode (sticksOf (s .preset)) (s .preset .psp) (settingsLayoutOf s)
+unfolding settingsLayoutOf
+settings-mode s = layout-mode _ _ _ _ _
+
+pub viewport-mode : (s : Settings) (reusable covered : Float) → OfMode (sticksOf (s .preset)) (s .preset .psp) (settingsViewportOf s reusable covered)
+unfolding settingsViewportOf Preset.viewportLayoutOf
+viewport-mode s reusable covered =
+    let cutouts = cutoutList (s .cutouts) in
+    let p = s .preset in
+    let anchored = anchor-mode (sticksOf p) (p .psp) _ (layout-mode p (s .w) (s .h) cutouts (s .picture)) (s .w) (s .h) cutouts reusable k0 in
+    either (OfMode (sticksOf p) (p .psp)) (lt k0 covered) (anchor-mode (sticksOf p) (p .psp) _ anchored (s .w) (s .h) cutouts reusable covered) anchored
+
+pub settings-few : (s : Settings) → Few (settingsLayoutOf s)
+settings-few s = few (sticksOf (s .preset)) (s .preset .psp) _ (settings-mode s)
+
+pub viewport-few : (s : Settings) (reusable covered : Float) → Few (settingsViewportOf s reusable covered)
+viewport-few s reusable covered = few (sticksOf (s .preset)) (s .preset .psp) _ (viewport-mode s reusable covered)
+
+-- ---- "It takes 285 bytes standard, 353 analog, 265 psp."
+abbrev pub bytesFor : Bool → Bool → ℕ
+bytesFor analog psp = cond psp 265 (cond analog 353 285)
+
+mode-bytes : (analog psp : Bool) → lengthFor (length (bandLabels (analog || psp) psp)) (bandSticks (analog || psp) psp) ≡ bytesFor analog psp
+mode-bytes true true = refl
+mode-bytes false true = refl
+mode-bytes true false = refl
+mode-bytes false false = refl
+
+mode-length : (analog psp : Bool) (l : Layout) → OfMode (analog || psp) psp l → length (layoutBytes l) ≡ bytesFor analog psp
+mode-length analog psp l f =
+    let n = few (analog || psp) psp l f in
+    length-layout l (omega (arith, f .1 .0)) (omega (arith, f .1 .1)) ∙ rw (f .0 .1, f .0 .2) (mode-bytes analog psp)
+
+-- the answer for an output: a count, or 8, sheet too small
+abbrev pub roomFor : ℕ → List ℕ → Answer ℕ
+roomFor n out = cond (leb n (length out)) (accepted n) (refused 8)
+
+mode-answer : (p : Preset) (l : Layout) → OfMode (sticksOf p) (p .psp) l → (out : List ℕ) → writeLayoutOf l out ≡ roomFor (bytesFor (p .analog) (p .psp)) out
+unfolding writeLayoutOf
+mode-answer p l f out = rw (mode-length (p .analog) (p .psp) l f)
+
+module _ (order : List ℕ) {s : Settings} (e : readOrderOf order ≡ accepted s) (out : List ℕ) where
+  pub layout-answer : layoutOf order out ≡ roomFor (bytesFor (s .preset .analog) (s .preset .psp)) out
+  unfolding layoutOf orderLayout
+  layout-answer = rw e (mode-answer (s .preset) _ (settings-mode s) out)
+
+  pub viewport-answer : (reusable covered : Float) → topsInLimitsOf reusable covered ≡ true → viewportLayoutOf order reusable covered out ≡ roomFor (bytesFor (s .preset .analog) (s .preset .psp)) out
+  unfolding viewportLayoutOf orderViewport must
+  viewport-answer reusable covered t = rw (e, t) (mode-answer (s .preset) _ (viewport-mode s reusable covered) out)
+
+-- ---- the bytes that are written, or none
+pub never : {A : Type 0} {x : A} {n : ℕ} → accepted x ≡ refused n → ⊥
+never e = let z : _≡_ {A = ℕ} 0 1 = cc in omega arith
+
+module _ (l : Layout) (out : List ℕ) where
+  written-case : (C : Answer ℕ → List ℕ → Type 0) → C (accepted (length (layoutBytes l))) (layoutBytes l ++ drop (length (layoutBytes l)) out) → C (refused 8) out → C (writeLayoutOf l out) (outputOf l out)
+  unfolding writeLayoutOf outputOf
+  written-case C p q = go (leb (length (layoutBytes l)) (length out))
+    where
+      go : (b : Bool) → C (cond b (accepted (length (layoutBytes l))) (refused 8)) (cond b (layoutBytes l ++ drop (length (layoutBytes l)) out) out)
+      go true = p
+      go false = q
+
+  written-bytes : {n : ℕ} → writeLayoutOf l out ≡ accepted n → outputOf l out ≡ layoutBytes l ++ drop (length (layoutBytes l)) out
+  written-bytes {n} = written-case (λ a after. a ≡ accepted n → after ≡ layoutBytes l ++ drop (length (layoutBytes l)) out) (λ e. refl) (λ e. cc)
+
+  refused-bytes : {n : ℕ} → writeLayoutOf l out ≡ refused n → (n ≡ 8) × (outputOf l out ≡ out)
+  refused-bytes {n} = written-case (λ a after. a ≡ refused n → (n ≡ 8) × (after ≡ out)) (λ e. absurd (never e)) (λ e. (cc, refl))
+
+-- ---- demand 1: one of the eight refusals, and "a refused order changes no byte of the lent output"
+refused-then : {A B : Type 0} (C : Type 0) (a : Answer A) {f : A → Answer B} {n : ℕ} → (a ≡ refused n → C) → ((x : A) → f x ≡ refused n → C) → andThen a f ≡ refused n → C
+refused-then C (accepted x) g h e = h x e
+refused-then C (refused m) g h e = g (cc)
+
+-- "the same refusal"
+pub touch-refused : (order : List ℕ) (x y : Float) (previous : ℕ) {n : ℕ} → touchOf order x y previous ≡ refused n → readOrderOf order ≡ refused n
+unfolding touchOf orderLayout
+touch-refused order x y previous e = refused-then _ _ (refused-then _ _ (λ r. r) (λ s r. cc)) (λ l r. cc) e
+
+abbrev Number : ℕ → Type 0
+Number n = (0 < n) × (n ≤ 8)
+
+read-number : (order : List ℕ) {n : ℕ} → readOrderOf order ≡ refused n → Number n
+read-number order r = let b = refused-order order r in (b .0, omega arith)
+
+-- of a layout that is written where it is not refused
+written-refused : (a : Answer Layout) {n : ℕ} → (a ≡ refused n → Number n) → (out : List ℕ) → writtenAnswer a out ≡ refused n → Number n × (writtenOutput a out ≡ out)
+written-refused (accepted l) g out e = let b = refused-bytes l out e in ((omega arith, omega arith), b .1)
+written-refused (refused n) g out e = (g (cc), refl)
+
+pub layout-refused : (order out : List ℕ) {n : ℕ} → layoutOf order out ≡ refused n → Number n × (layoutOutputOf order out ≡ out)
+unfolding layoutOf layoutOutputOf orderLayout
+layout-refused order out e = written-refused _ (refused-then _ _ (read-number order) (λ s r. absurd (never r))) out e
+
+pub viewport-refused : (order : List ℕ) (reusable covered : Float) (out : List ℕ) {n : ℕ} → viewportLayoutOf order reusable covered out ≡ refused n → Number n × (viewportOutputOf order reusable covered out ≡ out)
+unfolding viewportLayoutOf viewportOutputOf orderViewport must
+viewport-refused order reusable covered out {n} e = written-refused _ (refused-then _ _ (read-number order) (λ s r. go (topsInLimitsOf reusable covered) _ r)) out e
+  where
+    go : (b : Bool) (l : Layout) → cond b (accepted l) (refused 6) ≡ refused n → Number n
+    go true l r = absurd (never r)
+    go false l r = let six : n ≡ 6 = cc in (omega arith, omega arith)
+
+-- ---- demand 3
+settings-widest : (s : Settings) → InRange s → WidestFor s (settingsLayoutOf s)
+unfolding settingsLayoutOf
+settings-widest s r = layout-widest s r
+
+pub order-widest : (order : List ℕ) {s : Settings} → readOrderOf order ≡ accepted s → LayoutIsF32 (settingsLayoutOf s) → (out : List ℕ) → WidestWritten order (writeLayoutOf (settingsLayoutOf s) out) (outputOf (settingsLayoutOf s) out)
+order-widest order {s} e f out t n r a k =
+    let same : t ≡ s = cc in
+    let d = accepted-in-range s (accepted-order order e) (order-f32 order e) in
+    rw (same, written-bytes (settingsLayoutOf s) out a) (widest-written (settingsLayoutOf s) f _ (settings-widest s d (rw same at k)))

@@ -1,0 +1,76 @@
+use Rattle.preset.proofs.Turns.{mapped-front}
+use Rattle.preset.specs.Preset.{partOf}
+use mathlib.Core.Path.{refl, _∙_, _≡_}
+use mathlib.Core.List.{map}
+use lib.ListN.{length, length-map, length-set}
+use Rattle.layout.specs.Layout.{anyRect}
+use Rattle.layout.specs.Elements.{replaceFirst}
+use Rattle.layout.proofs.Loops.{sized, getD-map}
+use Rattle.layout.proofs.Stores.{replaceFirst-next}
+use borrow.Author.Needs.{needs}
+use native.Mathlib.Omega.{arith}
+use Prim.Native.Nat.{_-_, _≤_}
+use Rattle.preset.proofs.captured.Statement.{statement}
+use Rattle.preset.proofs.captured.Tie as tie
+
+abbrev Inv-loop : tie.InvT-loop
+Inv-loop w h at n out₀ i₀ out i = (i ≤ n) × (length out ≡ 32) × (out ≡ replaceFirst i (map (partOf w h) at) out₀)
+
+abbrev μ-loop : tie.MeasureT-loop
+μ-loop w h at n out₀ i₀ out i = n - i
+
+loop-holds : tie.Need-loop-holds Inv-loop μ-loop
+loop-holds c = let n : length (c .before .args .saved) ≡ 32 = search sized in (omega arith, n, refl)
+
+mul-part : tie.Need-mul-part Inv-loop μ-loop
+mul-part c = omega arith
+
+array-copy-out-part : tie.Need-array-copy-out-part Inv-loop μ-loop
+array-copy-out-part c = omega arith
+
+part-requires : tie.Need-part-requires Inv-loop μ-loop
+part-requires c κs = search needs
+
+mul-out : tie.Need-mul-out Inv-loop μ-loop
+mul-out c = omega arith
+
+array-set-from-out : tie.Need-array-set-from-out Inv-loop μ-loop
+array-set-from-out c = omega arith
+
+add-i : tie.Need-add-i Inv-loop μ-loop
+add-i c = omega arith
+
+loop-less : tie.Need-loop-less Inv-loop μ-loop
+loop-less c = omega arith
+
+loop-again : tie.Need-loop-again Inv-loop μ-loop
+loop-again c = let l = c .before .before .before in
+    let a = l .before .before .args in
+    let at = a .elements .at in
+    let m : length at ≡ 19 = search sized in
+    let k : length (a .saved) ≡ 32 = search sized in
+    let j = length-map at (partOf (a .w) (a .h)) in
+    (omega arith, rw length-set (l .loop .inv .1), replaceFirst-next (map (partOf (a .w) (a .h)) at) (a .saved) (l .loop .out) (l .loop .i) anyRect (omega arith) (omega arith) (l .loop .inv .2) (c .part .ensures ∙ getD-map (partOf (a .w) (a .h)) at (l .loop .i) anyRect anyRect (omega arith)))
+
+returns : tie.Need-returns Inv-loop μ-loop
+returns c = let l = c .before in
+    let a = l .before .before .args in
+    let e : l .loop .i ≡ a .elements .count = omega arith in
+    l .loop .inv .2 ∙ rw e (mapped-front (partOf (a .w) (a .h)) (a .elements .count) (a .elements .at) (a .saved))
+
+pub captured-spec : {M : Type 1} → statement M
+captured-spec =
+    tie.close
+    (tie.spec
+    Inv-loop
+    μ-loop
+    loop-holds
+    mul-part
+    array-copy-out-part
+    part-requires
+    mul-out
+    array-set-from-out
+    add-i
+    loop-less
+    loop-again
+    returns)

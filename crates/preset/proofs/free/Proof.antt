@@ -1,0 +1,13 @@
+use Rattle.preset.proofs.Turns.{none-counted}
+use lib.ListN.{length}
+use native.Mathlib.Omega.{arith}
+use Rattle.layout.proofs.Loops.{sized}
+use mathlib.Core.Path.{_≡_}
+use Rattle.preset.proofs.free.Statement.{statement}
+use Rattle.preset.proofs.free.Tie as tie
+
+returns : tie.Need-returns
+returns c = let a = c .before .before .args in let p = c .before .before .pre in let k : length (a .p .elements) ≡ 32 = search sized in rw (none-counted (a .p .count) (a .p .elements) (omega arith))
+
+pub free-spec : {M : Type 1} → statement M
+free-spec = tie.close (tie.spec returns)

@@ -1,0 +1,19 @@
+use borrow.Author.Needs.{needs}
+use Rattle.preset.proofs.is_finite.Statement.{statement}
+use Rattle.preset.proofs.is_finite.Tie as tie
+use Rattle.preset.specs.Preset.{isFiniteOf}
+use lib.Ieee.{ofBits, nanBits}
+
+abs-requires : tie.Need-abs-requires
+abs-requires c κs = search needs
+
+float-from-bits-result : tie.Need-float-from-bits-result
+unfolding nanBits
+float-from-bits-result c = tt
+
+returns : tie.Need-returns
+unfolding isFiniteOf ofBits
+returns c = rw (← c .abs .ensures)
+
+pub is-finite-spec : {M : Type 1} → statement M
+is-finite-spec = tie.close (tie.spec abs-requires float-from-bits-result returns)

@@ -1,0 +1,21 @@
+use borrow.Author.Needs.{needs}
+use Rattle.preset.proofs.restore.Statement.{statement}
+use Rattle.preset.proofs.restore.Tie as tie
+use Rattle.preset.specs.Preset.{restoreOf}
+
+usable-requires : tie.Need-usable-requires
+usable-requires c κs = search needs
+
+on-screen-requires : tie.Need-on-screen-requires
+on-screen-requires c κs = search needs
+
+returns : tie.Need-returns
+unfolding restoreOf
+returns c = rw (← c .before .before .usable .ensures, c .before .if1 .taken) (c .on-screen .ensures)
+
+returns-2 : tie.Need-returns-2
+unfolding restoreOf
+returns-2 c = rw (← c .before .usable .ensures, c .if1 .left)
+
+pub restore-spec : {M : Type 1} → statement M
+restore-spec = tie.close (tie.spec usable-requires on-screen-requires returns returns-2)

@@ -1,0 +1,88 @@
+use lib.ListN.{getD, length-set, length, take}
+use lib.Seq.{getD-take, length-take-le}
+use Rattle.preset.specs.Preset.{restoreOf, restoredOf}
+use mathlib.Core.Path.{sym, refl, ap, _∙_, _≡_}
+use Rattle.geometry.specs.declared.Rect.{Rect}
+use Rattle.preset.proofs.Turns.{restored-none, restored-turn, restored-past, restored-front}
+use mathlib.Core.Logic.{⊎-elim}
+use Rattle.layout.specs.Layout.{anyRect}
+use Rattle.layout.proofs.Loops.{sized}
+use borrow.Author.Needs.{needs}
+use native.Mathlib.Omega.{arith}
+use Prim.Native.Nat.{_-_, _≤_}
+use Rattle.preset.proofs.restored.Statement.{statement}
+use Rattle.preset.proofs.restored.Tie as tie
+
+abbrev Inv-loop : tie.InvT-loop
+Inv-loop w h n saved count at₀ i₀ at i = (i ≤ count) × (length at ≡ 19) × (at ≡ restoredOf w h (take i (take n saved)) at₀)
+
+abbrev μ-loop : tie.MeasureT-loop
+μ-loop w h n saved count at₀ i₀ at i = count - i
+
+loop-holds : tie.Need-loop-holds Inv-loop μ-loop
+loop-holds c = let n : length (c .before .args .elements .at) ≡ 19 = search sized in (omega arith, n, restored-none _ _ _)
+
+mul-restore : tie.Need-mul-restore Inv-loop μ-loop
+mul-restore c = omega arith
+
+array-copy-out-restore : tie.Need-array-copy-out-restore Inv-loop μ-loop
+array-copy-out-restore c = omega arith
+
+mul-restore-2 : tie.Need-mul-restore-2 Inv-loop μ-loop
+mul-restore-2 c = omega arith
+
+array-copy-out-restore-2 : tie.Need-array-copy-out-restore-2 Inv-loop μ-loop
+array-copy-out-restore-2 c = omega arith
+
+restore-requires : tie.Need-restore-requires Inv-loop μ-loop
+restore-requires c κs = search needs
+
+mul-at : tie.Need-mul-at Inv-loop μ-loop
+mul-at c = omega arith
+
+array-set-from-at : tie.Need-array-set-from-at Inv-loop μ-loop
+array-set-from-at c = omega arith
+
+add-i : tie.Need-add-i Inv-loop μ-loop
+add-i c = omega arith
+
+loop-less : tie.Need-loop-less Inv-loop μ-loop
+loop-less c = omega arith
+
+loop-again : tie.Need-loop-again Inv-loop μ-loop
+loop-again c = let l = c .before .before in
+    let a = l .before .before .args in
+    let k : length (a .t3) ≡ 32 = search sized in
+    let m : length (a .elements .at) ≡ 19 = search sized in
+    let i = l .loop .i in
+    let rs = take (a .n) (a .t3) in
+    let z : length rs ≡ a .n = length-take-le (a .n) (a .t3) (omega arith) in
+    ⊎-elim
+    (λ t. (omega arith, ap length (t .4) ∙ rw length-set (l .loop .inv .1), t .4 ∙ restored-turn (a .w) (a .h) i rs (a .elements .at) (l .loop .at) anyRect (omega arith) (omega arith) (l .loop .inv .2) (t .3 .ensures ∙ ap (λ (r : Rect). restoreOf (a .w) (a .h) r (getD (l .loop .at) i anyRect)) (sym (getD-take (a .n) (a .t3) i anyRect (t .0 .taken))))))
+    (λ t. (omega arith, ap length (t .1) ∙ l .loop .inv .1, t .1 ∙ restored-past (a .w) (a .h) i rs (a .elements .at) (l .loop .at) (omega (arith, t .0 .left, z)) (l .loop .inv .2)))
+    (c .if1 .came)
+
+returns : tie.Need-returns Inv-loop μ-loop
+returns c = let l = c .before in
+    let a = l .before .before .args in
+    let e : l .loop .i ≡ a .elements .count = omega arith in
+    (ap (take (a .elements .count)) (l .loop .inv .2) ∙ rw e (restored-front (a .w) (a .h) (a .elements .count) (take (a .n) (a .t3)) (a .elements .at)), refl)
+
+pub restored-spec : {M : Type 1} → statement M
+restored-spec =
+    tie.close
+    (tie.spec
+    Inv-loop
+    μ-loop
+    loop-holds
+    mul-restore
+    array-copy-out-restore
+    mul-restore-2
+    array-copy-out-restore-2
+    restore-requires
+    mul-at
+    array-set-from-at
+    add-i
+    loop-less
+    loop-again
+    returns)

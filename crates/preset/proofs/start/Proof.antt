@@ -1,0 +1,34 @@
+use Rattle.preset.proofs.Turns.{holds}
+use Rattle.layout.specs.Layout.{cutoutList}
+use Rattle.preset.specs.PresetLabels.{OfMode, start-mode}
+use mathlib.Core.Bool.{_||_}
+use borrow.Author.Needs.{needs}
+use Rattle.preset.proofs.start.Statement.{statement}
+use Rattle.preset.proofs.start.Tie as tie
+use Rattle.preset.specs.Preset.{startOf}
+
+psp-requires : tie.Need-psp-requires
+psp-requires c κs = search needs
+
+returns : tie.Need-returns
+unfolding startOf
+returns c = let a = c .before .before .args in holds (OfMode (a .analog || a .psp) (a .psp)) (start-mode (a .w) (a .h) (cutoutList (a .cutouts)) (a .picture) (a .psp) (a .analog)) (rw (c .before .if1 .taken) (c .psp .ensures .0))
+
+analog-default-requires : tie.Need-analog-default-requires
+analog-default-requires c κs = search needs
+
+returns-2 : tie.Need-returns-2
+unfolding startOf
+returns-2 c = let a = c .before .before .before .args in holds (OfMode (a .analog || a .psp) (a .psp)) (start-mode (a .w) (a .h) (cutoutList (a .cutouts)) (a .picture) (a .psp) (a .analog)) (rw (c .before .before .if1 .left, c .before .if2 .taken) (c .analog-default .ensures .0))
+
+default-in-requires : tie.Need-default-in-requires
+default-in-requires c κs = search needs
+
+returns-3 : tie.Need-returns-3
+unfolding startOf
+returns-3 c = let a = c .before .before .before .args in holds (OfMode (a .analog || a .psp) (a .psp)) (start-mode (a .w) (a .h) (cutoutList (a .cutouts)) (a .picture) (a .psp) (a .analog)) (rw (c .before .before .if1 .left, c .before .if2 .left) (c .default-in .ensures .0))
+
+pub start-spec : {M : Type 1} → statement M
+start-spec =
+    tie.close
+    (tie.spec psp-requires returns analog-default-requires returns-2 default-in-requires returns-3)

@@ -1,0 +1,47 @@
+use borrow.Author.Tests.{not-true, not-false}
+use borrow.Author.Needs.{needs}
+use Rattle.preset.proofs.try_rails.Statement.{statement}
+use Rattle.preset.proofs.try_rails.Tie as tie
+use Rattle.preset.specs.Preset.{tryRailsOf}
+use Rattle.preset.specs.PresetLabels.{Few, few, avoid-mode}
+use mathlib.Core.Bool.{true}
+
+analog-camera-rails-requires : tie.Need-analog-camera-rails-requires
+analog-camera-rails-requires c κs = search needs
+
+returns : tie.Need-returns
+unfolding tryRailsOf
+returns c = rw (← c .before .before .analog-camera-rails .ensures .0, not-true (c .before .before .analog-camera-rails .result .some) (c .if1 .taken))
+
+avoid-cutouts-requires : tie.Need-avoid-cutouts-requires
+avoid-cutouts-requires c κs = let a = c .before .before .before .before .args in let n = few true (a .psp) (a .layout) (c .before .before .before .before .pre .1) in ((n .count, n .stickcount), (c .before .before .before .before .pre .0, n .faces))
+
+aspect-requires : tie.Need-aspect-requires
+aspect-requires c κs = search needs
+
+place-game-in-aspect-requires : tie.Need-place-game-in-aspect-requires
+place-game-in-aspect-requires c κs = let a = c .before .before .before .before .before .before .args in let n : Few (c .before .avoid-cutouts .result) = rw (c .before .avoid-cutouts .ensures) (few true (a .psp) _ (avoid-mode true (a .psp) (a .layout) (c .before .before .before .before .before .before .pre .1) _ _ _)) in (n .count, n .stickcount)
+
+rails-win-requires : tie.Need-rails-win-requires
+rails-win-requires c κs = search needs
+
+returns-2 : tie.Need-returns-2
+unfolding tryRailsOf
+returns-2 c = rw (← c .before .before .before .before .before .before .before .before .analog-camera-rails .ensures .0, not-false (c .before .before .before .before .before .before .before .before .analog-camera-rails .result .some) (c .before .before .before .before .before .before .if1 .left), ← c .before .before .before .before .avoid-cutouts .ensures, ← c .before .before .before .aspect .ensures, ← c .before .before .place-game-in-aspect .ensures, ← c .before .rails-win .ensures, c .if2 .taken)
+
+returns-3 : tie.Need-returns-3
+unfolding tryRailsOf
+returns-3 c = rw (← c .before .before .before .before .before .before .before .before .analog-camera-rails .ensures .0, not-false (c .before .before .before .before .before .before .before .before .analog-camera-rails .result .some) (c .before .before .before .before .before .before .if1 .left), ← c .before .before .before .before .avoid-cutouts .ensures, ← c .before .before .before .aspect .ensures, ← c .before .before .place-game-in-aspect .ensures, ← c .before .rails-win .ensures, c .if2 .left)
+
+pub try-rails-spec : {M : Type 1} → statement M
+try-rails-spec =
+    tie.close
+    (tie.spec
+    analog-camera-rails-requires
+    returns
+    avoid-cutouts-requires
+    aspect-requires
+    place-game-in-aspect-requires
+    rails-win-requires
+    returns-2
+    returns-3)

@@ -1,0 +1,32 @@
+use Rattle.preset.specs.Preset.{sticksOf, viewportLayoutOf}
+use borrow.Author.Needs.{needs}
+use Rattle.preset.proofs.viewport_layout.Statement.{statement}
+use Rattle.preset.proofs.viewport_layout.Tie as tie
+use Rattle.preset.specs.PresetLabels.{Few, few, anchor-mode, layout-mode}
+
+layout-in-requires : tie.Need-layout-in-requires
+layout-in-requires c κs = search needs
+
+anchor-toolbar-requires : tie.Need-anchor-toolbar-requires
+anchor-toolbar-requires c κs = let p = c .before .args .p in let n : Few (c .layout-in .result) = rw (c .layout-in .ensures) (few (sticksOf p) (p .psp) _ (layout-mode p _ _ _ _)) in (c .before .pre .1, n .count, n .stickcount)
+
+anchor-toolbar-requires-2 : tie.Need-anchor-toolbar-requires-2
+anchor-toolbar-requires-2 c κs = let p = c .before .before .before .args .p in let n : Few (c .before .anchor-toolbar .result) = rw (c .before .anchor-toolbar .ensures, c .before .before .layout-in .ensures) (few (sticksOf p) (p .psp) _ (anchor-mode (sticksOf p) (p .psp) _ (layout-mode p _ _ _ _) _ _ _ _ _)) in (c .before .before .before .pre .1, n .count, n .stickcount)
+
+returns : tie.Need-returns
+unfolding viewportLayoutOf
+returns c = rw (← c .before .before .before .layout-in .ensures, ← c .before .before .anchor-toolbar .ensures, c .before .if1 .taken) (c .anchor-toolbar2 .ensures)
+
+returns-2 : tie.Need-returns-2
+unfolding viewportLayoutOf
+returns-2 c = rw (← c .before .before .layout-in .ensures, ← c .before .anchor-toolbar .ensures, c .if1 .left)
+
+pub viewport-layout-spec : {M : Type 1} → statement M
+viewport-layout-spec =
+    tie.close
+    (tie.spec
+    layout-in-requires
+    anchor-toolbar-requires
+    anchor-toolbar-requires-2
+    returns
+    returns-2)

@@ -1,0 +1,206 @@
+-- `Preset::layout_in`, `layout_with_cutouts` and `capture` of input.rs, and `PlayerViewport::layout`. Definitions only.
+use mathlib.Core.Bool.{Bool, true, false, cond, not, _&&_, _||_}
+use mathlib.Core.List.{List, [], _∷_, map, foldl}
+use mathlib.Core.Option.{Option, some, none}
+use lib.Dec.{eqb}
+use lib.Ieee.{Float, inf, lt, le, neg}
+use lib.ListN.{length, getD}
+use Rattle.float.specs.Float.{_⊕_, _⊖_, _⊗_, _⊘_, k0, k0·01, k1, k24}
+use Rattle.float.specs.MinMax.{minOf, maxOf, clampOf, absOf}
+use Rattle.geometry.specs.declared.Rect.{Rect}
+use Rattle.geometry.specs.Rect.{newOf}
+use Rattle.layout.specs.declared.Layout.{Layout}
+use Rattle.layout.specs.Layout.{anyRect, elementsOf, elementCountOf}
+use Rattle.layout.specs.Elements.{replaceFirst, setElementsOf}
+use Rattle.search.specs.declared.Offset.{Offset}
+use Rattle.search.specs.Search.{bottomOf, clearPictureAspectOf, placeGameInAspectOf}
+use Rattle.settings.specs.declared.Fit.{Fit}
+use Rattle.settings.specs.declared.Fit.the-variants.{Unset, Maximum, KeepClear}
+use Rattle.settings.specs.declared.Preset.{Preset}
+use Rattle.settings.specs.Settings.{savedList, untouchedOf, pictureFitOf}
+use Rattle.toolbar.specs.Toolbar.{anchorToolbarOf}
+use Rattle.arranged.specs.Arranged.{middle}
+use Rattle.band.specs.Band.{aspectOf, controllerBandOf}
+use Rattle.defaults.specs.Defaults.{defaultInOf, analogDefaultOf, pspOf}
+use Rattle.cutouts.specs.Cutouts.{avoidCutoutsOf}
+use Rattle.landscape.specs.Landscape.{fitLandscapeControlsOf}
+use Rattle.camera_rails.specs.CameraRails.{analogCameraRailsOf}
+use Rattle.picture.specs.Picture.{controlsOf}
+
+abbrev pub isEmpty : List Rect → Bool
+isEmpty rs = eqb (length rs) 0
+
+-- the arrangement that a preset starts from
+unfoldable pub startOf : Bool → Bool → Float → Float → List Rect → Rect → Layout
+startOf psp analog w h cutouts picture =
+    cond psp (pspOf w h) (cond analog (analogDefaultOf w h) (defaultInOf w h cutouts picture))
+
+-- ---- Maximum: one row of keys above the whole picture, and the controls about it
+
+-- what a picture that begins above the screen has there
+abbrev pub reusableTop : Rect → Float
+reusableTop picture = maxOf (neg (picture .y)) k0
+
+-- the part of the picture's area below the toolbar's keys, one point high at least
+unfoldable pub belowToolbarOf : Layout → Rect → Rect
+belowToolbarOf l picture =
+    let lowest = foldl maxOf (picture .y) (map bottomOf (l .playback ∷ l .speed ∷ l .mute ∷ l .pause ∷ [])) in
+    let bottom = minOf lowest (picture .y ⊕ maxOf (picture .h ⊖ k1) k0) in
+    newOf (picture .x) bottom (picture .w) (maxOf (picture .y ⊕ picture .h ⊖ bottom) k1)
+
+-- the largest picture in an area
+unfoldable pub largestOf : Rect → Float → Rect
+largestOf area aspect =
+    let fitted = clearPictureAspectOf (area .w) (area .h) [] aspect in
+    newOf (area .x ⊕ fitted .x) (area .y ⊕ fitted .y) (fitted .w) (fitted .h)
+
+-- a layout that was found, else the one from before
+abbrev pub foundOr : Layout → Option Layout → Layout
+foundOr layout none = layout
+foundOr layout (some candidate) = candidate
+
+-- The controls about the picture replace the layout with no comparison.
+unfoldable pub aroundOf : Layout → Float → Float → Rect → List Rect → Bool → Bool → Layout
+aroundOf layout w h picture cutouts analog psp =
+    foundOr layout (controlsOf w h (largestOf picture (aspectOf psp)) analog psp cutouts)
+
+-- ---- KeepClear: a band below the picture, or rails beside it
+
+abbrev pub stickWidth : Layout → Float
+stickWidth l = getD (l .sticks) 0 anyRect .w
+
+-- the rails have the wider picture by more than 0.01, or one as wide to 0.01 beside a wider stick
+unfoldable pub railsWinOf : Layout → Layout → Bool
+railsWinOf candidate layout =
+    lt (layout .game .w ⊕ k0·01) (candidate .game .w)
+    || (le (absOf (candidate .game .w ⊖ layout .game .w)) k0·01 && lt (stickWidth layout) (stickWidth candidate))
+
+-- the rails, or the layout as it was compared with them: clear of cutouts, its game placed
+abbrev pub comparedOf : Layout → Layout → Option Layout → Layout
+comparedOf layout clear none = layout
+comparedOf layout clear (some candidate) = cond (railsWinOf candidate clear) candidate clear
+
+unfoldable pub tryRailsOf : Layout → Float → Float → Rect → List Rect → Bool → Layout
+tryRailsOf layout w h picture cutouts psp =
+    let clear = placeGameInAspectOf (avoidCutoutsOf layout w h cutouts) picture false k1 middle (aspectOf psp) in
+    comparedOf layout clear (analogCameraRailsOf w h picture cutouts psp)
+
+-- The band, too, replaces the layout with no comparison.
+unfoldable pub besideOf : Layout → Float → Float → Rect → List Rect → Bool → Bool → Layout
+besideOf layout w h picture cutouts analog psp =
+    let banded = foundOr layout (controllerBandOf w h analog psp picture) in
+    cond analog (tryRailsOf banded w h picture cutouts psp) banded
+
+-- ---- saved rectangles, as parts of the screen
+
+-- Rust's `is_finite`
+unfoldable pub isFiniteOf : Float → Bool
+isFiniteOf x = lt (absOf x) (inf false)
+
+unfoldable pub usableOf : Rect → Bool
+usableOf r = isFiniteOf (r .x) && (isFiniteOf (r .y) && (isFiniteOf (r .w) && isFiniteOf (r .h)))
+
+-- 24 points wide and high at least, where the screen is, and all of it on the screen
+unfoldable pub onScreenOf : Float → Float → Rect → Rect
+onScreenOf w h r =
+    let width = clampOf (r .w ⊗ w) (minOf k24 w) w in
+    let height = clampOf (r .h ⊗ h) (minOf k24 h) h in
+    newOf (clampOf (r .x ⊗ w) k0 (w ⊖ width)) (clampOf (r .y ⊗ h) k0 (h ⊖ height)) width height
+
+-- what was saved for an element, else the element: a rectangle with a number that is not finite is passed over
+unfoldable pub restoreOf : Float → Float → Rect → Rect → Rect
+restoreOf w h saved element = cond (usableOf saved) (onScreenOf w h saved) element
+
+unfoldable pub restoredOf : Float → Float → List Rect → List Rect → List Rect
+restoredOf w h [] es = es
+restoredOf w h (r ∷ rs) [] = []
+restoredOf w h (r ∷ rs) (e ∷ es) = restoreOf w h r e ∷ restoredOf w h rs es
+
+unfoldable pub withSavedOf : Layout → Float → Float → List Rect → Layout
+withSavedOf l w h saved = cond (isEmpty saved) l (setElementsOf l (restoredOf w h saved (elementsOf l)))
+
+-- ---- `layout_in`, step by step; maximum: the fit is Maximum; free: nothing was saved and no overlap asked for, so that other arrangements may be tried
+
+-- the layout at first, with the toolbar in its row above a Maximum picture
+unfoldable pub firstOf : Bool → Bool → Bool → Float → Float → List Rect → Rect → Layout
+firstOf psp analog maximum w h cutouts picture =
+    let start = startOf psp analog w h cutouts picture in
+    cond maximum (anchorToolbarOf start w h (reusableTop picture) k0 cutouts) start
+
+-- the area that the game gets
+unfoldable pub areaOf : Bool → Layout → Rect → Rect
+areaOf maximum first picture = cond maximum (belowToolbarOf first picture) picture
+
+-- the arrangement for that area, or the layout as it was
+unfoldable pub arrangementOf : Bool → Bool → Layout → Float → Float → Rect → List Rect → Bool → Bool → Layout
+arrangementOf maximum free first w h area cutouts analog psp =
+    cond free (cond maximum (aroundOf first w h area cutouts analog psp) (besideOf first w h area cutouts analog psp)) first
+
+-- the elements where they stay: the saved ones at their places, all clear of cutouts, the toolbar anchored
+unfoldable pub settledOf : Layout → Float → Float → Rect → List Rect → List Rect → Layout
+settledOf arrangement w h picture cutouts saved =
+    let restored = withSavedOf arrangement w h saved in
+    anchorToolbarOf (avoidCutoutsOf restored w h cutouts) w h (reusableTop picture) k0 cutouts
+
+-- `picture_fit() == PictureFit::Maximum`, where a fit is never unset
+abbrev pub isMaximum : Fit → Bool
+isMaximum Unset = false
+isMaximum Maximum = true
+isMaximum KeepClear = false
+
+abbrev pub maximumOf : Preset → Bool
+maximumOf p = isMaximum (pictureFitOf p)
+
+abbrev pub freeOf : Preset → Bool
+freeOf p = isEmpty (savedList p) && not (p .overlap)
+
+-- a psp has a stick, whatever its other mark says
+abbrev pub sticksOf : Preset → Bool
+sticksOf p = p .analog || p .psp
+
+-- the keys beside the sticks may go into a row
+unfoldable pub rowAllowedOf : Preset → List Rect → Bool
+rowAllowedOf p cutouts = sticksOf p && (freeOf p && (not (maximumOf p) && (untouchedOf p && isEmpty cutouts)))
+
+-- on a screen of 1 by 1 at least
+unfoldable pub laidOutOf : Preset → Float → Float → List Rect → Rect → Layout
+laidOutOf p w h cutouts picture =
+    let maximum = maximumOf p in
+    let aspect = aspectOf (p .psp) in
+    let first = firstOf (p .psp) (p .analog) maximum w h cutouts picture in
+    let area = areaOf maximum first picture in
+    let arrangement = arrangementOf maximum (freeOf p) first w h area cutouts (sticksOf p) (p .psp) in
+    let settled = settledOf arrangement w h picture cutouts (savedList p) in
+    let placed = placeGameInAspectOf settled area (p .overlap || maximum) (p .scale) (p .offset) aspect in
+    cond (rowAllowedOf p cutouts) (fitLandscapeControlsOf placed w h area aspect) placed
+
+-- A screen may be 1 pixel wide for a moment; saved controls stay safe then.
+unfoldable pub layoutInOf : Preset → Float → Float → List Rect → Rect → Layout
+layoutInOf p w h cutouts picture = laidOutOf p (maxOf w k1) (maxOf h k1) cutouts picture
+
+abbrev pub layoutWithCutoutsOf : Preset → Float → Float → List Rect → Layout
+layoutWithCutoutsOf p w h cutouts = layoutInOf p w h cutouts (newOf k0 k0 (maxOf w k1) (maxOf h k1))
+
+-- `PlayerViewport::layout`: the toolbar is anchored on the screen as it was given, and moves below what covers it for a while; the game stays
+unfoldable pub viewportLayoutOf : Preset → Float → Float → Rect → Float → Float → List Rect → Layout
+viewportLayoutOf p w h picture reusable covered cutouts =
+    let anchored = anchorToolbarOf (layoutInOf p w h cutouts picture) w h reusable k0 cutouts in
+    cond (lt k0 covered) (anchorToolbarOf anchored w h reusable covered cutouts) anchored
+
+-- ---- `capture`: the elements of a layout, saved as parts of the screen
+unfoldable pub partOf : Float → Float → Rect → Rect
+partOf w h r = newOf (r .x ⊘ w) (r .y ⊘ h) (r .w ⊘ w) (r .h ⊘ h)
+
+unfoldable pub captureOf : Preset → Layout → Float → Float → Preset
+captureOf p l w h =
+    let n = elementCountOf l in
+    record {
+      psp = p .psp;
+      analog = p .analog;
+      overlap = p .overlap;
+      fit = p .fit;
+      scale = p .scale;
+      offset = p .offset;
+      elements = replaceFirst n (map (partOf w h) (elementsOf l)) (p .elements);
+      count = n;
+    }

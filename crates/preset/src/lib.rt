@@ -1,0 +1,428 @@
+// `Preset::layout_in`, `layout_with_cutouts` and `capture` of input.rs, and `PlayerViewport::layout`.
+ghost use mathlib.Core.Path.{_≡_};
+ghost use mathlib.Core.Bool.{true, _||_};
+ghost use mathlib.Core.List.{map};
+ghost use Prim.Native.Nat.{_≤_};
+ghost use lib.Dec.{T};
+ghost use lib.ListN.{take};
+ghost use Rattle.layout.specs.Elements.{replaceFirst};
+ghost use Rattle.layout.specs.Layout.{cutoutList, elementList};
+ghost use Rattle.settings.specs.Settings.{savedList};
+ghost use Rattle.preset.specs.Preset.{startOf, belowToolbarOf, largestOf, aroundOf, railsWinOf, tryRailsOf, besideOf, isFiniteOf, usableOf, onScreenOf, restoreOf, restoredOf, withSavedOf, firstOf, areaOf, arrangementOf, settledOf, isMaximum, maximumOf, freeOf, sticksOf, rowAllowedOf, laidOutOf, layoutInOf, layoutWithCutoutsOf, viewportLayoutOf, partOf, captureOf};
+ghost use Rattle.preset.specs.PresetLabels.{OfMode};
+use band::aspect;
+use band::controller_band;
+use camera_rails::analog_camera_rails;
+use cutouts::avoid_cutouts;
+use defaults::analog_default;
+use defaults::default_in;
+use defaults::psp;
+use float::abs;
+use float::clamp;
+use float::max;
+use float::min;
+use geometry::Rect;
+use landscape::fit_landscape_controls;
+use layout::Cutouts;
+use layout::Elements;
+use layout::Layout;
+use search::Offset;
+use search::clear_picture_aspect;
+use search::place_game_in_aspect;
+use settings::Fit;
+use settings::Preset;
+use toolbar::anchor_toolbar;
+
+fn start(psp: bool, analog: bool, w: f32, h: f32, cutouts: Cutouts, picture: Rect) -> Layout
+    requires { ⌜ cutouts .count ≤ 16 ⌝ }
+    ensures { λ r. ⌜ (r ≡ startOf psp analog w h (cutoutList cutouts) picture) × OfMode (analog || psp) psp r ⌝ }
+{
+    if psp {
+        return defaults::psp(w, h);
+    }
+    if analog {
+        return analog_default(w, h);
+    }
+    default_in(w, h, cutouts, picture)
+}
+
+// The part of the picture's area below the toolbar's keys, one point high at least.
+fn below_toolbar(l: Layout, picture: Rect) -> Rect
+    ensures { λ r. ⌜ r ≡ belowToolbarOf l picture ⌝ }
+{
+    let playback = l.playback;
+    let speed = l.speed;
+    let mute = l.mute;
+    let pause = l.pause;
+    let left = max(max(picture.y, playback.y + playback.h), speed.y + speed.h);
+    let lowest = max(max(left, mute.y + mute.h), pause.y + pause.h);
+    let bottom = min(lowest, picture.y + max(picture.h - 1.0, 0.0));
+    Rect {
+        x: picture.x,
+        y: bottom,
+        w: picture.w,
+        h: max(picture.y + picture.h - bottom, 1.0),
+    }
+}
+
+// The largest picture in an area.
+fn largest(area: Rect, aspect: f32) -> Rect
+    ensures { λ r. ⌜ r ≡ largestOf area aspect ⌝ }
+{
+    let none = Elements {
+        at: [Rect {
+            x: 0.0,
+            y: 0.0,
+            w: 0.0,
+            h: 0.0,
+        }; 19],
+        count: 0,
+    };
+    let fitted = clear_picture_aspect(area.w, area.h, none, aspect);
+    Rect {
+        x: area.x + fitted.x,
+        y: area.y + fitted.y,
+        w: fitted.w,
+        h: fitted.h,
+    }
+}
+
+fn around(
+    layout: Layout,
+    w: f32,
+    h: f32,
+    picture: Rect,
+    cutouts: Cutouts,
+    analog: bool,
+    psp: bool,
+) -> Layout
+    requires { ⌜ cutouts .count ≤ 16 ⌝ }
+    ensures { λ r. ⌜ r ≡ aroundOf layout w h picture (cutoutList cutouts) analog psp ⌝ }
+{
+    let game = largest(picture, aspect(psp));
+    let candidate = picture::controls(w, h, game, analog, psp, cutouts);
+    if candidate.some {
+        return candidate.layout;
+    }
+    layout
+}
+
+// Wider by more than 0.01, or as wide to 0.01 beside a wider stick.
+fn rails_win(candidate: Layout, layout: Layout) -> bool
+    ensures { λ r. ⌜ r ≡ railsWinOf candidate layout ⌝ }
+{
+    let a = candidate.game;
+    let b = layout.game;
+    let stick = candidate.sticks[0];
+    let other = layout.sticks[0];
+    let apart = abs(a.w - b.w);
+    (a.w > b.w + 0.01) | ((apart <= 0.01) & (stick.w > other.w))
+}
+
+// The rails, or the layout as it was compared with them.
+fn try_rails(layout: Layout, w: f32, h: f32, picture: Rect, cutouts: Cutouts, psp: bool) -> Layout
+    requires { ⌜ (cutouts .count ≤ 16) × OfMode true psp layout ⌝ }
+    ensures { λ r. ⌜ r ≡ tryRailsOf layout w h picture (cutoutList cutouts) psp ⌝ }
+{
+    let candidate = analog_camera_rails(w, h, picture, cutouts, psp);
+    if !candidate.some {
+        return layout;
+    }
+    let rails = candidate.layout;
+    let clear = place_game_in_aspect(
+        avoid_cutouts(layout, w, h, cutouts),
+        picture,
+        false,
+        1.0,
+        Offset { x: 0.5, y: 0.5 },
+        aspect(psp),
+    );
+    if rails_win(rails, clear) {
+        return rails;
+    }
+    clear
+}
+
+fn beside(
+    layout: Layout,
+    w: f32,
+    h: f32,
+    picture: Rect,
+    cutouts: Cutouts,
+    analog: bool,
+    psp: bool,
+) -> Layout
+    requires { ⌜ (cutouts .count ≤ 16) × OfMode analog psp layout ⌝ }
+    ensures { λ r. ⌜ r ≡ besideOf layout w h picture (cutoutList cutouts) analog psp ⌝ }
+{
+    let candidate = controller_band(w, h, analog, psp, picture);
+    let banded = if candidate.some {
+        candidate.layout
+    } else {
+        layout
+    };
+    if analog {
+        return try_rails(banded, w, h, picture, cutouts, psp);
+    }
+    banded
+}
+
+fn is_finite(x: f32) -> bool
+    ensures { λ r. ⌜ r ≡ isFiniteOf x ⌝ }
+{
+    abs(x) < f32::from_bits(0x7f80_0000)
+}
+
+fn usable(r: Rect) -> bool
+    ensures { λ b. ⌜ b ≡ usableOf r ⌝ }
+{
+    is_finite(r.x) & (is_finite(r.y) & (is_finite(r.w) & is_finite(r.h)))
+}
+
+// 24 points wide and high at least, where the screen is, and all of it on the screen.
+fn on_screen(w: f32, h: f32, r: Rect) -> Rect
+    ensures { λ s. ⌜ s ≡ onScreenOf w h r ⌝ }
+{
+    let width = clamp(r.w * w, min(24.0, w), w);
+    let height = clamp(r.h * h, min(24.0, h), h);
+    Rect {
+        x: clamp(r.x * w, 0.0, w - width),
+        y: clamp(r.y * h, 0.0, h - height),
+        w: width,
+        h: height,
+    }
+}
+
+// What was saved for an element, else the element.
+fn restore(w: f32, h: f32, saved: Rect, element: Rect) -> Rect
+    ensures { λ r. ⌜ r ≡ restoreOf w h saved element ⌝ }
+{
+    if usable(saved) {
+        return on_screen(w, h, saved);
+    }
+    element
+}
+
+fn restored(w: f32, h: f32, saved: [Rect; 32], n: usize, elements: Elements) -> Elements
+    requires { ⌜ (n ≤ 32) × (elements .count ≤ 19) ⌝ }
+    ensures { λ r. ⌜ (elementList r ≡ restoredOf w h (take n saved) (elementList elements)) × (r .count ≡ elements .count) ⌝ }
+{
+    let count = elements.count;
+    let mut at = elements.at;
+    for i in 0..count {
+        if i < n {
+            at[i] = restore(w, h, saved[i], at[i]);
+        }
+    }
+    Elements { at, count }
+}
+
+fn with_saved(l: Layout, w: f32, h: f32, saved: [Rect; 32], n: usize) -> Layout
+    requires { ⌜ (n ≤ 32) × ((l .count ≤ 12) × (l .stickcount ≤ 2)) ⌝ }
+    ensures { λ r. ⌜ r ≡ withSavedOf l w h (take n saved) ⌝ }
+{
+    if n == 0 {
+        return l;
+    }
+    l.set_elements(restored(w, h, saved, n, l.elements()))
+}
+
+fn first(
+    psp: bool,
+    analog: bool,
+    maximum: bool,
+    w: f32,
+    h: f32,
+    cutouts: Cutouts,
+    picture: Rect,
+) -> Layout
+    requires { ⌜ cutouts .count ≤ 16 ⌝ }
+    ensures { λ r. ⌜ (r ≡ firstOf psp analog maximum w h (cutoutList cutouts) picture) × OfMode (analog || psp) psp r ⌝ }
+{
+    let layout = start(psp, analog, w, h, cutouts, picture);
+    if maximum {
+        return anchor_toolbar(layout, w, h, max(-picture.y, 0.0), 0.0, cutouts);
+    }
+    layout
+}
+
+fn area(maximum: bool, first: Layout, picture: Rect) -> Rect
+    ensures { λ r. ⌜ r ≡ areaOf maximum first picture ⌝ }
+{
+    if maximum {
+        return below_toolbar(first, picture);
+    }
+    picture
+}
+
+fn arrangement(
+    maximum: bool,
+    free: bool,
+    first: Layout,
+    w: f32,
+    h: f32,
+    area: Rect,
+    cutouts: Cutouts,
+    analog: bool,
+    psp: bool,
+) -> Layout
+    requires { ⌜ (cutouts .count ≤ 16) × ((T psp → T analog) × OfMode analog psp first) ⌝ }
+    ensures { λ r. ⌜ (r ≡ arrangementOf maximum free first w h area (cutoutList cutouts) analog psp) × OfMode analog psp r ⌝ }
+{
+    if !free {
+        return first;
+    }
+    if maximum {
+        return around(first, w, h, area, cutouts, analog, psp);
+    }
+    beside(first, w, h, area, cutouts, analog, psp)
+}
+
+// The elements where they stay: the saved ones at their places, all clear of cutouts, the toolbar anchored.
+fn settled(
+    arrangement: Layout,
+    w: f32,
+    h: f32,
+    picture: Rect,
+    cutouts: Cutouts,
+    saved: [Rect; 32],
+    n: usize,
+    analog: bool,
+    psp: bool,
+) -> Layout
+    requires { ⌜ (cutouts .count ≤ 16) × ((n ≤ 32) × OfMode analog psp arrangement) ⌝ }
+    ensures { λ r. ⌜ (r ≡ settledOf arrangement w h picture (cutoutList cutouts) (take n saved)) × OfMode analog psp r ⌝ }
+{
+    let layout = with_saved(arrangement, w, h, saved, n);
+    let clear = avoid_cutouts(layout, w, h, cutouts);
+    anchor_toolbar(clear, w, h, max(-picture.y, 0.0), 0.0, cutouts)
+}
+
+fn is_maximum(fit: Fit) -> bool
+    ensures { λ r. ⌜ r ≡ isMaximum fit ⌝ }
+{
+    match fit {
+        Fit::Unset => false,
+        Fit::Maximum => true,
+        Fit::KeepClear => false,
+    }
+}
+
+// Nothing was saved, and no overlap asked for.
+fn free(p: Preset) -> bool
+    requires { ⌜ p .count ≤ 32 ⌝ }
+    ensures { λ r. ⌜ r ≡ freeOf p ⌝ }
+{
+    (p.count == 0) & !p.overlap
+}
+
+// The keys beside the sticks may go into a row.
+fn row_allowed(p: Preset, cutouts: Cutouts) -> bool
+    requires { ⌜ (p .count ≤ 32) × (cutouts .count ≤ 16) ⌝ }
+    ensures { λ r. ⌜ r ≡ rowAllowedOf p (cutoutList cutouts) ⌝ }
+{
+    let free = free(p);
+    let kept = !is_maximum(p.picture_fit());
+    (p.analog | p.psp) & (free & (kept & (p.untouched() & (cutouts.count == 0))))
+}
+
+// On a screen of 1 by 1 at least.
+fn laid_out(p: Preset, w: f32, h: f32, cutouts: Cutouts, picture: Rect) -> Layout
+    requires { ⌜ (p .count ≤ 32) × (cutouts .count ≤ 16) ⌝ }
+    ensures { λ r. ⌜ r ≡ laidOutOf p w h (cutoutList cutouts) picture ⌝ }
+{
+    let psp = p.psp;
+    let sticks = p.analog | psp;
+    let maximum = is_maximum(p.picture_fit());
+    let free = free(p);
+    let start = first(psp, p.analog, maximum, w, h, cutouts, picture);
+    let bounds = area(maximum, start, picture);
+    let layout = arrangement(maximum, free, start, w, h, bounds, cutouts, sticks, psp);
+    let saved = p.elements;
+    let elements = settled(layout, w, h, picture, cutouts, saved, p.count, sticks, psp);
+    let shape = aspect(psp);
+    let overlap = p.overlap | maximum;
+    let placed = place_game_in_aspect(elements, bounds, overlap, p.scale, p.offset, shape);
+    if row_allowed(p, cutouts) {
+        return fit_landscape_controls(placed, w, h, bounds, shape);
+    }
+    placed
+}
+
+pub fn layout_in(p: Preset, w: f32, h: f32, cutouts: Cutouts, picture: Rect) -> Layout
+    requires { ⌜ (p .count ≤ 32) × (cutouts .count ≤ 16) ⌝ }
+    ensures { λ r. ⌜ r ≡ layoutInOf p w h (cutoutList cutouts) picture ⌝ }
+{
+    laid_out(p, max(w, 1.0), max(h, 1.0), cutouts, picture)
+}
+
+pub fn layout_with_cutouts(p: Preset, w: f32, h: f32, cutouts: Cutouts) -> Layout
+    requires { ⌜ (p .count ≤ 32) × (cutouts .count ≤ 16) ⌝ }
+    ensures { λ r. ⌜ r ≡ layoutWithCutoutsOf p w h (cutoutList cutouts) ⌝ }
+{
+    let picture = Rect {
+        x: 0.0,
+        y: 0.0,
+        w: max(w, 1.0),
+        h: max(h, 1.0),
+    };
+    layout_in(p, w, h, cutouts, picture)
+}
+
+// `PlayerViewport::layout`.
+pub fn viewport_layout(
+    p: Preset,
+    w: f32,
+    h: f32,
+    picture: Rect,
+    reusable_top: f32,
+    covered_top: f32,
+    cutouts: Cutouts,
+) -> Layout
+    requires { ⌜ (p .count ≤ 32) × (cutouts .count ≤ 16) ⌝ }
+    ensures { λ r. ⌜ r ≡ viewportLayoutOf p w h picture «reusable_top» «covered_top» (cutoutList cutouts) ⌝ }
+{
+    let layout = layout_in(p, w, h, cutouts, picture);
+    let anchored = anchor_toolbar(layout, w, h, reusable_top, 0.0, cutouts);
+    if covered_top > 0.0 {
+        return anchor_toolbar(anchored, w, h, reusable_top, covered_top, cutouts);
+    }
+    anchored
+}
+
+fn part(w: f32, h: f32, r: Rect) -> Rect
+    ensures { λ s. ⌜ s ≡ partOf w h r ⌝ }
+{
+    Rect {
+        x: r.x / w,
+        y: r.y / h,
+        w: r.w / w,
+        h: r.h / h,
+    }
+}
+
+fn captured(w: f32, h: f32, elements: Elements, saved: [Rect; 32]) -> [Rect; 32]
+    requires { ⌜ elements .count ≤ 19 ⌝ }
+    ensures { λ r. ⌜ r ≡ replaceFirst (elements .count) (map (partOf w h) (elementList elements)) saved ⌝ }
+{
+    let at = elements.at;
+    let n = elements.count;
+    let mut out = saved;
+    for i in 0..n {
+        out[i] = part(w, h, at[i]);
+    }
+    out
+}
+
+pub fn capture(p: Preset, l: Layout, w: f32, h: f32) -> Preset
+    requires { ⌜ (l .count ≤ 12) × (l .stickcount ≤ 2) ⌝ }
+    ensures { λ r. ⌜ r ≡ captureOf p l w h ⌝ }
+{
+    let elements = l.elements();
+    let old = p.elements;
+    let saved = captured(w, h, elements, old);
+    let mut out = p;
+    out.elements = saved;
+    out.count = elements.count;
+    out
+}
