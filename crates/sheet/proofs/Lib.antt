@@ -1,0 +1,4 @@
+mod Patterns
+mod Puts
+mod Numbers
+mod Lines

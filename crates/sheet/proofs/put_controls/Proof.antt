@@ -1,0 +1,96 @@
+use mathlib.Core.Path.{sym, _∙_, refl, _≡_}
+use lib.Seq.{length-take-le}
+use Rattle.layout.specs.Layout.{anyControl}
+use Rattle.numerics.specs.Rects.{Element}
+use Rattle.sheet.specs.SheetLaws.{element-printable}
+use Rattle.sheet.proofs.Puts.{none, same}
+use Rattle.sheet.proofs.Lines.{each-at, control-next, control-room}
+use Rattle.layout.proofs.Loops.{sized}
+use Rattle.layout.specs.Lists.{flatMap}
+use lib.ListN.{length, take}
+use mathlib.Core.List.{map}
+use Rattle.sheet.specs.Sheet.{Put, linesText, controlLine}
+use borrow.Author.Needs.{needs}
+use native.Mathlib.Omega.{arith}
+use Prim.Native.Nat.{_-_, _≤_}
+use Rattle.sheet.proofs.put_controls.Statement.{statement}
+use Rattle.sheet.proofs.put_controls.Tie as tie
+
+abbrev Inv-loop : tie.InvT-loop
+Inv-loop out₀ at n controls next₀ i₀ out next i = (i ≤ n) × (length out ≡ length out₀) × Put out₀ at (linesText (map controlLine (take i controls))) out next
+
+abbrev μ-loop : tie.MeasureT-loop
+μ-loop out₀ at n controls next₀ i₀ out next i = n - i
+
+loop-holds : tie.Need-loop-holds Inv-loop μ-loop
+unfolding flatMap
+loop-holds c = (omega arith, refl, none _ _)
+
+mul-c : tie.Need-mul-c Inv-loop μ-loop
+mul-c c = omega arith
+
+array-copy-out-c : tie.Need-array-copy-out-c Inv-loop μ-loop
+array-copy-out-c c = omega arith
+
+name-requires : tie.Need-name-requires Inv-loop μ-loop
+name-requires c κs = search needs
+
+array-share-prefix-bytes : tie.Need-array-share-prefix-bytes Inv-loop μ-loop
+array-share-prefix-bytes c = let k : length (c .before .before .name .result .bytes) ≡ 6 = search sized in omega arith
+
+slice-aggregate-put-line : tie.Need-slice-aggregate-put-line Inv-loop μ-loop
+slice-aggregate-put-line c =
+    let n = c .before .before .before .name .result in
+    let k : length (n .bytes) ≡ 6 = search sized in
+    let h : n .length ≤ length (n .bytes) = omega arith in
+    sym (length-take-le (n .length) (n .bytes) h)
+
+put-line-requires : tie.Need-put-line-requires Inv-loop μ-loop
+put-line-requires c κs =
+    let s = c .before .before .before .before .before .before .before .before in
+    let l = c .before .before .before .before .before .before .loop in
+    let k : length (s .args .t3) ≡ 12 = search sized in
+    let r = control-room (s .args .t3) (l .i) (s .args .n) (c .before .before .before .before .before .loop-test .taken) (omega arith) in
+    (element-printable (each-at (λ c. Element (c .bounds)) (s .args .t3) (l .i) anyControl (omega arith) (s .pre .1)), rw (c .before .before .before .name .ensures .0) (omega arith))
+
+add-i : tie.Need-add-i Inv-loop μ-loop
+add-i c = omega arith
+
+loop-less : tie.Need-loop-less Inv-loop μ-loop
+loop-less c = omega arith
+
+loop-again : tie.Need-loop-again Inv-loop μ-loop
+loop-again c =
+    let s = c .before .before .before .before .before .before .before .before .before .before .before in
+    let l = c .before .before .before .before .before .before .before .before .before .loop in
+    let k : length (s .args .t3) ≡ 12 = search sized in
+    let put = c .before .before .put-line .ensures in
+    (omega arith, same put ∙ l .inv .1, control-next (s .args .t3) (l .i) (omega arith) (l .inv .2) (rw (c .before .before .before .before .before .before .name .ensures .0) at put))
+
+same-length : tie.Need-same-length Inv-loop μ-loop
+same-length c = search needs
+
+returns : tie.Need-returns Inv-loop μ-loop
+returns c =
+    let l = c .before .loop in
+    let e : c .before .before .before .args .n ≡ l .i = omega arith in
+    rw e (l .inv .2)
+
+pub put-controls-spec : {M : Type 1} → statement M
+put-controls-spec =
+    tie.close
+    (tie.spec
+    Inv-loop
+    μ-loop
+    loop-holds
+    mul-c
+    array-copy-out-c
+    name-requires
+    array-share-prefix-bytes
+    slice-aggregate-put-line
+    put-line-requires
+    add-i
+    loop-less
+    loop-again
+    same-length
+    returns)

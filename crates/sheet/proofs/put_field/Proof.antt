@@ -1,0 +1,43 @@
+use Rattle.sheet.proofs.Numbers.{kept-tenths}
+use lib.ListN.{length-set}
+use Rattle.sheet.specs.Sheet.{fieldText}
+use Rattle.sheet.specs.SheetLaws.{tenths-most}
+use Rattle.sheet.proofs.Puts.{one, after, same}
+use native.Mathlib.Omega.{arith}
+use borrow.Author.Needs.{needs}
+use Rattle.sheet.proofs.put_field.Statement.{statement}
+use Rattle.sheet.proofs.put_field.Tie as tie
+
+slice-write-out : tie.Need-slice-write-out
+unfolding fieldText
+slice-write-out c = omega arith
+
+add-put-number : tie.Need-add-put-number
+add-put-number c = search needs
+
+tenths-requires : tie.Need-tenths-requires
+tenths-requires c κs = search needs
+
+put-number-requires : tie.Need-put-number-requires
+unfolding fieldText
+put-number-requires c κs =
+    let a = c .before .before .before .pre .0 in
+    rw (kept-tenths a (c .tenths .ensures)) (tenths-most _ a, simp length-set (omega arith))
+
+returns : tie.Need-returns
+unfolding fieldText
+returns c = after (one _ _ 32) (rw (kept-tenths (c .before .before .before .before .before .before .pre .0) (c .before .before .before .tenths .ensures)) at (c .before .before .put-number .ensures))
+
+same-length : tie.Need-same-length
+same-length c = same (returns c)
+
+pub put-field-spec : {M : Type 1} → statement M
+put-field-spec =
+    tie.close
+    (tie.spec
+    slice-write-out
+    add-put-number
+    tenths-requires
+    put-number-requires
+    same-length
+    returns)

@@ -1,0 +1,31 @@
+use denote.Ref.{now}
+use Rattle.sheet.specs.Sheet.{headText}
+use Rattle.sheet.specs.SheetLaws.{length-head}
+use Rattle.sheet.proofs.Puts.{one, after, same}
+use native.Mathlib.Omega.{arith}
+use Rattle.sheet.proofs.put_head.Statement.{statement}
+use Rattle.sheet.proofs.put_head.Tie as tie
+
+put-text-requires : tie.Need-put-text-requires
+put-text-requires c κs = omega (arith, length-head (now (c .before .before .before .args .word)) (c .before .before .before .args .n))
+
+put-digits-requires : tie.Need-put-digits-requires
+put-digits-requires c κs = omega (arith, length-head (now (c .before .before .before .before .before .before .before .args .word)) (c .before .before .before .before .before .before .before .args .n))
+
+slice-write-out : tie.Need-slice-write-out
+slice-write-out c = omega (arith, length-head (now (c .before .before .before .before .before .before .before .before .before .before .args .word)) (c .before .before .before .before .before .before .before .before .before .before .args .n))
+
+add-result : tie.Need-add-result
+add-result c = omega (arith, length-head (now (c .before .before .before .before .before .before .before .before .before .before .args .word)) (c .before .before .before .before .before .before .before .before .before .before .args .n))
+
+returns : tie.Need-returns
+unfolding headText
+returns c = after (c .before .before .before .before .before .before .put-text .ensures) (after (c .before .before .put-digits .ensures) (one _ _ 10))
+
+same-length : tie.Need-same-length
+same-length c = same (returns c)
+
+pub put-head-spec : {M : Type 1} → statement M
+put-head-spec =
+    tie.close
+    (tie.spec put-text-requires put-digits-requires slice-write-out add-result same-length returns)

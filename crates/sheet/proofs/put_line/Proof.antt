@@ -1,0 +1,49 @@
+use denote.Ref.{now}
+use Rattle.sheet.specs.Sheet.{lineText, lineOf}
+use Rattle.sheet.specs.SheetLaws.{length-parts}
+use Rattle.sheet.proofs.Puts.{one, after, same}
+use native.Mathlib.Omega.{arith}
+use Rattle.sheet.proofs.put_line.Statement.{statement}
+use Rattle.sheet.proofs.put_line.Tie as tie
+
+put-text-requires : tie.Need-put-text-requires
+put-text-requires c κs = omega (arith, length-parts (now (c .before .before .before .args .name)) (c .before .before .before .args .r))
+
+put-field-requires : tie.Need-put-field-requires
+put-field-requires c κs = (c .before .before .before .before .before .before .before .pre .0 .x, omega (arith, length-parts (now (c .before .before .before .before .before .before .before .args .name)) (c .before .before .before .before .before .before .before .args .r)))
+
+put-field-requires-2 : tie.Need-put-field-requires-2
+put-field-requires-2 c κs = (c .before .before .before .before .before .before .before .before .before .before .before .pre .0 .y, omega (arith, length-parts (now (c .before .before .before .before .before .before .before .before .before .before .before .args .name)) (c .before .before .before .before .before .before .before .before .before .before .before .args .r)))
+
+put-field-requires-3 : tie.Need-put-field-requires-3
+put-field-requires-3 c κs = (c .before .before .before .before .before .before .before .before .before .before .before .before .before .before .before .pre .0 .w, omega (arith, length-parts (now (c .before .before .before .before .before .before .before .before .before .before .before .before .before .before .before .args .name)) (c .before .before .before .before .before .before .before .before .before .before .before .before .before .before .before .args .r)))
+
+put-field-requires-4 : tie.Need-put-field-requires-4
+put-field-requires-4 c κs = (c .before .before .before .before .before .before .before .before .before .before .before .before .before .before .before .before .before .before .before .pre .0 .h, omega (arith, length-parts (now (c .before .before .before .before .before .before .before .before .before .before .before .before .before .before .before .before .before .before .before .args .name)) (c .before .before .before .before .before .before .before .before .before .before .before .before .before .before .before .before .before .before .before .args .r)))
+
+slice-write-out : tie.Need-slice-write-out
+slice-write-out c = omega (arith, length-parts (now (c .before .before .before .before .before .before .before .before .before .before .before .before .before .before .before .before .before .before .before .before .before .before .args .name)) (c .before .before .before .before .before .before .before .before .before .before .before .before .before .before .before .before .before .before .before .before .before .before .args .r))
+
+add-result : tie.Need-add-result
+add-result c = omega (arith, length-parts (now (c .before .before .before .before .before .before .before .before .before .before .before .before .before .before .before .before .before .before .before .before .before .before .args .name)) (c .before .before .before .before .before .before .before .before .before .before .before .before .before .before .before .before .before .before .before .before .before .before .args .r))
+
+returns : tie.Need-returns
+unfolding lineText lineOf
+returns c = after (c .before .before .before .before .before .before .before .before .before .before .before .before .before .before .before .before .before .before .put-text .ensures) (after (c .before .before .before .before .before .before .before .before .before .before .before .before .before .before .put-field .ensures) (after (c .before .before .before .before .before .before .before .before .before .before .put-field2 .ensures) (after (c .before .before .before .before .before .before .put-field3 .ensures) (after (c .before .before .put-field4 .ensures) (one _ _ 10)))))
+
+same-length : tie.Need-same-length
+same-length c = same (returns c)
+
+pub put-line-spec : {M : Type 1} → statement M
+put-line-spec =
+    tie.close
+    (tie.spec
+    put-text-requires
+    put-field-requires
+    put-field-requires-2
+    put-field-requires-3
+    put-field-requires-4
+    slice-write-out
+    add-result
+    same-length
+    returns)

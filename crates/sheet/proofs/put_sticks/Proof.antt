@@ -1,0 +1,71 @@
+use native.Mathlib.Omega.{arith}
+use mathlib.Core.Path.{_≡_, ap}
+use lib.ListN.{length, length-append}
+use Rattle.layout.proofs.Loops.{sized}
+use Rattle.layout.specs.Layout.{anyRect}
+use Rattle.numerics.specs.Rects.{Element}
+use Rattle.sheet.specs.SheetLaws.{element-printable}
+use Rattle.sheet.proofs.Puts.{none, after}
+use Rattle.sheet.proofs.Lines.{each-at, no-stick, one-stick, two-sticks, first-room}
+use borrow.Author.Needs.{needs}
+use Rattle.sheet.proofs.put_sticks.Statement.{statement}
+use Rattle.sheet.proofs.put_sticks.Tie as tie
+
+returns : tie.Need-returns
+returns c = rw (no-stick _ _ (c .if1 .taken)) (none _ _)
+
+slice-aggregate-put-line : tie.Need-slice-aggregate-put-line
+slice-aggregate-put-line c = search needs
+
+array-copy-out-put-line : tie.Need-array-copy-out-put-line
+array-copy-out-put-line c = search needs
+
+put-line-requires : tie.Need-put-line-requires
+put-line-requires c κs =
+    let s = c .before .before .before .before .before in
+    let k : length (s .args .t3) ≡ 2 = search sized in
+    (element-printable (each-at Element (s .args .t3) 0 anyRect (omega arith) (s .pre .1)), omega (arith, first-room (s .args .t3) (s .args .n) k (c .before .before .before .if1 .left)))
+
+same-length : tie.Need-same-length
+same-length c = search needs
+
+returns-2 : tie.Need-returns-2
+returns-2 c =
+    let s = c .before .before .before .before .before .before .before .before .before in
+    rw (one-stick (s .args .t3) (s .args .n) (search sized) (c .before .before .before .before .before .before .before .if1 .left) (c .if2 .taken)) (c .before .before .before .put-line .ensures)
+
+slice-aggregate-put-line-2 : tie.Need-slice-aggregate-put-line-2
+slice-aggregate-put-line-2 c = search needs
+
+array-copy-out-put-line-2 : tie.Need-array-copy-out-put-line-2
+array-copy-out-put-line-2 c = search needs
+
+put-line-requires-2 : tie.Need-put-line-requires-2
+put-line-requires-2 c κs =
+    let s = c .before .before .before .before .before .before .before .before .before .before .before .before in
+    let k : length (s .args .t3) ≡ 2 = search sized in
+    (element-printable (each-at Element (s .args .t3) 1 anyRect (omega arith) (s .pre .1)), omega (arith, simp length-append at (ap length (two-sticks (s .args .t3) (s .args .n) k (c .before .before .before .if2 .left) (s .pre .0)))))
+
+same-length-2 : tie.Need-same-length-2
+same-length-2 c = search needs
+
+returns-3 : tie.Need-returns-3
+returns-3 c =
+    let s = c .before .before .before .before .before .before .before .before .before .before .before .before .before .before .before in
+    rw (two-sticks (s .args .t3) (s .args .n) (search sized) (c .before .before .before .before .before .before .if2 .left) (s .pre .0)) (after (c .before .before .before .before .before .before .before .before .before .put-line .ensures) (c .before .before .put-line2 .ensures))
+
+pub put-sticks-spec : {M : Type 1} → statement M
+put-sticks-spec =
+    tie.close
+    (tie.spec
+    returns
+    slice-aggregate-put-line
+    array-copy-out-put-line
+    put-line-requires
+    same-length
+    returns-2
+    slice-aggregate-put-line-2
+    array-copy-out-put-line-2
+    put-line-requires-2
+    same-length-2
+    returns-3)
