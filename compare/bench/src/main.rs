@@ -14,13 +14,8 @@ use player::{
 use race::{race, timed};
 use std::{hint::black_box, time::Duration};
 
-/// How often each input is used in a row: enough that lending ours its numbers
-/// takes little time.
+/// How often each input is used in a row.
 const TIMES: usize = 16;
-const RUNS: Runs = Runs {
-    times: TIMES,
-    step: 0.,
-};
 const INPUTS: usize = 64;
 
 fn main() {
@@ -64,14 +59,14 @@ const BENCHES: &[(&str, Bench)] = &[
     ("avoid_cutouts 16 cutouts", |n, r| avoid(n, r, 16)),
 ];
 
-/// Times a function of the Rust on each of `natives`, and ours, which itself
-/// runs as often, on each of `lent`.
+/// Times a function of the Rust on each of `natives`, and ours on each of
+/// `lent`.
 fn duel<N, T, L, U>(
     name: &str,
     mut natives: Vec<N>,
     theirs: impl Fn(&mut N) -> T,
     lent: Vec<L>,
-    ours: impl Fn(&L) -> U,
+    ours: impl Fn(&L, Runs) -> U,
 ) {
     let theirs = || {
         timed(|| {
@@ -85,24 +80,36 @@ fn duel<N, T, L, U>(
     duel_passes(name, theirs, lent, ours);
 }
 
+/// Ours three times: all runs inside one call, where the compiler may move work
+/// out of their loop; one run a call; and no run, which is the lending alone.
+/// The second less the third is a call that is not flattered.
 fn duel_passes<L, U>(
     name: &str,
     theirs: impl FnMut() -> Duration,
     lent: Vec<L>,
-    ours: impl Fn(&L) -> U,
+    ours: impl Fn(&L, Runs) -> U,
 ) {
-    let ours = || {
-        timed(|| {
-            for lent in &lent {
-                black_box(ours(black_box(lent)));
-            }
-        })
+    let (lent, ours) = (&lent, &ours);
+    let pass = |calls: usize, times: usize| {
+        move || {
+            timed(|| {
+                for lent in lent {
+                    for _ in 0..calls {
+                        black_box(ours(black_box(lent), Runs { times, step: 0. }));
+                    }
+                }
+            })
+        }
     };
     let passes = &mut [
         ("Rust", Box::new(theirs) as _),
-        ("ours", Box::new(ours) as _),
+        ("ours", Box::new(pass(1, TIMES)) as _),
+        ("once", Box::new(pass(TIMES, 1)) as _),
+        ("lending", Box::new(pass(TIMES, 0)) as _),
     ];
-    race(name, lent.len() * TIMES, passes);
+    let times = race(name, lent.len() * TIMES, passes);
+    let net = times[2] - times[3];
+    println!("{name:<36} {:<8} {net:>9.1} ns  ratio {:.2}", "net", net / times[0]);
 }
 
 fn inputs<I>(r: &mut Random, input: impl FnMut(&mut Random) -> I) -> Vec<I> {
@@ -183,7 +190,7 @@ fn clear(name: &str, r: &mut Random, count: usize, side: bool) {
         inputs,
         |([w, h], rects)| access::clear_picture_aspect(*w, *h, rects, ASPECT),
         lent,
-        |([w, h], rects)| probe::clear_picture_aspect(*w, *h, rects, ASPECT, RUNS),
+        |([w, h], rects), runs| probe::clear_picture_aspect(*w, *h, rects, ASPECT, runs),
     );
 }
 
@@ -201,8 +208,8 @@ fn anchor(name: &str, r: &mut Random, count: usize, covered: f32) {
         natives.collect(),
         |([w, h], layout, cutouts)| layout.anchor_toolbar(*w, *h, 0., covered, cutouts),
         lent.collect(),
-        |([w, h], layout, cutouts)| {
-            probe::anchor_toolbar(layout, *w, *h, [0., covered], cutouts, RUNS)
+        |([w, h], layout, cutouts), runs| {
+            probe::anchor_toolbar(layout, *w, *h, [0., covered], cutouts, runs)
         },
     );
 }
@@ -227,7 +234,7 @@ fn mask(name: &str, r: &mut Random, element: fn(&mut Random, &LayoutData) -> Rec
         natives.collect(),
         |(layout, [x, y])| native::mask_near(layout, *x, *y, 0),
         lent.collect(),
-        |(layout, [x, y])| probe::mask_near(layout, *x, *y, 0, RUNS),
+        |(layout, [x, y]), runs| probe::mask_near(layout, *x, *y, 0, runs),
     );
 }
 
@@ -238,7 +245,7 @@ fn arranged(name: &str, r: &mut Random, compact: bool) {
         screens.clone(),
         |[w, h]| native::arranged(*w, *h, compact),
         screens,
-        |[w, h]| probe::arranged(*w, *h, compact, RUNS),
+        |[w, h], runs| probe::arranged(*w, *h, compact, runs),
     );
 }
 
@@ -254,7 +261,7 @@ fn side_rails(name: &str, r: &mut Random, count: usize) {
         inputs,
         |([w, h], cutouts)| native::side_rails(*w, *h, *h, cutouts),
         lent,
-        |([w, h], cutouts)| probe::side_rails(*w, *h, *h, cutouts, RUNS),
+        |([w, h], cutouts), runs| probe::side_rails(*w, *h, *h, cutouts, runs),
     );
 }
 
@@ -271,7 +278,7 @@ fn controller_band(name: &str, r: &mut Random) {
         inputs,
         |(w, h, kind, picture)| native::controller_band(*w, *h, *kind > 0, *kind > 1, *picture),
         lent,
-        |(w, h, kind, picture)| probe::controller_band(*w, *h, *kind, picture, RUNS),
+        |(w, h, kind, picture), runs| probe::controller_band(*w, *h, *kind, picture, runs),
     );
 }
 
@@ -290,8 +297,17 @@ fn avoid(name: &str, r: &mut Random, count: usize) {
     });
     let lent = inputs.iter();
     let lent = lent.map(|(s, layout, cutouts)| (*s, lent::layout(layout), lent::list(cutouts)));
-    let lent = lent.collect();
-    // The Rust changes its layout, so that each run needs a new one.
+    let lent: Vec<([f32; 2], _, _)> = lent.collect();
+    let ours = |([w, h], layout, cutouts): &([f32; 2], _, _), runs| {
+        probe::avoid_cutouts(layout, *w, *h, cutouts, runs)
+    };
+    // The Rust leaves its layout as it is, so that one serves all runs.
+    if count == 0 {
+        let natives = inputs.iter().map(|(s, layout, _)| (*s, Layout::from(layout)));
+        let theirs = |([w, h], layout): &mut ([f32; 2], Layout)| layout.avoid_cutouts(*w, *h, &[]);
+        return duel(name, natives.collect(), theirs, lent, ours);
+    }
+    // It changes its layout, so that each run needs a new one.
     let theirs = || {
         let time = inputs.iter().map(|([w, h], layout, cutouts)| {
             let mut layouts: Vec<_> = (0..TIMES).map(|_| Layout::from(layout)).collect();
@@ -304,7 +320,5 @@ fn avoid(name: &str, r: &mut Random, count: usize) {
         });
         time.sum()
     };
-    duel_passes(name, theirs, lent, |([w, h], layout, cutouts)| {
-        probe::avoid_cutouts(layout, *w, *h, cutouts, RUNS)
-    });
+    duel_passes(name, theirs, lent, ours);
 }

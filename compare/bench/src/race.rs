@@ -20,8 +20,8 @@ const ROUND: Duration = Duration::from_micros(150);
 /// Runs the contestants in turn, round by round, and prints for each the least
 /// time of a call, and its ratio to the first one's: of the least times, and
 /// the median and quartiles of the ratios in each round. A pass is `calls`
-/// calls.
-pub fn race(name: &str, calls: usize, passes: &mut [Pass]) {
+/// calls. The answer is the least times.
+pub fn race(name: &str, calls: usize, passes: &mut [Pass]) -> Vec<f64> {
     let mut repeats = 1;
     while (0..repeats).map(|_| passes[0].1()).sum::<Duration>() < ROUND {
         repeats *= 2;
@@ -48,6 +48,7 @@ pub fn race(name: &str, calls: usize, passes: &mut [Pass]) {
             quantile(&ratios, 0.75)
         );
     }
+    (0..passes.len()).map(least).collect()
 }
 
 fn quantile(values: &[f64], part: f64) -> f64 {

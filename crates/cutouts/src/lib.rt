@@ -201,6 +201,10 @@ pub fn avoid_cutouts(l: Layout, w: f32, h: f32, cutouts: Cutouts) -> Layout
     requires { ⌜ ((l .count ≤ 12) × (l .stickcount ≤ 2)) × ((cutouts .count ≤ 16) × (length (actionElementsOf l) ≤ 4)) ⌝ }
     ensures { λ r. ⌜ r ≡ avoidCutoutsOf l w h (cutoutList cutouts) ⌝ }
 {
+    // Most screens have none: no array is filled for them.
+    if cutouts.count == 0 {
+        return l;
+    }
     let holes = with_area(cutouts);
     if holes.count == 0 {
         return l;

@@ -8,3 +8,4 @@ mod Ways
 mod Cases
 mod Midpoints
 mod Squares
+pub mod AtLeast

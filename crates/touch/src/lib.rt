@@ -1,6 +1,12 @@
 // The buttons that a touch holds down.
 ghost use mathlib.Core.Path.{_≡_};
+ghost use mathlib.Core.Bool.{false, cond, not, _&&_};
 ghost use Prim.Native.Nat.{_≤_};
+ghost use lib.Ieee.{lt, eq};
+ghost use Rattle.float.specs.MinMax.{absOf};
+ghost use Rattle.geometry.specs.Rect.{containsOf};
+ghost use Rattle.hypot.specs.Hypot.{hypotOf};
+ghost use Rattle.layout.specs.Label.{isFaceOf};
 ghost use Rattle.touch.specs.Touch.{axisBitOf, sectorOf, dpadMaskOf, otherHoldsOf, anyOtherOf, isFreeOf, joinOf, targetOf, reachedOf, distanceOf, nearerOf, maskNearOf};
 use geometry::Rect;
 use layout::Control;
@@ -15,6 +21,12 @@ pub struct Face {
     // Its box holds the touch, not only its margin.
     pub inside: bool,
     pub closest: f32,
+}
+
+// The nearest face button so far if the touch lies in free space, where margins count, and if in space that is taken.
+pub struct Faces {
+    pub free: Face,
+    pub taken: Face,
 }
 
 // The bit of one axis of the d-pad, if the touch lies near enough to that axis.
@@ -38,13 +50,33 @@ fn sector(dx: f32, dy: f32) -> u16
     axis_bit(dx, dy, 1 << 6, 1 << 7) | axis_bit(dy, dx, 1 << 4, 1 << 5)
 }
 
+// One side is over the radius, and so is `hypot`, which is no shorter, unless the other side is a NaN.
+fn beyond(side: f32, other: f32, radius: f32) -> bool
+    ensures { λ r. ⌜ r ≡ (lt radius (absOf side) && eq other other) ⌝ }
+{
+    float::abs(side) > radius && other == other
+}
+
+// The touch lies off the neutral centre, a disc. Outside the square about it `hypot` need not be taken.
+fn off_centre(dx: f32, dy: f32, radius: f32) -> bool
+    ensures { λ r. ⌜ r ≡ lt radius (hypotOf dx dy) ⌝ }
+{
+    if beyond(dx, dy, radius) {
+        return true;
+    }
+    if beyond(dy, dx, radius) {
+        return true;
+    }
+    hypot::hypot(dx, dy) > radius
+}
+
 fn dpad_mask(dpad: Rect, x: f32, y: f32) -> u16
     ensures { λ r. ⌜ r ≡ dpadMaskOf dpad x y ⌝ }
 {
     if dpad.contains(x, y) {
         let dx = x - dpad.x - dpad.w / 2.0;
         let dy = y - dpad.y - dpad.h / 2.0;
-        if hypot::hypot(dx, dy) > dpad.w * 0.09 {
+        if off_centre(dx, dy, dpad.w * 0.09) {
             return sector(dx, dy);
         }
     }
@@ -122,45 +154,94 @@ fn join(mask: u16, c: Control, x: f32, y: f32) -> u16
     mask
 }
 
-fn nearer(best: Face, c: Control, x: f32, y: f32, free: bool, previous: u16) -> Face
-    ensures { λ r. ⌜ r ≡ nearerOf x y free previous best c ⌝ }
+fn closer(best: Face, face: Face) -> Face
+    ensures { λ r. ⌜ r ≡ cond (lt (face .closest) (best .closest)) face best ⌝ }
 {
-    let label = c.label;
-    let r = c.bounds;
-    if label.is_face() {
-        if reached(r, x, y, free) {
-            let mask = label.mask();
-            let d = distance(r, x, y, previous & mask != 0);
-            if d < best.closest {
-                return Face {
-                    mask,
-                    inside: r.contains(x, y),
-                    closest: d,
-                };
-            }
-        }
+    if face.closest < best.closest {
+        return face;
     }
     best
 }
 
-// The bits of the three sources: the d-pad, the controls that are no face buttons, the nearest face button. The controls are read where they lie: an
-// array taken out of the layout would be copied.
+fn face_reached(c: Control, x: f32, y: f32, free: bool) -> bool
+    ensures { λ r. ⌜ r ≡ (isFaceOf (c .label) && reachedOf (c .bounds) x y free) ⌝ }
+{
+    let label = c.label;
+    label.is_face() && reached(c.bounds, x, y, free)
+}
+
+fn nearer(best: Faces, c: Control, x: f32, y: f32, outside: bool, previous: u16) -> Faces
+    ensures { λ r. ⌜ (r .free ≡ nearerOf x y outside previous (best .free) c) × (r .taken ≡ nearerOf x y false previous (best .taken) c) ⌝ }
+{
+    if face_reached(c, x, y, outside) {
+        let label = c.label;
+        let r = c.bounds;
+        let mask = label.mask();
+        let inside = r.contains(x, y);
+        let closest = distance(r, x, y, previous & mask != 0);
+        let face = Face {
+            mask,
+            inside,
+            closest,
+        };
+        let free = closer(best.free, face);
+        let taken = best.taken;
+        if inside {
+            return Faces {
+                free,
+                taken: closer(taken, face),
+            };
+        }
+        return Faces { free, taken };
+    }
+    best
+}
+
+// Neither the picture nor the d-pad holds the touch: so it is in free space.
+fn outside(l: Layout, x: f32, y: f32) -> bool
+    ensures { λ r. ⌜ r ≡ (not (containsOf (l .game) x y) && not (containsOf (l .dpad) x y)) ⌝ }
+{
+    !l.game.contains(x, y) && !l.dpad.contains(x, y)
+}
+
+// Whether the touch lies in free space is asked only where it matters.
+fn face_mask(l: Layout, faces: Faces, x: f32, y: f32) -> u16
+    requires { ⌜ l .count ≤ 12 ⌝ }
+    ensures { λ r. ⌜ r ≡ cond (isFreeOf l x y) (faces .free .mask) (faces .taken .mask) ⌝ }
+{
+    let free = faces.free;
+    let taken = faces.taken;
+    if free.mask != taken.mask {
+        if is_free(l, x, y) {
+            return free.mask;
+        }
+    }
+    taken.mask
+}
+
+// The bits of the three sources: the d-pad, the controls that are no face buttons, the nearest face button. One pass over the controls serves free
+// space and space that is taken: it is not known which it is until all controls are seen, and margins count outside the picture and the d-pad only.
 pub fn mask_near(l: Layout, x: f32, y: f32, previous: u16) -> u16
     requires { ⌜ l .count ≤ 12 ⌝ }
     ensures { λ r. ⌜ r ≡ maskNearOf l x y previous ⌝ }
 {
     let n = l.count;
-    let free = is_free(l, x, y);
-    let mut others: u16 = 0;
-    let mut face = Face {
+    let outside = outside(l, x, y);
+    let controls = l.controls;
+    let none = Face {
         mask: 0,
         inside: false,
         closest: f32::from_bits(0x7f80_0000),
     };
+    let mut others: u16 = 0;
+    let mut faces = Faces {
+        free: none,
+        taken: none,
+    };
     for i in 0..n {
-        let c = l.controls[i];
+        let c = controls[i];
         others = join(others, c, x, y);
-        face = nearer(face, c, x, y, free, previous);
+        faces = nearer(faces, c, x, y, outside, previous);
     }
-    dpad_mask(l.dpad, x, y) | others | face.mask
+    dpad_mask(l.dpad, x, y) | others | face_mask(l, faces, x, y)
 }

@@ -11,17 +11,21 @@ use borrow.Author.Needs.{needs}
 use Rattle.cutouts.proofs.avoid_cutouts.Statement.{statement}
 use Rattle.cutouts.proofs.avoid_cutouts.Tie as tie
 
+returns : tie.Need-returns
+unfolding avoidCutoutsOf
+returns c = rw (c .if1 .taken)
+
 with-area-requires : tie.Need-with-area-requires
 with-area-requires c κs = search needs
 
-returns : tie.Need-returns
+returns-2 : tie.Need-returns-2
 unfolding avoidCutoutsOf
-returns c =
-    let s = c .before .before .before in
+returns-2 c =
+    let s = c .before .before .before .before .before in
     let a = c .before .before .with-area in
     let k : length (a .result .at) ≡ 16 = search sized in
     let q : length (withAreaOf (cutoutList (s .args .cutouts))) ≡ a .result .count = ap length (sym (a .ensures .0)) ∙ length-take-le (a .result .count) (a .result .at) (omega (arith, a .ensures .1)) in
-    rw (eq-eqb _ 0 (q ∙ c .if1 .taken))
+    rw (eq-eqb _ 0 (q ∙ c .if2 .taken))
 
 faces-requires : tie.Need-faces-requires
 faces-requires c κs = search needs
@@ -35,23 +39,24 @@ avoid-requires c κs = ((omega arith, (omega arith, omega arith)), rw (c .elemen
 set-elements-requires : tie.Need-set-elements-requires
 set-elements-requires c κs = search needs
 
-returns-2 : tie.Need-returns-2
+returns-3 : tie.Need-returns-3
 unfolding avoidCutoutsOf
-returns-2 c =
-    let s = c .before .before .before .before .before .before .before in
+returns-3 c =
+    let s = c .before .before .before .before .before .before .before .before .before in
     let a = c .before .before .before .before .before .before .with-area in
     let k : length (a .result .at) ≡ 16 = search sized in
     let q : length (withAreaOf (cutoutList (s .args .cutouts))) ≡ a .result .count = ap length (sym (a .ensures .0)) ∙ length-take-le (a .result .count) (a .result .at) (omega (arith, a .ensures .1)) in
-    rw (ne-eqb _ 0 (λ z. c .before .before .before .before .if1 .left (sym q ∙ z))) (c .set-elements .ensures ∙ ap (setElementsOf (s .args .l)) (c .before .avoid .ensures .0 ∙ rw (a .ensures .0, c .before .before .before .faces .ensures .0, c .before .before .elements .ensures .0)))
+    rw (ne-eqb _ 0 (λ z. c .before .before .before .before .if2 .left (sym q ∙ z))) (c .set-elements .ensures ∙ ap (setElementsOf (s .args .l)) (c .before .avoid .ensures .0 ∙ rw (a .ensures .0, c .before .before .before .faces .ensures .0, c .before .before .elements .ensures .0)))
 
 pub avoid-cutouts-spec : {M : Type 1} → statement M
 avoid-cutouts-spec =
     tie.close
     (tie.spec
-    with-area-requires
     returns
+    with-area-requires
+    returns-2
     faces-requires
     elements-requires
     avoid-requires
     set-elements-requires
-    returns-2)
+    returns-3)

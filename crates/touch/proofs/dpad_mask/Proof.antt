@@ -5,11 +5,11 @@ use Rattle.touch.proofs.dpad_mask.Tie as tie
 
 returns : tie.Need-returns
 unfolding dpadMaskOf
-returns c = rw (← c .before .before .before .before .before .before .before .before .before .contains .ensures, ← c .before .before .before .hypot .ensures, ← c .sector .ensures, c .before .before .before .before .before .before .before .before .if1 .taken) (rw (c .before .if2 .taken))
+returns c = rw (← c .before .before .before .before .before .before .before .before .before .contains .ensures, ← c .before .before .off-centre .ensures, ← c .sector .ensures, c .before .before .before .before .before .before .before .before .if1 .taken) (rw (c .before .if2 .taken))
 
 returns-2 : tie.Need-returns-2
 unfolding dpadMaskOf
-returns-2 c = rw (← c .before .before .before .before .before .before .before .before .contains .ensures, ← c .before .before .hypot .ensures, c .before .before .before .before .before .before .before .if1 .taken, c .if2 .left)
+returns-2 c = rw (← c .before .before .before .before .before .before .before .before .contains .ensures, ← c .before .off-centre .ensures, c .before .before .before .before .before .before .before .if1 .taken, c .if2 .left)
 
 returns-3 : tie.Need-returns-3
 unfolding dpadMaskOf

@@ -1,21 +1,30 @@
--- `mask_near`: `others` and `face` are what the controls passed make of them.
+-- `mask_near`: `others` and `faces` are what the controls passed make of them.
 use borrow.Author.Needs.{needs}
 use native.Mathlib.Omega.{arith}
-use mathlib.Core.Path.{_≡_, refl}
+use mathlib.Core.Path.{_≡_, refl, ap, _∙_}
+use mathlib.Core.Bool.{Bool, true, false, cond, not, _&&_}
 use Prim.Native.Nat.{_-_, _<_, _≤_}
-use lib.Ieee.{nanBits}
+use lib.Bits.{bitOr}
+use lib.Ieee.{Float, nanBits}
 use lib.ListN.{length, take, length-map}
+use Rattle.geometry.specs.Rect.{containsOf}
+use Rattle.layout.specs.declared.Layout.{Layout}
+use Rattle.layout.specs.Layout.{controlsOf}
 use Rattle.layout.proofs.Loops.{fold-next}
-use Rattle.touch.specs.Touch.{othersMaskOf, nearest, maskNearOf}
+use Rattle.touch.specs.declared.Face.{Face}
+use Rattle.touch.specs.Touch.{othersMaskOf, isFreeOf, nearest, maskNearOf}
 use Rattle.touch.proofs.mask_near.Statement.{statement}
 use Rattle.touch.proofs.mask_near.Tie as tie
 
 abbrev Inv-loop : tie.InvT-loop
-Inv-loop x y previous l n free others₀ face₀ i₀ others face i =
-    (i ≤ n) × (others ≡ othersMaskOf x y (take i (l .controls))) × (face ≡ nearest x y free previous (take i (l .controls)))
+Inv-loop l x y previous n outside controls others₀ faces₀ i₀ others faces i =
+    (i ≤ n)
+    × (others ≡ othersMaskOf x y (take i controls))
+    × (faces .free ≡ nearest x y outside previous (take i controls))
+    × (faces .taken ≡ nearest x y false previous (take i controls))
 
 abbrev μ-loop : tie.MeasureT-loop
-μ-loop x y previous l n free others₀ face₀ i₀ others face i = n - i
+μ-loop l x y previous n outside controls others₀ faces₀ i₀ others faces i = n - i
 
 infinite : tie.Need-float-from-bits-t13 Inv-loop μ-loop
 unfolding nanBits
@@ -23,24 +32,42 @@ infinite c = tt
 
 loop-holds : tie.Need-loop-holds Inv-loop μ-loop
 unfolding othersMaskOf nearest
-loop-holds c = (omega arith, refl, refl)
+loop-holds c = (omega arith, refl, refl, refl)
 
 loop-again : tie.Need-loop-again Inv-loop μ-loop
 unfolding othersMaskOf nearest
 loop-again c =
     let l = c .before .before .before .before in
-    let s = l .before .before in
-    let k : length (s .args .t1 .controls) ≡ 12 = rw length-map at (s .good .0 .1 .1 .1 .1 .0 .1 .0 .1) in
-    let h : l .loop .i < length (s .args .t1 .controls) = omega arith in
-    (omega arith, fold-next _ _ _ _ _ h (l .loop .inv .1) refl (c .before .join .ensures), fold-next _ _ _ _ _ h (l .loop .inv .2) refl (c .nearer .ensures))
+    let k : length (l .before .before .before .args .l .controls) ≡ 12 = rw length-map at (l .before .before .before .good .0 .1 .1 .1 .1 .0 .1 .0 .1) in
+    let h : l .loop .i < length (l .before .before .before .args .l .controls) = omega arith in
+    let v = l .loop .inv in
+    (omega arith, fold-next _ _ _ _ _ h (v .1) refl (c .before .join .ensures), fold-next _ _ _ _ _ h (v .2) refl (c .nearer .ensures .0), fold-next _ _ _ _ _ h (v .3) refl (c .nearer .ensures .1))
+
+-- free space is outside the picture and the d-pad
+outside-of : (l : Layout) (x y : Float) → isFreeOf l x y ≡ true → (not (containsOf (l .game) x y) && not (containsOf (l .dpad) x y)) ≡ true
+unfolding isFreeOf
+outside-of l x y = go (not (containsOf (l .game) x y)) (not (containsOf (l .dpad) x y)) _
+  where
+    go : (a b c : Bool) → (a && (b && c)) ≡ true → (a && b) ≡ true
+    go true true c e = refl
+    go true false c e = e
+    go false b c e = e
+
+-- the nearest of each kind, for the kind of space that it is
+either : (free outside : Bool) (f : Bool → Face) {p q : Face} → (free ≡ true → outside ≡ true) → p ≡ f outside → q ≡ f false → cond free (p .mask) (q .mask) ≡ f free .mask
+either true outside f o e k = ap (λ (x : Face). x .mask) (e ∙ ap f (o refl))
+either false outside f o e k = ap (λ (x : Face). x .mask) k
 
 returns : tie.Need-returns Inv-loop μ-loop
-unfolding maskNearOf othersMaskOf nearest
+unfolding maskNearOf
 returns c =
-    let l = c .before .before .before .before in
-    let s = l .before .before in
-    let e : s .args .t1 .count ≡ l .loop .i = omega arith in
-    rw (← l .before .is-free .ensures, ← c .before .dpad-mask .ensures, e, ← l .loop .inv .1, ← l .loop .inv .2)
+    let l = c .before .before .before in
+    let s = l .before .before .before .args in
+    let e : l .loop .i ≡ s .l .count = omega arith in
+    let v = rw e at (l .loop .inv) in
+    let o = l .before .before .outside in
+    let f = either (isFreeOf (s .l) (s .x) (s .y)) (o .result) (λ b. nearest (s .x) (s .y) b (s .previous) (controlsOf (s .l))) (λ h. o .ensures ∙ outside-of (s .l) (s .x) (s .y) h) (v .2) (v .3) in
+    rw (← c .before .dpad-mask .ensures, ← v .1) (ap (bitOr (bitOr (c .before .dpad-mask .result) (l .loop .others))) (c .face-mask .ensures ∙ f))
 
 pub mask-near-spec : {M : Type 1} → statement M
 mask-near-spec =
@@ -58,5 +85,6 @@ mask-near-spec =
     (λ c. omega arith)
     (λ c. omega arith)
     loop-again
+    (λ c κs. search needs)
     (λ c κs. search needs)
     returns)
