@@ -27,7 +27,7 @@ pub enum TouchAnswer {
     Refused(u8),
 }
 
-fn settings_layout(s: Settings) -> Layout
+pub fn settings_layout(s: Settings) -> Layout
     requires { ⌜ acceptedOf s ≡ true ⌝ }
     ensures { λ r. ⌜ r ≡ settingsLayoutOf s ⌝ }
 {

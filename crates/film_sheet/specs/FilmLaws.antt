@@ -1,0 +1,42 @@
+-- The layout of an accepted order has its numbers in range, and the text of any order fits the sheet.
+use mathlib.Core.Path.{_≡_, refl}
+use mathlib.Core.List.{List}
+use Prim.Native.Nat.{ℕ, _≤_}
+use native.Mathlib.Omega.{arith}
+use lib.ListN.{length, length-append}
+use Rattle.geometry.specs.Answer.{Answer, accepted, refused}
+use Rattle.layout.specs.Layout.{cutoutList}
+use Rattle.search.specs.Bounded.{Bounded, BoundedGame}
+use Rattle.settings.specs.declared.Settings.{Settings}
+use Rattle.limits.specs.SettingsRanges.{accepted-in-range}
+use Rattle.reader.specs.Accepted.{accepted-order, refused-order, order-f32}
+use Rattle.reader.specs.Order.{andThen, readOrderOf}
+use Rattle.preset.specs.PresetRanges.{layout-bounded, game-bounded}
+use Rattle.sheet.specs.Sheet.{refusedText}
+use Rattle.sheet.specs.SheetLaws.{refused-fits, sheet-fits}
+use Rattle.order.specs.Orders.{settingsLayoutOf, orderLayout}
+use Rattle.order.specs.OrderLaws.{settings-few}
+use Rattle.film_sheet.specs.Film.{answerText, filmTextOf, filmSheetOf}
+
+-- what `layout_sheet` asks
+pub order-bounded : (order : List ℕ) {s : Settings} → readOrderOf order ≡ accepted s → Bounded (settingsLayoutOf s) × BoundedGame (settingsLayoutOf s .game)
+unfolding settingsLayoutOf
+order-bounded order {s} e =
+    let r = accepted-in-range s (accepted-order order e) (order-f32 order e) in
+    let cutouts = cutoutList (s .cutouts) in
+    (layout-bounded (s .preset) (r .w) (r .h) cutouts (r .cutouts) (r .area), game-bounded (s .preset) (r .w) (r .h) cutouts (r .cutouts) (r .area) (r .scale) (r .offset-x) (r .offset-y))
+
+pub film-fits : (order : List ℕ) → length (filmTextOf order) ≤ 788
+unfolding filmTextOf orderLayout refusedText
+film-fits order = go (readOrderOf order) refl
+  where
+    go : (a : Answer Settings) → readOrderOf order ≡ a → length (answerText (andThen a (λ s. accepted (settingsLayoutOf s)))) ≤ 788
+    go (accepted s) e =
+        let n = settings-few s in
+        let b = order-bounded order e in
+        sheet-fits (settingsLayoutOf s) (n .count) (n .stickcount) (b .0) (b .1)
+    go (refused n) e = let b = refused-order order e in omega (arith, refused-fits n (omega arith))
+
+pub film-within : (order : List ℕ) → filmSheetOf order .len ≤ length (filmSheetOf order .bytes)
+unfolding filmSheetOf
+film-within order = rw (length-append (filmTextOf order) _) (omega arith)

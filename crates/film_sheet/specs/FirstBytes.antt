@@ -1,0 +1,86 @@
+-- An order's first bytes decide: a value has at most 65,535 bytes, an accepted one at most 512, and there are at most eight headers. So a program need not read more than 70,000.
+use mathlib.Core.Path.{_≡_, refl, sym, ap, _∙_}
+use mathlib.Core.Bool.{Bool, true, false, _||_}
+use mathlib.Core.List.{List, [], _∷_, _++_}
+use Prim.Native.Nat.{ℕ, zero, suc, _+_, _*_, _/_, _%_, _<_, _≤_}
+use native.Mathlib.Omega.{arith}
+use borrow.Author.Tests.{eqb-true, leb-true, leb-false, le-leb}
+use lib.Dec.{eqb, leb}
+use lib.ListN.{length, take, drop, length-append, length-drop, take-append-drop}
+use lib.Seq.{length-take-le, take-all, take-append-le, drop-append-le}
+use Rattle.geometry.specs.Answer.{Answer, accepted, refused}
+use Rattle.numerics.specs.Each.{Each}
+use Rattle.numerics.specs.Lists.{each-take}
+use Rattle.settings.specs.declared.Settings.{Settings}
+use Rattle.reader.specs.declared.Tag.{Tag}
+use Rattle.reader.specs.declared.Tag.the-variants as Tag
+use Rattle.reader.specs.Order.{must, andThen, shortOf, readScreenOf, readPictureOf, readModeOf, readFitOf, readPlaceOf, readCutoutsOf, readSavedOf, fromByteOf, readFieldOf, fields, readOrderOf}
+use Rattle.order.specs.Orders.{orderLayout}
+use Rattle.order.specs.OrderLaws.{never}
+use Rattle.film_sheet.specs.Film.{filmTextOf}
+
+-- ---- an accepted value is short
+must-met : {A : Type 0} (test : Bool) (n : ℕ) (a : Answer A) {x : A} → must test n a ≡ accepted x → (test ≡ true) × (a ≡ accepted x)
+unfolding must
+must-met true n a e = (refl, e)
+must-met false n a e = absurd (never (sym e))
+
+short-value : (tag : Tag) (v : List ℕ) (s : Settings) {t : Settings} → readFieldOf tag v s ≡ accepted t → length v ≤ 512
+unfolding readFieldOf readScreenOf readPictureOf readModeOf readFitOf readPlaceOf readCutoutsOf readSavedOf
+short-value Tag.Screen v s e = let l = eqb-true (length v) 8 (must-met _ _ _ e .0) in omega arith
+short-value Tag.Picture v s e = let l = eqb-true (length v) 16 (must-met _ _ _ e .0) in omega arith
+short-value Tag.Mode v s e = let l = eqb-true (length v) 1 (must-met _ _ _ e .0) in omega arith
+short-value Tag.Fit v s e = let l = eqb-true (length v) 1 (must-met _ _ _ e .0) in omega arith
+short-value Tag.Place v s e = let l = eqb-true (length v) 12 (must-met _ _ _ e .0) in omega arith
+short-value Tag.Cutouts v s e =
+    let m = must-met _ _ _ e in
+    let whole = eqb-true (length v % 16) 0 (m .0) in
+    let few = leb-true (length v / 16) 16 (must-met _ _ _ (m .1) .0) in
+    omega arith
+short-value Tag.Saved v s e =
+    let m = must-met _ _ _ e in
+    let whole = eqb-true (length v % 16) 0 (m .0) in
+    let few = leb-true (length v / 16) 32 (must-met _ _ _ (m .1) .0) in
+    omega arith
+
+-- ---- bytes after enough others change nothing
+abbrev pub Byte : ℕ → Type 0
+Byte b = b < 256
+
+each-drop : (n : ℕ) (xs : List ℕ) → Each Byte xs → Each Byte (drop n xs)
+each-drop zero xs e = e
+each-drop (suc n) [] e = tt
+each-drop (suc n) (x ∷ xs) e = each-drop n xs (e .1)
+
+then-same : {A B : Type 0} (a : Answer A) {f g : A → Answer B} → ((x : A) → a ≡ accepted x → f x ≡ g x) → andThen a f ≡ andThen a g
+then-same (accepted x) h = h x refl
+then-same (refused n) h = refl
+
+fields-first : (turns last : ℕ) (screen : Bool) (s : Settings) (xs ys : List ℕ) → Each Byte xs → 65538 + 515 * turns ≤ length xs → fields turns last screen s (xs ++ ys) ≡ fields turns last screen s xs
+unfolding fields
+fields-first zero last screen s xs ys b h = refl
+fields-first (suc turns) last screen s [] ys b h = absurd (let z : ⊥ = omega arith in z)
+fields-first (suc turns) last screen s (tag ∷ []) ys b h = absurd (let z : ⊥ = omega arith in z)
+fields-first (suc turns) last screen s (tag ∷ high ∷ []) ys b h = absurd (let z : ⊥ = omega arith in z)
+fields-first (suc turns) last screen s (tag ∷ high ∷ low ∷ xs) ys b h =
+    let n = shortOf high low in
+    let most : n ≤ length xs = omega (arith, b .1 .0, b .1 .1 .0) in
+    let more : n ≤ length (xs ++ ys) = omega (arith, length-append xs ys) in
+    rw (le-leb n (length xs) most, le-leb n (length (xs ++ ys)) more, take-append-le n xs ys most, drop-append-le n xs ys most)
+    (ap (must _ 2) (ap (must true 1) (then-same (readFieldOf (fromByteOf tag) (take n xs) s)
+    (λ t e. fields-first turns tag (screen || eqb tag 1) t (drop n xs) ys (each-drop n xs (b .1 .1 .1))
+    (omega (arith, length-drop n xs, length-take-le n xs most, short-value (fromByteOf tag) (take n xs) s e))))))
+
+pub first-bytes : (order : List ℕ) → Each Byte order → (n : ℕ) → 69658 ≤ n → readOrderOf (take n order) ≡ readOrderOf order
+unfolding readOrderOf
+first-bytes order b n h = go (leb n (length order)) refl
+  where
+    go : (c : Bool) → leb n (length order) ≡ c → readOrderOf (take n order) ≡ readOrderOf order
+    go true e =
+        sym (fields-first 8 0 false _ (take n order) (drop n order) (each-take Byte n order b) (omega (arith, length-take-le n order (leb-true n (length order) e))))
+        ∙ ap readOrderOf (take-append-drop n order)
+    go false e = ap readOrderOf (take-all n order (omega (arith, leb-false n (length order) e)))
+
+pub first-bytes-film : (order : List ℕ) → Each Byte order → (n : ℕ) → 69658 ≤ n → filmTextOf (take n order) ≡ filmTextOf order
+unfolding filmTextOf orderLayout
+first-bytes-film order b n h = rw (first-bytes order b n h)

@@ -1,0 +1,50 @@
+use mir.Syntax.{w32}
+use mir.Facts.{toZ-ofZ}
+use Rattle.thumb_layout.proofs.Steps.{no-room, four-stored}
+use lib.ListN.{length-set}
+use native.Mathlib.Omega.{arith}
+use borrow.Author.Needs.{needs}
+use Rattle.thumb_layout.proofs.put_edges.Statement.{statement}
+use Rattle.thumb_layout.proofs.put_edges.Tie as tie
+
+returns : tie.Need-returns
+returns c = no-room _ _ _ _ _ (c .if1 .taken)
+
+slice-set-from-left : tie.Need-slice-set-from-left
+slice-set-from-left c = search needs
+
+slice-set-from-top : tie.Need-slice-set-from-top
+slice-set-from-top c = simp length-set (omega arith)
+
+slice-set-from-right : tie.Need-slice-set-from-right
+slice-set-from-right c = simp length-set (omega arith)
+
+slice-set-from-bottom : tie.Need-slice-set-from-bottom
+slice-set-from-bottom c = search needs
+
+same-length : tie.Need-same-length
+same-length c = search needs
+
+returns-2 : tie.Need-returns-2
+returns-2 c =
+    let s = c .before .before .before .before .before in
+    let e = s .args .e in
+    rw (
+      toZ-ofZ {w = w32} {z = e .left} (search needs),
+      toZ-ofZ {w = w32} {z = e .top} (search needs),
+      toZ-ofZ {w = w32} {z = e .right} (search needs),
+      toZ-ofZ {w = w32} {z = e .bottom} (search needs),
+    )
+    (four-stored (e .left) (e .top) (e .right) (e .bottom) (s .args .edges .now) (c .before .before .before .before .if1 .left))
+
+pub put-edges-spec : {M : Type 1} → statement M
+put-edges-spec =
+    tie.close
+    (tie.spec
+    returns
+    slice-set-from-left
+    slice-set-from-top
+    slice-set-from-right
+    slice-set-from-bottom
+    same-length
+    returns-2)

@@ -1,0 +1,72 @@
+use Rattle.thumb_layout.specs.Interface.{contentFour, tlSafeContentOf, tlSafeContentOutputOf}
+use Rattle.reader.specs.Order.{must}
+use borrow.Author.Tests.{eq-eqb, ne-eqb}
+use Rattle.geometry.proofs.Signed.{stored}
+use borrow.Author.Needs.{needs}
+use Rattle.thumb_layout.proofs.tl_safe_content.Statement.{statement}
+use Rattle.thumb_layout.proofs.tl_safe_content.Tie as tie
+
+returns : tie.Need-returns
+unfolding tlSafeContentOf tlSafeContentOutputOf contentFour must
+returns c = let e = ne-eqb _ _ (c .if1 .taken) in (rw e, rw e)
+
+two-requires : tie.Need-two-requires
+two-requires c κs = search needs
+
+two-requires-2 : tie.Need-two-requires-2
+two-requires-2 c κs = search needs
+
+four-requires : tie.Need-four-requires
+four-requires c κs = search needs
+
+safe-content-requires : tie.Need-safe-content-requires
+safe-content-requires c κs = search needs
+
+enum-known-r : tie.Need-enum-known-r
+enum-known-r c = search needs
+
+put-area-requires : tie.Need-put-area-requires
+put-area-requires c κs = search needs
+
+enum-told : tie.Need-enum-told
+enum-told c = search needs
+
+same-length : tie.Need-same-length
+same-length c = search needs
+
+returns-2 : tie.Need-returns-2
+unfolding tlSafeContentOf tlSafeContentOutputOf contentFour must
+returns-2 c =
+    let f = c .before .before .before .before .before .before .before in
+    let e = eq-eqb _ _ (f .before .before .before .before .if1 .left) in
+    let s =
+    rw (c .before .before .before .before .before .r .given .1, f .before .before .before .two .ensures, f .before .before .two2 .ensures, f .before .four .ensures) at (f .safe-content .ensures)
+    in
+    let p = c .before .before .put-area in
+    rw (e, ← s) (stored (p .ok) (p .ensures .0), p .ensures .1)
+
+returns-3 : tie.Need-returns-3
+unfolding tlSafeContentOf tlSafeContentOutputOf contentFour must
+returns-3 c =
+    let f = c .before .before in
+    let e = eq-eqb _ _ (f .before .before .before .before .if1 .left) in
+    let s =
+    rw (c .enum-told .given .1, f .before .before .before .two .ensures, f .before .before .two2 .ensures, f .before .four .ensures) at (f .safe-content .ensures)
+    in
+    (rw (e, ← s), rw (e, ← s))
+
+pub tl-safe-content-spec : {M : Type 1} → statement M
+tl-safe-content-spec =
+    tie.close
+    (tie.spec
+    returns
+    two-requires
+    two-requires-2
+    four-requires
+    safe-content-requires
+    enum-known-r
+    put-area-requires
+    enum-told
+    same-length
+    returns-2
+    returns-3)

@@ -1,0 +1,72 @@
+use Rattle.thumb_layout.specs.Interface.{edgesFour, tlSafeEdgesOf, tlSafeEdgesOutputOf}
+use Rattle.reader.specs.Order.{must}
+use borrow.Author.Tests.{eq-eqb, ne-eqb}
+use Rattle.geometry.proofs.Signed.{stored}
+use borrow.Author.Needs.{needs}
+use Rattle.thumb_layout.proofs.tl_safe_edges.Statement.{statement}
+use Rattle.thumb_layout.proofs.tl_safe_edges.Tie as tie
+
+returns : tie.Need-returns
+unfolding tlSafeEdgesOf tlSafeEdgesOutputOf edgesFour must
+returns c = let e = ne-eqb _ _ (c .if1 .taken) in (rw e, rw e)
+
+four-requires : tie.Need-four-requires
+four-requires c κs = search needs
+
+four-requires-2 : tie.Need-four-requires-2
+four-requires-2 c κs = search needs
+
+four-requires-3 : tie.Need-four-requires-3
+four-requires-3 c κs = search needs
+
+safe-edges-requires : tie.Need-safe-edges-requires
+safe-edges-requires c κs = search needs
+
+enum-known-e : tie.Need-enum-known-e
+enum-known-e c = search needs
+
+put-edges-requires : tie.Need-put-edges-requires
+put-edges-requires c κs = search needs
+
+enum-told : tie.Need-enum-told
+enum-told c = search needs
+
+same-length : tie.Need-same-length
+same-length c = search needs
+
+returns-2 : tie.Need-returns-2
+unfolding tlSafeEdgesOf tlSafeEdgesOutputOf edgesFour must
+returns-2 c =
+    let f = c .before .before .before .before .before .before in
+    let e = eq-eqb _ _ (f .before .before .before .before .if1 .left) in
+    let s =
+    rw (c .before .before .before .before .e .given .1, f .before .before .before .four .ensures, f .before .before .four2 .ensures, f .before .four3 .ensures) at (f .safe-edges .ensures)
+    in
+    let p = c .before .put-edges in
+    rw (e, ← s) (stored (p .ok) (p .ensures .0), p .ensures .1)
+
+returns-3 : tie.Need-returns-3
+unfolding tlSafeEdgesOf tlSafeEdgesOutputOf edgesFour must
+returns-3 c =
+    let f = c .before .before in
+    let e = eq-eqb _ _ (f .before .before .before .before .if1 .left) in
+    let s =
+    rw (c .enum-told .given .1, f .before .before .before .four .ensures, f .before .before .four2 .ensures, f .before .four3 .ensures) at (f .safe-edges .ensures)
+    in
+    (rw (e, ← s), rw (e, ← s))
+
+pub tl-safe-edges-spec : {M : Type 1} → statement M
+tl-safe-edges-spec =
+    tie.close
+    (tie.spec
+    returns
+    four-requires
+    four-requires-2
+    four-requires-3
+    safe-edges-requires
+    enum-known-e
+    put-edges-requires
+    enum-told
+    same-length
+    returns-2
+    returns-3)

@@ -1,0 +1,47 @@
+use mathlib.Core.Path.{ap, _∙_}
+use mir.Syntax.{w32}
+use mir.Facts.{toZ-pos}
+use Rattle.geometry.proofs.Signed.{stored}
+use Rattle.thumb_layout.specs.Interface.{numberOf, tlTouchOf}
+use borrow.Author.Needs.{needs}
+use Rattle.thumb_layout.proofs.tl_touch.Statement.{statement}
+use Rattle.thumb_layout.proofs.tl_touch.Tie as tie
+
+touch-requires : tie.Need-touch-requires
+touch-requires c κs = search needs
+
+enum-known-mask : tie.Need-enum-known-mask
+enum-known-mask c = search needs
+
+cast-result : tie.Need-cast-result
+cast-result c = search needs
+
+enum-known-n : tie.Need-enum-known-n
+enum-known-n c = search needs
+
+minus-requires : tie.Need-minus-requires
+minus-requires c κs = search needs
+
+returns : tie.Need-returns
+unfolding tlTouchOf
+returns c =
+    let e = rw (c .before .mask .given .1) at (c .before .before .before .touch .ensures) in
+    toZ-pos w32 (search needs) ∙ ap numberOf e
+
+returns-2 : tie.Need-returns-2
+unfolding tlTouchOf
+returns-2 c =
+    let e = rw (c .before .before .n .given .1) at (c .before .before .before .before .touch .ensures) in
+    stored (c .minus .ok) (c .minus .ensures ∙ ap numberOf e)
+
+pub tl-touch-spec : {M : Type 1} → statement M
+tl-touch-spec =
+    tie.close
+    (tie.spec
+    touch-requires
+    enum-known-mask
+    cast-result
+    enum-known-n
+    minus-requires
+    returns
+    returns-2)

@@ -1,0 +1,26 @@
+use mathlib.Core.Path.{ap, _∙_}
+use Rattle.geometry.proofs.Signed.{stored}
+use Rattle.thumb_layout.specs.Interface.{numberOf, tlViewportLayoutOf}
+use Rattle.thumb_layout.specs.InterfaceLaws.{viewport-small}
+use borrow.Author.Needs.{needs}
+use Rattle.thumb_layout.proofs.tl_viewport_layout.Statement.{statement}
+use Rattle.thumb_layout.proofs.tl_viewport_layout.Tie as tie
+
+viewport-layout-requires : tie.Need-viewport-layout-requires
+viewport-layout-requires c κs = search needs
+
+layout-number-requires : tie.Need-layout-number-requires
+layout-number-requires c κs = rw (c .before .before .viewport-layout .ensures .0) (viewport-small _ _ _ _)
+
+same-length : tie.Need-same-length
+same-length c = search needs
+
+returns : tie.Need-returns
+unfolding tlViewportLayoutOf
+returns c =
+    let l = c .before .before .before .viewport-layout .ensures in
+    (stored (c .layout-number .ok) (c .layout-number .ensures ∙ ap numberOf (l .0)), l .1)
+
+pub tl-viewport-layout-spec : {M : Type 1} → statement M
+tl-viewport-layout-spec =
+    tie.close (tie.spec viewport-layout-requires layout-number-requires same-length returns)

@@ -1,0 +1,148 @@
+// The functions for hosts in other languages, through the C calling convention; host/include/thumb_layout.h declares them.
+// An answer below 0 is minus the number of a refusal, and then every lent output is as it was.
+ghost use mathlib.Core.Path.{_≡_};
+ghost use Prim.Native.Nat.{_+_, _≤_};
+ghost use lib.IntN.{pos, negℤ};
+ghost use lib.ListN.{length};
+ghost use lib.Signed.{mag};
+ghost use Rattle.order.specs.Demands.{WidestWritten};
+ghost use Rattle.order.specs.Orders.{layoutAnswer, layoutOf, layoutOutputOf, viewportOutputOf};
+ghost use Rattle.thumb_layout.specs.Interface.{numberOf, tlLayoutOf, tlTouchOf, tlViewportLayoutOf, twoOf, fourOf, areaNumbers, edgeNumbers, roomOf, statusOf, fourOutput, tlSafeContentOf, tlSafeContentOutputOf, tlSafeEdgesOf, tlSafeEdgesOutputOf};
+use geometry::Rect;
+use geometry::safe::Edges;
+use geometry::safe::SafeContent;
+use geometry::safe::SafeEdges;
+use geometry::safe::safe_content;
+use geometry::safe::safe_edges;
+use order::LayoutAnswer;
+use order::TouchAnswer;
+
+// ---- orders
+
+// Demand 3 of the mission is the third clause.
+#[no_mangle]
+pub extern "C" fn tl_layout(order: &[u8], out: &mut [u8]) -> i32
+    ensures answer { λ r. ⌜ r ≡ tlLayoutOf (now (order .entry)) (now (out .entry)) ⌝ }
+    ensures output { λ _. ⌜ now (out .exit) ≡ layoutOutputOf (now (order .entry)) (now (out .entry)) ⌝ }
+    ensures widest { λ _. ⌜ WidestWritten (now (order .entry)) (layoutOf (now (order .entry)) (now (out .entry))) (now (out .exit)) ⌝ }
+{
+    layout_number(order::layout(order, out))
+}
+
+#[no_mangle]
+pub extern "C" fn tl_touch(order: &[u8], x: f32, y: f32, previous: u16) -> i32
+    ensures { λ r. ⌜ r ≡ tlTouchOf (now (order .entry)) x y previous ⌝ }
+{
+    match order::touch(order, x, y, previous) {
+        TouchAnswer::Mask(mask) => mask as i32,
+        TouchAnswer::Refused(n) => minus(n),
+    }
+}
+
+#[no_mangle]
+pub extern "C" fn tl_viewport_layout(
+    order: &[u8],
+    reusable_top: f32,
+    covered_top: f32,
+    out: &mut [u8],
+) -> i32
+    ensures answer { λ r. ⌜ r ≡ tlViewportLayoutOf (now (order .entry)) «reusable_top» «covered_top» (now (out .entry)) ⌝ }
+    ensures output { λ _. ⌜ now (out .exit) ≡ viewportOutputOf (now (order .entry)) «reusable_top» «covered_top» (now (out .entry)) ⌝ }
+{
+    layout_number(order::viewport_layout(order, reusable_top, covered_top, out))
+}
+
+fn layout_number(answer: LayoutAnswer) -> i32
+    requires { ⌜ mag (numberOf (layoutAnswer answer)) ≤ 353 ⌝ }
+    ensures { λ r. ⌜ r ≡ numberOf (layoutAnswer answer) ⌝ }
+{
+    match answer {
+        LayoutAnswer::Bytes(n) => n as i32,
+        LayoutAnswer::Refused(n) => minus(n),
+    }
+}
+
+fn minus(refusal: u8) -> i32
+    ensures { λ r. ⌜ r ≡ negℤ (pos refusal) ⌝ }
+{
+    -(refusal as i32)
+}
+
+// ---- the safe area
+
+// The numbers are the size, the inset size and the edges.
+#[no_mangle]
+pub extern "C" fn tl_safe_content(numbers: &[i32], area: &mut [f32]) -> i32
+    ensures answer { λ r. ⌜ r ≡ tlSafeContentOf (now (numbers .entry)) (now (area .entry)) ⌝ }
+    ensures output { λ _. ⌜ now (area .exit) ≡ tlSafeContentOutputOf (now (numbers .entry)) (now (area .entry)) ⌝ }
+{
+    if numbers.len() != 8 {
+        return -3;
+    }
+    match safe_content(two(numbers, 0), two(numbers, 2), four(numbers, 4)) {
+        SafeContent::Area(r) => put_area(r, area),
+        SafeContent::OffScale => -6,
+    }
+}
+
+// The numbers are the edges of decoration, navigation and camera.
+#[no_mangle]
+pub extern "C" fn tl_safe_edges(numbers: &[i32], local_side_camera: u8, edges: &mut [i32]) -> i32
+    ensures answer { λ r. ⌜ r ≡ tlSafeEdgesOf (now (numbers .entry)) «local_side_camera» (now (edges .entry)) ⌝ }
+    ensures output { λ _. ⌜ now (edges .exit) ≡ tlSafeEdgesOutputOf (now (numbers .entry)) «local_side_camera» (now (edges .entry)) ⌝ }
+{
+    if numbers.len() != 12 {
+        return -3;
+    }
+    let local = local_side_camera != 0;
+    match safe_edges(four(numbers, 0), four(numbers, 4), four(numbers, 8), local) {
+        SafeEdges::Merged(e) => put_edges(e, edges),
+        SafeEdges::OffScale => -6,
+    }
+}
+
+fn two(numbers: &[i32], i: usize) -> [i32; 2]
+    requires { ⌜ i + 2 ≤ length (now numbers) ⌝ }
+    ensures { λ r. ⌜ r ≡ twoOf (now (numbers .entry)) i ⌝ }
+{
+    [numbers[i], numbers[i + 1]]
+}
+
+fn four(numbers: &[i32], i: usize) -> [i32; 4]
+    requires { ⌜ i + 4 ≤ length (now numbers) ⌝ }
+    ensures { λ r. ⌜ r ≡ fourOf (now (numbers .entry)) i ⌝ }
+{
+    [numbers[i], numbers[i + 1], numbers[i + 2], numbers[i + 3]]
+}
+
+fn put_area(r: Rect, area: &mut [f32]) -> i32
+    ensures answer { λ n. ⌜ n ≡ statusOf (roomOf (areaNumbers r) (now (area .entry))) ⌝ }
+    ensures output { λ _. ⌜ now (area .exit) ≡ fourOutput (roomOf (areaNumbers r) (now (area .entry))) (now (area .entry)) ⌝ }
+{
+    if area.len() < 4 {
+        return -8;
+    }
+    area[0] = r.x;
+    area[1] = r.y;
+    area[2] = r.w;
+    area[3] = r.h;
+    0
+}
+
+fn put_edges(e: Edges, edges: &mut [i32]) -> i32
+    ensures answer { λ n. ⌜ n ≡ statusOf (roomOf (edgeNumbers e) (now (edges .entry))) ⌝ }
+    ensures output { λ _. ⌜ now (edges .exit) ≡ fourOutput (roomOf (edgeNumbers e) (now (edges .entry))) (now (edges .entry)) ⌝ }
+{
+    if edges.len() < 4 {
+        return -8;
+    }
+    let left = e.left;
+    let top = e.top;
+    let right = e.right;
+    let bottom = e.bottom;
+    edges[0] = left;
+    edges[1] = top;
+    edges[2] = right;
+    edges[3] = bottom;
+    0
+}

@@ -1,0 +1,79 @@
+/* Thumb control layouts for film tablets: the functions of libthumb_layout.a.
+
+   Build the library with `rt staticlib thumb_layout` at the repository's root; it comes to target/staticlib/ and links into
+   x86-64 Linux programs. It needs memcpy, memmove and memset of the C library, and nothing else.
+
+   Each function is proved, for every input, to give the answer and the output that its definition gives
+   (crates/thumb_layout/specs/Interface.antt). This header is written by hand: nothing checks it against the source.
+
+   Answers
+     0 or more: what the function says below.
+     Below 0: minus the number of a refusal, and then no element of a lent output has changed.
+
+   What the caller sees to
+     - A pointer comes with a length in elements. It points to that many elements, aligned and initialised; those of an output
+       too, since they stay as they are where the function writes nothing. With length 0 the pointer may be NULL.
+     - An output overlaps no other argument, and no other thread touches it during the call.
+     - Floats are computed as C starts a program: rounding to nearest, no flushing to zero.
+
+   There is no state: nothing is kept between calls, nothing is allocated, and threads may call at the same time. */
+#ifndef THUMB_LAYOUT_H
+#define THUMB_LAYOUT_H
+
+#include <stddef.h>
+#include <stdint.h>
+
+#ifdef __cplusplus
+extern "C" {
+#endif
+
+/* The refusals. The first faulty field of an order decides. */
+enum tl_refusal {
+    TL_CUT_OFF = 1,         /* a header or value runs past the end */
+    TL_OUT_OF_TURN = 2,     /* a tag that is not 1 to 7, or not above the one before */
+    TL_BAD_LENGTH = 3,      /* a field, or a list of numbers, of another length than it must have */
+    TL_NO_SCREEN = 4,       /* the order ends without a screen */
+    TL_ODD_MARK = 5,        /* a reserved bit set, or a fit above 2 */
+    TL_OFF_THE_SCALE = 6,   /* a number outside its limits */
+    TL_OVERFULL = 7,        /* over 16 cutouts or 32 saved rectangles */
+    TL_SHEET_TOO_SMALL = 8  /* an output too short for the answer */
+};
+
+/* Bytes of a layout: standard, analog, psp. An output of TL_LAYOUT_MOST bytes has room for any. */
+enum { TL_LAYOUT_STANDARD = 285, TL_LAYOUT_ANALOG = 353, TL_LAYOUT_PSP = 265, TL_LAYOUT_MOST = 353 };
+
+/* The layout of an order, written to `out`.
+   Fields of the layout: a tag of one byte, a length of two bytes (high byte first), the value. Tag 1 is the game, four f32 of four
+   bytes each (high byte first): x, y, w, h. Tag 2 has the elements, 16 bytes each: the d-pad, the controls, pause, playback, speed,
+   mute, then the sticks. Tag 3 has a button mask of two bytes for each control.
+   Answers: the number of bytes written, 285, 353 or 265; later bytes of `out` stay. Or -1 to -8. */
+int32_t tl_layout(const uint8_t *order, size_t order_len, uint8_t *out, size_t out_len);
+
+/* The buttons that a touch at x, y presses on the order's layout; `previous` is the mask of the touch before.
+   Any x and y, also infinities and NaN.
+   Answers: the mask, 0 to 65,535. Or -1 to -7. */
+int32_t tl_touch(const uint8_t *order, size_t order_len, float x, float y, uint16_t previous);
+
+/* The layout of a viewport, written as tl_layout does: the order's screen (tag 1) is the place of the controls, its tag 2 the picture;
+   tags 3 to 7 as in any order. Both tops lie in -8,192 to 8,192, and reusable_top is at least 0; else -6, if the order has no fault.
+   Answers: the number of bytes written. Or -1 to -8. */
+int32_t tl_viewport_layout(const uint8_t *order, size_t order_len, float reusable_top, float covered_top, uint8_t *out, size_t out_len);
+
+/* The part of a screen inside the system's edges.
+   numbers: eight: size w, h, the size w, h at which the edges were measured, the edges left, top, right, bottom.
+   area: x, y, w, h are written to the first four; later ones stay.
+   Answers: 0. Or -3 if n is not 8, then -6 if a number is outside -8,192 to 8,192, then -8 if area_len is below 4. */
+int32_t tl_safe_content(const int32_t *numbers, size_t n, float *area, size_t area_len);
+
+/* The edges that decoration, navigation and a camera leave free.
+   numbers: twelve: left, top, right, bottom of decoration, of navigation, of the camera.
+   local_side_camera: 0, or anything else for a camera at a side that is an obstacle of its own; then it has no edge left and right.
+   edges: left, top, right, bottom are written to the first four; later ones stay.
+   Answers: 0. Or -3 if n is not 12, then -6 and -8 as above. */
+int32_t tl_safe_edges(const int32_t *numbers, size_t n, uint8_t local_side_camera, int32_t *edges, size_t edges_len);
+
+#ifdef __cplusplus
+}
+#endif
+
+#endif

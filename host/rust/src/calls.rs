@@ -1,0 +1,126 @@
+//! The library's functions. host/include/thumb_layout.h says what each
+//! pointer, length and answer is.
+use crate::{Rect, Refusal};
+
+unsafe extern "C" {
+    fn tl_layout(order: *const u8, order_len: usize, out: *mut u8, out_len: usize) -> i32;
+    fn tl_touch(order: *const u8, order_len: usize, x: f32, y: f32, previous: u16) -> i32;
+    fn tl_viewport_layout(
+        order: *const u8,
+        order_len: usize,
+        reusable_top: f32,
+        covered_top: f32,
+        out: *mut u8,
+        out_len: usize,
+    ) -> i32;
+    fn tl_safe_content(numbers: *const i32, n: usize, area: *mut f32, area_len: usize) -> i32;
+    fn tl_safe_edges(
+        numbers: *const i32,
+        n: usize,
+        local_side_camera: u8,
+        edges: *mut i32,
+        edges_len: usize,
+    ) -> i32;
+}
+
+/// A number that is not below 0, or the refusal that it is minus the number of.
+fn answer(number: i32) -> Result<u32, Refusal> {
+    u32::try_from(number).map_err(|_| {
+        let found = Refusal::ALL
+            .into_iter()
+            .find(|r| i32::from(r.number()) == -number);
+        found.expect("an answer below 0 is -1 to -8")
+    })
+}
+
+/// Writes the layout of an order to the start of `out`, and gives the number
+/// of bytes: 285, for analog 353, for a psp 265. Later bytes stay.
+pub fn layout(order: &[u8], out: &mut [u8]) -> Result<usize, Refusal> {
+    // SAFETY: each pointer is passed with the length of what it points to.
+    let number = unsafe { tl_layout(order.as_ptr(), order.len(), out.as_mut_ptr(), out.len()) };
+    Ok(answer(number)? as usize)
+}
+
+/// The mask of the buttons that a touch at any point presses on the layout of
+/// an order; `previous` is the mask of the touch before.
+pub fn touch(order: &[u8], x: f32, y: f32, previous: u16) -> Result<u16, Refusal> {
+    // SAFETY: the pointer is passed with the length of what it points to.
+    let number = unsafe { tl_touch(order.as_ptr(), order.len(), x, y, previous) };
+    Ok(answer(number)? as u16)
+}
+
+/// Writes the layout of a viewport as [`layout`] does: the order's tag 1 is
+/// the place of the controls, its tag 2 the picture. The tops are in -8,192 to
+/// 8,192, and `reusable_top` is at least 0.
+pub fn viewport_layout(
+    order: &[u8],
+    reusable_top: f32,
+    covered_top: f32,
+    out: &mut [u8],
+) -> Result<usize, Refusal> {
+    // SAFETY: each pointer is passed with the length of what it points to.
+    let number = unsafe {
+        tl_viewport_layout(
+            order.as_ptr(),
+            order.len(),
+            reusable_top,
+            covered_top,
+            out.as_mut_ptr(),
+            out.len(),
+        )
+    };
+    Ok(answer(number)? as usize)
+}
+
+/// The part of a screen of this size inside the edges (left, top, right,
+/// bottom), which count only if they were measured at the same size.
+/// Each number is in -8,192 to 8,192.
+pub fn safe_content(
+    size: [i32; 2],
+    inset_size: [i32; 2],
+    edges: [i32; 4],
+) -> Result<Rect, Refusal> {
+    let mut numbers = [0; 8];
+    numbers[..2].copy_from_slice(&size);
+    numbers[2..4].copy_from_slice(&inset_size);
+    numbers[4..].copy_from_slice(&edges);
+    let mut area = [0.; 4];
+    // SAFETY: each pointer is passed with the length of what it points to.
+    let number = unsafe {
+        tl_safe_content(
+            numbers.as_ptr(),
+            numbers.len(),
+            area.as_mut_ptr(),
+            area.len(),
+        )
+    };
+    answer(number)?;
+    let [x, y, w, h] = area;
+    Ok(Rect { x, y, w, h })
+}
+
+/// The edges (left, top, right, bottom) that decoration, navigation and a
+/// camera leave free. A local side camera is an obstacle of its own and has no
+/// edge left and right. Each number is in -8,192 to 8,192.
+pub fn safe_edges(
+    decoration: [i32; 4],
+    navigation: [i32; 4],
+    camera: [i32; 4],
+    local_side_camera: bool,
+) -> Result<[i32; 4], Refusal> {
+    let numbers = [decoration, navigation, camera];
+    let numbers = numbers.as_flattened();
+    let mut edges = [0; 4];
+    // SAFETY: each pointer is passed with the length of what it points to.
+    let number = unsafe {
+        tl_safe_edges(
+            numbers.as_ptr(),
+            numbers.len(),
+            local_side_camera.into(),
+            edges.as_mut_ptr(),
+            edges.len(),
+        )
+    };
+    answer(number)?;
+    Ok(edges)
+}

@@ -1,0 +1,18 @@
+//! Thumb control layouts for film tablets.
+//!
+//! A safe wrapper of the proved library libthumb_layout.a
+//! (`rt staticlib thumb_layout` builds it). Nothing is kept between calls, and
+//! every function may be called from any thread. A refused call changes no
+//! element of an output.
+
+mod calls;
+mod layout;
+mod refusal;
+
+pub use calls::{layout, safe_content, safe_edges, touch, viewport_layout};
+pub use layout::{Layout, Rect};
+pub use refusal::Refusal;
+
+/// Bytes of the longest layout, an analog one. A standard one takes 285, one
+/// of a psp 265.
+pub const LAYOUT_MOST: usize = 353;

@@ -1,0 +1,95 @@
+/* Calls every function of the library, with buffers of exactly the length that is passed, and without pointers where the length is 0. */
+#include "thumb_layout.h"
+#include <math.h>
+#include <stdio.h>
+#include <stdlib.h>
+#include <string.h>
+
+static int failures = 0;
+
+static void expect(int line, long got, long want)
+{
+    if (got != want) {
+        fprintf(stderr, "calls.c:%d: %ld, not %ld\n", line, got, want);
+        failures++;
+    }
+}
+
+#define EXPECT(got, want) expect(__LINE__, (got), (want))
+
+/* document 01's example: a screen of 1,000 by 1,000 */
+static const uint8_t standard[] = {1, 0, 8, 0x44, 0x7A, 0, 0, 0x44, 0x7A, 0, 0};
+
+static const uint8_t psp[] = {1, 0, 8, 0x44, 0x7A, 0, 0, 0x44, 0x7A, 0, 0, 3, 0, 1, 1};
+
+/* A layout into `room` bytes: the answer, and that no byte past it has changed. */
+static void layout(int line, const uint8_t *order, size_t length, size_t room, int viewport, long want)
+{
+    uint8_t *out = malloc(room ? room : 1);
+    if (!out)
+        abort();
+    memset(out, 0xAA, room);
+    long got = viewport ? tl_viewport_layout(order, length, 0, 0, out, room) : tl_layout(order, length, out, room);
+    expect(line, got, want);
+    for (size_t i = got < 0 ? 0 : (size_t)got; i < room; i++)
+        expect(line, out[i], 0xAA);
+    free(out);
+}
+
+static void orders(void)
+{
+    for (int viewport = 0; viewport < 2; viewport++) {
+        layout(__LINE__, standard, sizeof standard, 285, viewport, 285);
+        layout(__LINE__, standard, sizeof standard, 300, viewport, 285);
+        layout(__LINE__, standard, sizeof standard, 284, viewport, -8);
+        layout(__LINE__, psp, sizeof psp, 265, viewport, 265);
+        layout(__LINE__, standard, sizeof standard - 1, 285, viewport, -1);
+        layout(__LINE__, standard, 0, 285, viewport, -4);
+    }
+    EXPECT(tl_layout(NULL, 0, NULL, 0), -4);
+    EXPECT(tl_layout(standard, sizeof standard, NULL, 0), -8);
+    EXPECT(tl_viewport_layout(standard, sizeof standard, -1, 0, NULL, 0), -6);
+    EXPECT(tl_viewport_layout(standard, sizeof standard, 0, NAN, NULL, 0), -6);
+    EXPECT(tl_viewport_layout(NULL, 0, NAN, NAN, NULL, 0), -4);
+    /* the example's triangle is 63.9 wide at 876, 830 */
+    EXPECT(tl_touch(standard, sizeof standard, 908, 862, 0), 1 << 9);
+    EXPECT(tl_touch(standard, sizeof standard, NAN, INFINITY, 0xFFFF), 0);
+    EXPECT(tl_touch(NULL, 0, 0, 0, 0), -4);
+}
+
+static void safe_area(void)
+{
+    int32_t content[] = {800, 600, 800, 600, 10, 20, 30, 40};
+    float area[5] = {-1, -1, -1, -1, -1};
+    EXPECT(tl_safe_content(content, 7, area, 5), -3);
+    EXPECT(tl_safe_content(content, 8, area, 3), -8);
+    content[7] = 8193;
+    EXPECT(tl_safe_content(content, 8, area, 3), -6);
+    for (int i = 0; i < 5; i++)
+        EXPECT(area[i] == -1, 1);
+    content[7] = 40;
+    EXPECT(tl_safe_content(content, 8, area, 5), 0);
+    EXPECT(area[0] == 10 && area[1] == 20 && area[2] == 760 && area[3] == 540 && area[4] == -1, 1);
+    EXPECT(tl_safe_content(NULL, 0, NULL, 0), -3);
+
+    int32_t margins[] = {1, 2, 3, 4, 0, 5, 0, 0, 9, 9, 9, 9};
+    int32_t edges[5] = {-1, -1, -1, -1, -1};
+    EXPECT(tl_safe_edges(margins, 11, 1, edges, 5), -3);
+    EXPECT(tl_safe_edges(margins, 12, 1, edges, 3), -8);
+    EXPECT(tl_safe_edges(margins, 12, 0xFE, edges, 5), 0);
+    EXPECT(edges[0] == 1 && edges[1] == 9 && edges[2] == 3 && edges[3] == 9 && edges[4] == -1, 1);
+    EXPECT(tl_safe_edges(margins, 12, 0, edges, 4), 0);
+    EXPECT(edges[0] == 9 && edges[1] == 9 && edges[2] == 9 && edges[3] == 9, 1);
+    margins[0] = -8193;
+    EXPECT(tl_safe_edges(margins, 12, 0, edges, 5), -6);
+    EXPECT(tl_safe_edges(NULL, 0, 0, NULL, 0), -3);
+}
+
+int main(void)
+{
+    orders();
+    safe_area();
+    if (failures == 0)
+        puts("calls: ok");
+    return failures != 0;
+}
