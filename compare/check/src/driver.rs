@@ -2,6 +2,7 @@
 use crate::random::Random;
 use player::words::{Value, line, words};
 use std::{
+    collections::BTreeMap,
     fmt,
     panic::{AssertUnwindSafe, catch_unwind},
     time::{Duration, Instant},
@@ -24,7 +25,14 @@ pub struct Summary {
     pub some: u64,
     pub seed: u64,
     pub time: Duration,
+    pub tally: Tally,
 }
+
+/// A class of cases: what it is told by, and its name.
+pub type Class = (&'static str, &'static str);
+
+/// How many cases of each class there were.
+pub type Tally = BTreeMap<Class, u64>;
 
 impl fmt::Display for Summary {
     fn fmt(&self, f: &mut fmt::Formatter) -> fmt::Result {
@@ -39,6 +47,14 @@ impl fmt::Display for Summary {
         )?;
         if self.some < self.cases {
             write!(f, "  {} some", self.some)?;
+        }
+        let mut before = "";
+        for ((by, name), count) in &self.tally {
+            if *by != before {
+                write!(f, "\n  {by}:")?;
+            }
+            write!(f, " {name} {count};")?;
+            before = by;
         }
         Ok(())
     }
@@ -61,10 +77,22 @@ pub fn compare<I: Value, O: Value>(
     ours: impl Fn(&I) -> O + 'static,
     theirs: impl Fn(&I) -> O + 'static,
 ) -> Comparison {
+    compare_classes(name, generate, ours, theirs, |_, _| Vec::new())
+}
+
+/// The same, which also counts the cases of each class; `classes` gives those
+/// of a case and their answer to it.
+pub fn compare_classes<I: Value, O: Value>(
+    name: &'static str,
+    generate: impl Fn(&mut Random) -> I + 'static,
+    ours: impl Fn(&I) -> O + 'static,
+    theirs: impl Fn(&I) -> O + 'static,
+    classes: impl Fn(&I, &O) -> Vec<Class> + 'static,
+) -> Comparison {
     Comparison {
         name,
         must_agree: true,
-        run: Box::new(move |name, limits| drive(name, limits, &generate, &ours, &theirs)),
+        run: Box::new(move |name, limits| drive(name, limits, &generate, &ours, &theirs, &classes)),
     }
 }
 
@@ -87,9 +115,11 @@ fn drive<I: Value, O: Value>(
     generate: impl Fn(&mut Random) -> I,
     ours: impl Fn(&I) -> O,
     theirs: impl Fn(&I) -> O,
+    classes: impl Fn(&I, &O) -> Vec<Class>,
 ) -> Summary {
     let start = Instant::now();
     let mut random = Random::new(limits.seed);
+    let mut tally = Tally::new();
     let (mut cases, mut differences, mut some) = (0, 0, 0);
     // The clock is read seldom, so that it takes no time.
     while cases < limits.cases && (cases % 256 != 0 || start.elapsed() < limits.time) {
@@ -97,6 +127,9 @@ fn drive<I: Value, O: Value>(
         let (our, their) = (answer(&ours, &input), answer(&theirs, &input));
         cases += 1;
         some += u64::from(their.as_ref().is_some_and(Value::some));
+        for class in their.iter().flat_map(|their| classes(&input, their)) {
+            *tally.entry(class).or_default() += 1;
+        }
         if !same(&our, &their) {
             differences += 1;
             if differences <= limits.shown {
@@ -114,6 +147,7 @@ fn drive<I: Value, O: Value>(
         some,
         seed: limits.seed,
         time: start.elapsed(),
+        tally,
     }
 }
 

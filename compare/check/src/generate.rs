@@ -200,6 +200,36 @@ pub fn picture(r: &mut Random, [w, h]: [f32; 2]) -> Rect {
     }
 }
 
+/// Arguments of `default_in`: a screen, cutouts, the picture's area.
+pub type Surface = ([f32; 2], Vec<Rect>, Rect);
+
+pub fn surface(r: &mut Random) -> Surface {
+    let screen = tablet(r);
+    (screen, cameras(r, screen), picture(r, screen))
+}
+
+/// Arguments of `analog_camera_rails`: a screen, the picture's area, cutouts,
+/// psp.
+pub type CameraRails = ([f32; 2], Rect, Vec<Rect>, bool);
+
+/// Mostly a picture of whole numbers with about enough beside it for the rails,
+/// on a screen that is about wide and high enough.
+pub fn beside(r: &mut Random) -> CameraRails {
+    let (screen, cutouts, picture) = surface(r);
+    let psp = r.yes();
+    if r.below(4) == 0 {
+        return (screen, picture, cutouts, psp);
+    }
+    let (across, down) = if psp { (30., 17.) } else { (4., 3.) };
+    let units = (r.between(0., 1500.) / across).round();
+    let rails = [184., r.between(170., 400.), r.between(170., 400.)];
+    let w = units * across + 2. * r.pick(&rails);
+    let heights = [360., w / r.between(1.3, 2.5), w / r.between(1.3, 2.5)];
+    let screen = [w, r.pick(&heights)];
+    let picture = Rect::new(picture.x, picture.y, picture.w, units * down);
+    (screen, picture, cameras(r, screen), psp)
+}
+
 /// A saved rectangle: parts of a screen, or any four f32.
 pub fn saved(r: &mut Random) -> Rect {
     if r.below(8) == 0 {

@@ -3,8 +3,8 @@
 use crate::{
     driver::{Comparison, compare},
     generate::{
-        self, any_layout, any_number, any_rect, cameras, layout, number, rect_on, screen, stacked,
-        tablet,
+        self, CameraRails, Surface, any_layout, any_number, any_rect, beside, layout, number,
+        rect_on, screen, stacked, surface, tablet,
     },
     hypot,
     lent::{self, layout_data, list},
@@ -469,40 +469,10 @@ fn dense_holes(r: &mut Random) -> Holes {
     (layout, screen, cutouts)
 }
 
-/// Arguments of `default_in`: a screen, cutouts, the picture's area.
-type Surface = ([f32; 2], Vec<Rect>, Rect);
-
-fn surface(r: &mut Random) -> Surface {
-    let screen = tablet(r);
-    (screen, cameras(r, screen), generate::picture(r, screen))
-}
-
 fn any_surface(r: &mut Random) -> Surface {
     let (screen, _, cutouts) = any_rails(r);
     let rect = r.pick(&[generate::rect, any_rect]);
     (screen, cutouts, rect(r))
-}
-
-/// Arguments of `analog_camera_rails`: a screen, the picture's area, cutouts,
-/// psp.
-type CameraRails = ([f32; 2], Rect, Vec<Rect>, bool);
-
-/// Mostly a picture of whole numbers with about enough beside it for the rails,
-/// on a screen that is about wide and high enough.
-fn beside(r: &mut Random) -> CameraRails {
-    let (screen, cutouts, picture) = surface(r);
-    let psp = r.yes();
-    if r.below(4) == 0 {
-        return (screen, picture, cutouts, psp);
-    }
-    let (across, down) = if psp { (30., 17.) } else { (4., 3.) };
-    let units = (r.between(0., 1500.) / across).round();
-    let rails = [184., r.between(170., 400.), r.between(170., 400.)];
-    let w = units * across + 2. * r.pick(&rails);
-    let heights = [360., w / r.between(1.3, 2.5), w / r.between(1.3, 2.5)];
-    let screen = [w, r.pick(&heights)];
-    let picture = Rect::new(picture.x, picture.y, picture.w, units * down);
-    (screen, picture, cameras(r, screen), psp)
 }
 
 fn any_beside(r: &mut Random) -> CameraRails {

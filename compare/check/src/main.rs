@@ -5,9 +5,9 @@ use std::{process::ExitCode, time::Duration};
 const HELP: &str = "\
 usage: check [--cases N] [--seconds T] [--seed S] [--shown K] [NAME ..]
 Compares functions on generated cases, and prints for each: its name, the
-cases, the differences as numbers, the seed, the time, and where an answer can
-be none or false, how many were not. The first K differing inputs are printed as
-requests for the oracle.
+cases, the differences as numbers, the seed, the time, where an answer can be
+none or false, how many were not, and for orders, how many there were of each
+class. The first K differing inputs are printed as requests for the oracle.
   --cases N    at most N cases for each comparison (1000000)
   --seconds T  at most T seconds for each
   --seed S     the generator's seed (1)
@@ -17,12 +17,11 @@ Status 1 if two functions that must agree differ.";
 
 fn comparisons() -> Vec<Comparison> {
     let list = check::hypot::comparisons();
-    #[cfg(feature = "library")]
-    let list = list.chain(check::library::comparisons());
     #[cfg(feature = "probe")]
     let list = list
         .chain(check::inner::comparisons())
-        .chain(check::picture::comparisons());
+        .chain(check::picture::comparisons())
+        .chain(check::host::comparisons());
     list.collect()
 }
 

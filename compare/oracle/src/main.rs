@@ -11,10 +11,12 @@ Standard output: one answer a line; `error: ...` if there is none.
 
 Words
   f32         its bits as 8 hexadecimal digits (1.0 is 3F800000)
+  byte        2 hexadecimal digits
   bool        0 or 1; other numbers are decimal
   N*kind      N values one after the other
   list(kind)  the count, then the items
   option(kind)  0, or 1 and the value
+  refusable(kind)  0 and the value, or the refusal's number
   rect        x y w h, four f32
   control     rect, then the label's index in
               TRI O X SQ L1 L2 R2 R1 SELECT START L3 R3

@@ -1,5 +1,6 @@
 //! The requests that the oracle answers.
 use player::access::{self, LayoutData, picture};
+use player::order::{self, Answer};
 use player::words::{Rest, Value, line, words};
 use player::{PictureFit, PlayerViewport, Preset, Rect};
 
@@ -112,6 +113,14 @@ requests! {
     capture(layout: LayoutData, w: f32, h: f32) -> Rects = access::capture(&layout, w, h);
     viewport_layout(viewport: PlayerViewport, preset: Preset, cutouts: Rects) -> LayoutData
         = access::viewport_layout(viewport, &preset, &cutouts);
+
+    order_layout(order: Vec<u8>, lent: usize, fill: u8) -> (Answer<usize>, Vec<u8>)
+        = order::lent(lent, fill, |out| order::layout(&order, out));
+    order_touch(order: Vec<u8>, touch: [f32; 2], previous: u16) -> Answer<u16>
+        = order::touch(&order, touch, previous);
+    order_viewport(order: Vec<u8>, tops: [f32; 2], lent: usize, fill: u8)
+        -> (Answer<usize>, Vec<u8>)
+        = order::lent(lent, fill, |out| order::viewport_layout(&order, tops, out));
 }
 
 /// The answer to one request line.

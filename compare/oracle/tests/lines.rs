@@ -38,6 +38,9 @@ fn one_answer_a_line_and_errors_go_on() {
         // -1 is the upper end of a clamp that starts at 0.
         "controls 3F800000 BF800000 00000000 00000000 00000000 00000000 0 0 0",
         "hypot 40400000 40800000",
+        // Cut off after a tag; the two bytes lent stay.
+        "order_layout 1 01 2 0A",
+        "order_touch 1 1 00000000 00000000 0",
     ];
     let answers = [
         "1",
@@ -45,11 +48,13 @@ fn one_answer_a_line_and_errors_go_on() {
         "1 9 3 9",
         "error: empty request",
         "error: no function no_such_function",
-        "error: f32 is missing",
+        "error: an f32 is missing",
         "error: 4.5 is not an f32 in 8 hexadecimal digits",
         "error: 1 words too many",
         "error: the Rust panicked",
         "40A00000",
+        "1 2 0A 0A",
+        "error: 1 is not a byte in 2 hexadecimal digits",
     ];
     assert_eq!(ask(&requests), answers);
 }

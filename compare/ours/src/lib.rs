@@ -1,6 +1,4 @@
-//! Safe wrappers over the functions that Rattle libraries export. The only
-//! unsafe code of the workspace is here.
-#[cfg(feature = "library")]
-pub mod library;
-#[cfg(feature = "probe")]
+//! Safe wrappers over the functions that the library of probe/build exports.
+//! The only unsafe code of the workspace is here.
+pub mod host;
 pub mod probe;

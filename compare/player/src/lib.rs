@@ -1,5 +1,6 @@
 //! input.rs and input/picture.rs as they are, taken from PLAYER_SRC by the
-//! build script, and [`access`] to their functions, private ones included.
+//! build script, [`access`] to their functions, private ones included, and the
+//! [`order`] of document 01 answered by them.
 #![forbid(unsafe_code)]
 
 #[allow(unused)]
@@ -12,6 +13,8 @@ mod saves {
         unreachable!("nothing is saved here")
     }
 }
+pub mod order;
+pub mod sheet;
 pub mod words;
 
 pub use input::access;

@@ -1,7 +1,7 @@
-//! Values as words of a line: an f32 is its bits in 8 hexadecimal digits, any
-//! other number is decimal, a list is its count and its items, an optional
-//! value is 0, or 1 and the value, a value that may be refused is 0 and the
-//! value, or the refusal's number.
+//! Values as words of a line: an f32 is its bits in 8 hexadecimal digits, a
+//! byte has 2 of them, any other number is decimal, a list is its count and its
+//! items, an optional value is 0, or 1 and the value, a value that may be
+//! refused is 0 and the value, or the refusal's number.
 use crate::access::{ControlData, LABELS, LayoutData};
 use crate::{PictureFit, PlayerViewport, Preset, Rect};
 use std::fmt;
@@ -9,6 +9,7 @@ use std::fmt;
 #[derive(Clone, Copy, Debug)]
 pub enum Word {
     Float(f32),
+    Byte(u8),
     Number(i64),
 }
 
@@ -17,6 +18,7 @@ impl Word {
     pub fn same(self, other: Self) -> bool {
         match (self, other) {
             (Self::Float(a), Self::Float(b)) => a == b || a.is_nan() && b.is_nan(),
+            (Self::Byte(a), Self::Byte(b)) => a == b,
             (Self::Number(a), Self::Number(b)) => a == b,
             _ => false,
         }
@@ -27,6 +29,7 @@ impl fmt::Display for Word {
     fn fmt(&self, f: &mut fmt::Formatter) -> fmt::Result {
         match self {
             Self::Float(x) => write!(f, "{:08X}", x.to_bits()),
+            Self::Byte(b) => write!(f, "{b:02X}"),
             Self::Number(n) => write!(f, "{n}"),
         }
     }
@@ -63,6 +66,17 @@ fn next<'a>(rest: &mut Rest<'a>, kind: &str) -> Result<&'a str, String> {
     rest.next().ok_or_else(|| format!("{kind} is missing"))
 }
 
+/// A word of so many hexadecimal digits.
+fn digits(rest: &mut Rest, kind: &str, count: usize) -> Result<u32, String> {
+    let word = next(rest, kind)?;
+    if word.len() != count || !word.bytes().all(|b| b.is_ascii_hexdigit()) {
+        return Err(format!(
+            "{word} is not {kind} in {count} hexadecimal digits"
+        ));
+    }
+    u32::from_str_radix(word, 16).map_err(|e| e.to_string())
+}
+
 impl Value for f32 {
     fn kind() -> String {
         "f32".into()
@@ -71,12 +85,19 @@ impl Value for f32 {
         words.push(Word::Float(*self));
     }
     fn take(rest: &mut Rest) -> Result<Self, String> {
-        let word = next(rest, "f32")?;
-        if word.len() != 8 || !word.bytes().all(|b| b.is_ascii_hexdigit()) {
-            return Err(format!("{word} is not an f32 in 8 hexadecimal digits"));
-        }
-        let bits = u32::from_str_radix(word, 16).map_err(|e| e.to_string())?;
-        Ok(f32::from_bits(bits))
+        digits(rest, "an f32", 8).map(f32::from_bits)
+    }
+}
+
+impl Value for u8 {
+    fn kind() -> String {
+        "byte".into()
+    }
+    fn put(&self, words: &mut Vec<Word>) {
+        words.push(Word::Byte(*self));
+    }
+    fn take(rest: &mut Rest) -> Result<Self, String> {
+        digits(rest, "a byte", 2).map(|byte| byte as u8)
     }
 }
 

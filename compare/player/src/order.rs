@@ -1,0 +1,204 @@
+//! The order as document 01 has it, answered by the Rust: its bytes are read,
+//! the Rust lays out, and the layout's bytes are written.
+use crate::access::{self, LABELS, LayoutData};
+use crate::{PictureFit, PlayerViewport, Preset, Rect};
+
+/// An answer, or the number of a refusal.
+pub type Answer<T> = Result<T, i32>;
+
+pub const CUT_OFF: i32 = 1;
+pub const OUT_OF_TURN: i32 = 2;
+pub const BAD_LENGTH: i32 = 3;
+pub const NO_SCREEN: i32 = 4;
+pub const ODD_MARK: i32 = 5;
+pub const OFF_THE_SCALE: i32 = 6;
+pub const OVERFULL: i32 = 7;
+pub const SHEET_TOO_SMALL: i32 = 8;
+
+/// Fails with a refusal unless a rule is kept.
+fn must(kept: bool, refusal: i32) -> Answer<()> {
+    if kept { Ok(()) } else { Err(refusal) }
+}
+
+/// What an order says. An absent picture stays absent: then the Rust has a
+/// function of its own.
+#[derive(Clone)]
+pub struct Settings {
+    pub screen: [f32; 2],
+    pub picture: Option<Rect>,
+    pub preset: Preset,
+    pub cutouts: Vec<Rect>,
+}
+
+impl Settings {
+    pub fn layout(&self) -> LayoutData {
+        let [w, h] = self.screen;
+        match self.picture {
+            Some(picture) => access::layout_in(&self.preset, w, h, &self.cutouts, picture),
+            None => access::layout_with_cutouts(&self.preset, w, h, &self.cutouts),
+        }
+    }
+    pub fn viewport_layout(&self, [reusable_top, covered_top]: [f32; 2]) -> LayoutData {
+        let [w, h] = self.screen;
+        let viewport = PlayerViewport {
+            controls: self.screen,
+            picture: (self.picture).unwrap_or(Rect::new(0., 0., w.max(1.), h.max(1.))),
+            reusable_top,
+            covered_top,
+        };
+        access::viewport_layout(viewport, &self.preset, &self.cutouts)
+    }
+}
+
+/// Each tag's length, or none if it holds rectangles, and how many then.
+const TAGS: [(Option<usize>, usize); 7] = [
+    (Some(8), 0),
+    (Some(16), 0),
+    (Some(1), 0),
+    (Some(1), 0),
+    (Some(12), 0),
+    (None, 16),
+    (None, 32),
+];
+
+/// The settings of an order: "the first faulty field decides".
+pub fn read(order: &[u8]) -> Answer<Settings> {
+    let mut screen = None;
+    let mut settings = Settings {
+        screen: [0.; 2],
+        picture: None,
+        preset: Preset {
+            picture_fit: Some(PictureFit::Maximum),
+            ..Preset::default()
+        },
+        cutouts: Vec::new(),
+    };
+    let (mut rest, mut before) = (order, 0);
+    while !rest.is_empty() {
+        let (&[tag, high, low], after) = rest.split_first_chunk().ok_or(CUT_OFF)?;
+        must((1..=7).contains(&tag) && tag > before, OUT_OF_TURN)?;
+        let length = usize::from(u16::from_be_bytes([high, low]));
+        let (value, after) = after.split_at_checked(length).ok_or(CUT_OFF)?;
+        let (exact, most) = TAGS[usize::from(tag) - 1];
+        match exact {
+            Some(exact) => must(length == exact, BAD_LENGTH)?,
+            None => {
+                must(length % 16 == 0, BAD_LENGTH)?;
+                must(length / 16 <= most, OVERFULL)?;
+            }
+        }
+        let preset = &mut settings.preset;
+        match tag {
+            1 => {
+                let sides = limited(value)?;
+                at_least_0(&sides)?;
+                screen = Some([sides[0], sides[1]]);
+            }
+            2 => {
+                let numbers = limited(value)?;
+                at_least_0(&numbers[2..])?;
+                settings.picture = rects(&numbers).next();
+            }
+            3 => {
+                must(value[0] < 8, ODD_MARK)?;
+                preset.psp = value[0] & 1 != 0;
+                preset.analog = value[0] & 2 != 0;
+                preset.allow_overlap = value[0] & 4 != 0;
+            }
+            4 => {
+                preset.picture_fit = match value[0] {
+                    0 => None,
+                    1 => Some(PictureFit::Maximum),
+                    2 => Some(PictureFit::KeepClear),
+                    _ => return Err(ODD_MARK),
+                }
+            }
+            5 => {
+                let numbers = limited(value)?;
+                preset.game_scale = numbers[0];
+                preset.game_offset = [numbers[1], numbers[2]];
+            }
+            6 => settings.cutouts = rects(&limited(value)?).collect(),
+            _ => preset.elements = rects(&numbers(value)).collect(),
+        }
+        (rest, before) = (after, tag);
+    }
+    settings.screen = screen.ok_or(NO_SCREEN)?;
+    Ok(settings)
+}
+
+fn numbers(value: &[u8]) -> Vec<f32> {
+    let (chunks, _) = value.as_chunks();
+    chunks.iter().copied().map(f32::from_be_bytes).collect()
+}
+
+/// Numbers, all of them in the limits.
+fn limited(value: &[u8]) -> Answer<Vec<f32>> {
+    let numbers = numbers(value);
+    must(numbers.iter().all(|n| n.abs() <= 8192.), OFF_THE_SCALE)?;
+    Ok(numbers)
+}
+
+fn at_least_0(numbers: &[f32]) -> Answer<()> {
+    must(numbers.iter().all(|n| *n >= 0.), OFF_THE_SCALE)
+}
+
+fn rects(numbers: &[f32]) -> impl Iterator<Item = Rect> {
+    let (rects, _) = numbers.as_chunks();
+    rects.iter().map(|&[x, y, w, h]| Rect::new(x, y, w, h))
+}
+
+/// A field: its tag, its length, its value.
+pub fn field(tag: u8, value: &[u8]) -> Vec<u8> {
+    let length = value.len() as u16;
+    [&[tag], &length.to_be_bytes()[..], value].concat()
+}
+
+/// A rectangle's bytes, negative zero as plus zero.
+fn rect_bytes(r: Rect) -> Vec<u8> {
+    let bytes = |n: f32| if n == 0. { [0; 4] } else { n.to_be_bytes() };
+    [r.x, r.y, r.w, r.h].map(bytes).concat()
+}
+
+/// A layout's bytes.
+pub fn written(layout: &LayoutData) -> Vec<u8> {
+    let elements = (0..access::element_count(layout)).map(|i| access::element(layout, i));
+    let masks = layout.controls.iter().map(|c| 1u16 << LABELS[c.label].1);
+    [
+        field(1, &rect_bytes(layout.game)),
+        field(2, &elements.flat_map(rect_bytes).collect::<Vec<_>>()),
+        field(3, &masks.flat_map(u16::to_be_bytes).collect::<Vec<_>>()),
+    ]
+    .concat()
+}
+
+/// Writes a layout at the start of the lent bytes: how many there are.
+fn write(layout: &LayoutData, out: &mut [u8]) -> Answer<usize> {
+    let bytes = written(layout);
+    let out = out.get_mut(..bytes.len()).ok_or(SHEET_TOO_SMALL)?;
+    out.copy_from_slice(&bytes);
+    Ok(bytes.len())
+}
+
+/// A function's answer, and the bytes lent to it as it leaves them: each was
+/// `fill`.
+pub fn lent<T>(length: usize, fill: u8, call: impl FnOnce(&mut [u8]) -> T) -> (T, Vec<u8>) {
+    let mut out = vec![fill; length];
+    let answer = call(&mut out);
+    (answer, out)
+}
+
+pub fn layout(order: &[u8], out: &mut [u8]) -> Answer<usize> {
+    write(&read(order)?.layout(), out)
+}
+
+pub fn touch(order: &[u8], [x, y]: [f32; 2], previous: u16) -> Answer<u16> {
+    Ok(access::mask_near(&read(order)?.layout(), x, y, previous))
+}
+
+pub fn viewport_layout(order: &[u8], tops: [f32; 2], out: &mut [u8]) -> Answer<usize> {
+    let settings = read(order)?;
+    must(tops.iter().all(|n| n.abs() <= 8192.), OFF_THE_SCALE)?;
+    at_least_0(&tops[..1])?;
+    write(&settings.viewport_layout(tops), out)
+}
