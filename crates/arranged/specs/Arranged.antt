@@ -3,7 +3,7 @@ use mathlib.Core.Bool.{Bool, true, false, cond, _||_}
 use mathlib.Core.List.{List, _∷_, [], foldl}
 use lib.Ieee.{Float, lt}
 use lib.ListN.{replicate}
-use Rattle.float.specs.Float.{_⊕_, _⊖_, _⊗_, _⊘_, k0, k0·4, k0·5, k1, k2, k3, k4, k8, k16, k20, k24, k32, k48, k56, k64, k76, k80, k84, k96, k100, k112, k122, k128, k140, k160, k168, k196, k200, k224, √2}
+use Rattle.float.specs.Float.{_⊕_, _⊖_, _⊗_, _⊘_, k0, k0·4, k0·5, k1, k2, k3, k4, k8, k16, k20, k24, k32, k48, k56, k64, k76, k80, k84, k96, k100, k112, k122, k128, k140, k160, k168, k196, k200, k224}
 use Rattle.float.specs.MinMax.{minOf, maxOf, clampOf}
 use Rattle.geometry.specs.declared.Rect.{Rect}
 use Rattle.geometry.specs.Rect.{newOf, emptyRect, overlapsOf}

@@ -13,6 +13,7 @@ use Rattle.layout.specs.Lists.{mapFirst}
 use Rattle.numerics.specs.Rects.{OnScreen, margin}
 use Rattle.numerics.specs.Range.{In, at, minus}
 use Rattle.numerics.specs.Each.{Each}
+use Rattle.numerics.specs.Lists.{each-imp}
 use Rattle.numerics.specs.Ranges.{in-more, add-in, sub-in, div-in, placed-in}
 use Rattle.numerics.specs.Literals.{i4√2, f1√2, f2}
 use Rattle.search.specs.Bounded.{Every}
@@ -84,18 +85,19 @@ at-in P Start = P .start
 at-in P L3 = P .l3
 at-in P R3 = P .r3
 
-module _ {A : Type 0} (C : A → Type 0) (g : A → A) (made : (x : A) → C (g x)) where
-  each-mapFirst : (n : ℕ) (xs : List A) → Each C xs → Each C (mapFirst g n xs)
+-- the first elements are changed, so that D holds; of the others C holds still
+module _ {A : Type 0} (C D : A → Type 0) (g : A → A) (made : (x : A) → C x → D (g x)) (kept : (x : A) → C x → D x) where
+  pub each-mapFirst : (n : ℕ) (xs : List A) → Each C xs → Each D (mapFirst g n xs)
   unfolding mapFirst
-  each-mapFirst zero xs e = e
+  each-mapFirst zero xs e = each-imp C D kept xs e
   each-mapFirst (suc n) [] e = tt
-  each-mapFirst (suc n) (x ∷ xs) e = (made x, each-mapFirst n xs (e .1))
+  each-mapFirst (suc n) (x ∷ xs) e = (made x (e .0), each-mapFirst n xs (e .1))
 
 -- what holds at the place of every label
 pub every-placed : {C D : Rect → Type 0} {l : Layout} (p : Places) → Every C D l → ((label : Label) → C (atOf p label)) → Every C D (placedOf l p)
 unfolding placedOf
 every-placed {C} {l = l} p L P =
-    record { dpad = L .dpad; controls = each-mapFirst (λ c. C (c .bounds)) (moved p) (λ c. P (c .label)) (l .count) (l .controls) (L .controls); pause = L .pause; playback = L .playback; speed = L .speed; mute = L .mute; sticks = L .sticks }
+    record { dpad = L .dpad; controls = each-mapFirst (λ c. C (c .bounds)) (λ c. C (c .bounds)) (moved p) (λ c e. P (c .label)) (λ c e. e) (l .count) (l .controls) (L .controls); pause = L .pause; playback = L .playback; speed = L .speed; mute = L .mute; sticks = L .sticks }
 
 pub controls-placed : {C D : Rect → Type 0} {l : Layout} {p : Places} → ((r : Rect) → OnScreen margin r → C r) → Every C D l → PlacesIn p → Every C D (placedOf l p)
 controls-placed {p = p} f L P = every-placed p L (λ label. f (atOf p label) (at-in P label))

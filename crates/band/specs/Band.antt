@@ -1,6 +1,6 @@
 -- `Layout::controller_band` of input.rs: mirrored controls in the room that a picture of full width leaves. Definitions only.
-use mathlib.Core.Bool.{Bool, true, false, cond, _&&_, _||_}
-use mathlib.Core.List.{List, _∷_, []}
+use mathlib.Core.Bool.{Bool, false, cond, _&&_, _||_}
+use mathlib.Core.List.{_∷_, []}
 use mathlib.Core.Option.{Option, some, none}
 use Prim.Native.Nat.{_+_}
 use lib.Ieee.{Float, lt, le, neg}
@@ -15,7 +15,6 @@ use Rattle.layout.specs.Layout.{withDpad}
 use Rattle.layout.specs.Psp.{pspInputsOf}
 use Rattle.search.specs.Search.{placeGameInAspectOf}
 use Rattle.toolbar.specs.Toolbar.{anchorToolbarOf}
-use Rattle.arranged.specs.declared.Faces.{Faces}
 use Rattle.arranged.specs.declared.Places.{Places}
 use Rattle.arranged.specs.Places.{capOf, placeFacesOf, placedOf}
 use Rattle.arranged.specs.Arranged.{arrangedOf, control, middle}

@@ -14,7 +14,7 @@ use Rattle.layout.specs.declared.Label.{Label}
 use Rattle.layout.specs.declared.Layout.{Layout}
 use Rattle.layout.specs.Label.{idOf, maskOf, onPspOf}
 use Rattle.layout.specs.Labels.{labelsOf, standardLabels, analogLabels, pspLabels}
-use Rattle.layout.specs.Layout.{controlsOf}
+use Rattle.layout.specs.Layout.{controlList}
 use Rattle.layout.specs.Lists.{mapFirst, retain}
 use Rattle.layout.specs.Psp.{atMostOneOf, pspInputsOf}
 use Rattle.layout.specs.PspLaws.{psp-controls, psp-labels}
@@ -42,7 +42,7 @@ module _ (w h : Float) (deep : Bool) (b : Band) where
 module _ (l : Layout) where
   psp-count : pspInputsOf l .count ≡ length (labelsOf (pspInputsOf l))
   unfolding pspInputsOf
-  psp-count = ap length (sym (psp-controls l)) ∙ sym (length-map (controlsOf (pspInputsOf l)) (λ (c : Control). c .label))
+  psp-count = ap length (sym (psp-controls l)) ∙ sym (length-map (controlList (pspInputsOf l)) (λ (c : Control). c .label))
 
   pub psp-inputs : (labels : List Label) (sticks : ℕ) → retain onPspOf labels ≡ pspLabels → Inputs labels sticks l → Inputs pspLabels (atMostOneOf sticks) (pspInputsOf l)
   unfolding pspInputsOf

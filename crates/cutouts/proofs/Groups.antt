@@ -14,7 +14,7 @@ use Rattle.layout.specs.declared.Control.{Control}
 use Rattle.layout.specs.declared.Layout.{Layout}
 use Rattle.layout.specs.Actions.{actionElementsOf}
 use Rattle.layout.specs.Label.{isFaceOf}
-use Rattle.layout.specs.Layout.{anyRect, anyControl, controlsOf}
+use Rattle.layout.specs.Layout.{anyRect, anyControl, controlList}
 use Rattle.layout.specs.Lists.{allOf, filterMap, enumerateFrom}
 use Rattle.layout.proofs.Filters.{one-more}
 use Rattle.layout.proofs.Loops.{filterMap-append}
@@ -103,8 +103,8 @@ enumerate-below p n j (x ∷ l) h = go (p (j, x)) (filterMap p (λ e. e .0) (enu
 pub faces-below : (l : Layout) (n : ℕ) → l .count + 1 ≤ n → l .count ≤ length (l .controls) → belowAll n (actionElementsOf l) ≡ true
 unfolding actionElementsOf
 faces-below l n h k =
-    let e : length (controlsOf l) ≡ l .count = length-take-le (l .count) (l .controls) k in
-    enumerate-below (λ e. isFaceOf (e .1 .label)) n 1 (controlsOf l) (omega arith)
+    let e : length (controlList l) ≡ l .count = length-take-le (l .count) (l .controls) k in
+    enumerate-below (λ e. isFaceOf (e .1 .label)) n 1 (controlList l) (omega arith)
 
 -- the first elements give no more than all of them
 pub fewer : {A B : Type 0} (p : A → Bool) (f : A → B) (l : List A) (i : ℕ) → length (filterMap p f (take i l)) ≤ length (filterMap p f l)

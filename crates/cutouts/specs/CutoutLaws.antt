@@ -18,7 +18,7 @@ use Rattle.layout.specs.declared.Control.{Control}
 use Rattle.layout.specs.declared.Label.{Label}
 use Rattle.layout.specs.Label.{isFaceOf}
 use Rattle.layout.specs.Labels.{labelsOf}
-use Rattle.layout.specs.Layout.{anyRect, controlsOf, elementsOf}
+use Rattle.layout.specs.Layout.{anyRect, controlList, elementsOf}
 use Rattle.layout.specs.Lists.{allOf, find, filterMap, retain, enumerateFrom}
 use Rattle.layout.specs.SetElementLaws.{Kept, set-elements-kept, set-elements-list}
 use Rattle.moves.specs.declared.Move.{Move}
@@ -141,4 +141,4 @@ count-faces j (c ∷ cs) = go (isFaceOf (c .label)) _ _ (count-faces (suc j) cs)
 
 pub face-count : (l : Layout) (labels : List Label) → labelsOf l ≡ labels → length (actionElementsOf l) ≡ length (retain isFaceOf labels)
 unfolding actionElementsOf
-face-count l labels e = count-faces 1 (controlsOf l) ∙ ap (λ (ks : List Label). length (retain isFaceOf ks)) e
+face-count l labels e = count-faces 1 (controlList l) ∙ ap (λ (ks : List Label). length (retain isFaceOf ks)) e

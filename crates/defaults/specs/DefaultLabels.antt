@@ -18,7 +18,7 @@ use Rattle.layout.specs.declared.Label.{Label}
 use Rattle.layout.specs.declared.Label.the-variants.{L3, R3}
 use Rattle.layout.specs.declared.Layout.{Layout}
 use Rattle.layout.specs.Label.{idOf, maskOf, onPspOf}
-use Rattle.layout.specs.Layout.{withBounds, controlsOf, elementsOf, elementCountOf}
+use Rattle.layout.specs.Layout.{withBounds, controlList, elementsOf, elementCountOf}
 use Rattle.layout.specs.Elements.{replaceFirst, setElementsOf}
 use Rattle.layout.specs.Lists.{mapFirst, retain}
 use Rattle.layout.specs.ListLaws.{retain-fewer}
@@ -80,11 +80,11 @@ with-analog-arrays l l3 r3 left right a = (rw (length-set, length-set) (a .0), r
 pub psp-arrays : (l : Layout) → l .count ≤ 12 → Arrays l → Arrays (pspInputsOf l)
 unfolding pspInputsOf
 psp-arrays l n a =
-    let kept = retain onPsp (controlsOf l) in
+    let kept = retain onPsp (controlList l) in
     let c = a .0 in
     let d = length-drop (length kept) (l .controls) in
-    let e = retain-fewer onPsp (controlsOf l) in
-    let f : length (controlsOf l) ≡ l .count = length-take-le (l .count) (l .controls) (omega arith) in
+    let e = retain-fewer onPsp (controlList l) in
+    let f : length (controlList l) ≡ l .count = length-take-le (l .count) (l .controls) (omega arith) in
     (rw length-append (omega arith), a .1)
 
 banded-arrays : (w h : Float) (analog deep : Bool) (b : Band) → Arrays (bandedOf w h analog deep b)
@@ -131,7 +131,7 @@ with-analog-inputs l l3 r3 left right i a =
     let n = i .1 in
     let m = a .0 in (
       ap (map (λ (c : Control). c .label)) (take-two (l .count) (l .controls) (control l3 L3) (control r3 R3) (omega arith))
-          ∙ map-append (λ (c : Control). c .label) (controlsOf l) _
+          ∙ map-append (λ (c : Control). c .label) (controlList l) _
           ∙ ap (λ (t : List Label). t ++ (L3 ∷ R3 ∷ [])) (i .0),
       omega arith,
       refl,

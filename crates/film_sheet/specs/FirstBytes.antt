@@ -10,7 +10,7 @@ use lib.ListN.{length, take, drop, length-append, length-drop, take-append-drop}
 use lib.Seq.{length-take-le, take-all, take-append-le, drop-append-le}
 use Rattle.geometry.specs.Answer.{Answer, accepted, refused}
 use Rattle.numerics.specs.Each.{Each}
-use Rattle.numerics.specs.Lists.{each-take}
+use Rattle.numerics.specs.Lists.{each-take, each-drop}
 use Rattle.settings.specs.declared.Settings.{Settings}
 use Rattle.reader.specs.declared.Tag.{Tag}
 use Rattle.reader.specs.declared.Tag.the-variants as Tag
@@ -47,11 +47,6 @@ short-value Tag.Saved v s e =
 abbrev pub Byte : ℕ → Type 0
 Byte b = b < 256
 
-each-drop : (n : ℕ) (xs : List ℕ) → Each Byte xs → Each Byte (drop n xs)
-each-drop zero xs e = e
-each-drop (suc n) [] e = tt
-each-drop (suc n) (x ∷ xs) e = each-drop n xs (e .1)
-
 then-same : {A B : Type 0} (a : Answer A) {f g : A → Answer B} → ((x : A) → a ≡ accepted x → f x ≡ g x) → andThen a f ≡ andThen a g
 then-same (accepted x) h = h x refl
 then-same (refused n) h = refl
@@ -68,7 +63,7 @@ fields-first (suc turns) last screen s (tag ∷ high ∷ low ∷ xs) ys b h =
     let more : n ≤ length (xs ++ ys) = omega (arith, length-append xs ys) in
     rw (le-leb n (length xs) most, le-leb n (length (xs ++ ys)) more, take-append-le n xs ys most, drop-append-le n xs ys most)
     (ap (must _ 2) (ap (must true 1) (then-same (readFieldOf (fromByteOf tag) (take n xs) s)
-    (λ t e. fields-first turns tag (screen || eqb tag 1) t (drop n xs) ys (each-drop n xs (b .1 .1 .1))
+    (λ t e. fields-first turns tag (screen || eqb tag 1) t (drop n xs) ys (each-drop Byte n xs (b .1 .1 .1))
     (omega (arith, length-drop n xs, length-take-le n xs most, short-value (fromByteOf tag) (take n xs) s e))))))
 
 pub first-bytes : (order : List ℕ) → Each Byte order → (n : ℕ) → 69658 ≤ n → readOrderOf (take n order) ≡ readOrderOf order

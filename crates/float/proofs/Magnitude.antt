@@ -1,8 +1,8 @@
 -- Comparisons with zero give the magnitude of a float.
 use mathlib.Core.Path.{_≡_, refl}
-use mathlib.Core.Bool.{Bool, true, false, not, _&&_, _||_, Bool·beq, cond}
-use Prim.Native.Nat.{ℕ, zero, suc, _+_, _*_, _^_, _<_, _≤_}
-use lib.Dec.{T, ltb, eqb, eqb→eq}
+use mathlib.Core.Bool.{true, false, cond}
+use Prim.Native.Nat.{ℕ, zero, suc, _+_, _*_, _^_, _<_}
+use lib.Dec.{T, eqb, eqb→eq}
 use lib.Pow.{pow-pos, pow-lt}
 use native.Mathlib.Nat.{mul-pos}
 use native.Mathlib.Omega.{arith}

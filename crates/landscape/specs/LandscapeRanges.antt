@@ -1,7 +1,7 @@
 -- `fit_landscape_controls` keeps a layout in range, on screens up to 8192 by 8192, and its game the widest.
 use mathlib.Core.Bool.{Bool, true, false, cond, not, _||_}
 use mathlib.Core.List.{List, [], _∷_}
-use Prim.Native.Nat.{ℕ, zero, suc, _+_, _≤_, _<_}
+use Prim.Native.Nat.{ℕ, zero, _+_, _≤_, _<_}
 use native.Mathlib.Nat.{mul-le-mul-left}
 use native.Mathlib.Omega.{arith}
 use lib.Dec.{T, leb, leb→le, ltb}
@@ -17,7 +17,7 @@ use Rattle.layout.specs.declared.Layout.{Layout}
 use Rattle.layout.specs.Actions.{joinOf, actionBoundsOf}
 use Rattle.layout.specs.ActionLaws.{action-bounds}
 use Rattle.layout.specs.Label.{isFaceOf}
-use Rattle.layout.specs.Layout.{anyRect, controlsOf, elementsOf}
+use Rattle.layout.specs.Layout.{anyRect, controlList, elementsOf}
 use Rattle.layout.specs.Lists.{mapFirst, filterMap, reduce}
 use Rattle.numerics.specs.Value.{AtMost, eps, limit}
 use Rattle.numerics.specs.Rects.{Area, Element, OnScreen, maxArea, maxCorner, maxSide}
@@ -36,6 +36,7 @@ use Rattle.search.proofs.Layouts.{place-bounded, place-game-in, place-widest}
 use Rattle.search.proofs.Placement.{each-filter}
 use Rattle.search.proofs.Shapes.{Shape}
 use Rattle.arranged.specs.Arranged.{middle}
+use Rattle.arranged.specs.PlaceRanges.{each-mapFirst}
 use Rattle.moves.specs.declared.Move.the-variants.{Go}
 use Rattle.moves.specs.Moves.{movedOf}
 use Rattle.landscape.specs.declared.Row.{Row}
@@ -116,8 +117,8 @@ boxes-corner (r ∷ rs) e = fold-ind Corner Corner joinOf join-corner rs r (e .0
 actions-in : (l : Layout) → l .count ≤ length (l .controls) → Each (λ c. Old (c .bounds)) (l .controls) → Corner (actionBoundsOf l)
 actions-in l cs e =
     rw (action-bounds l cs)
-    (boxes-corner (filterMap (λ c. isFaceOf (c .label)) (λ c. c .bounds) (controlsOf l))
-    (each-filter (λ c. isFaceOf (c .label)) (λ c. c .bounds) (λ c. Old (c .bounds)) Corner (λ c P. record { x = P .x; y = P .y }) (controlsOf l) (each-take (λ c. Old (c .bounds)) (l .count) (l .controls) e)))
+    (boxes-corner (filterMap (λ c. isFaceOf (c .label)) (λ c. c .bounds) (controlList l))
+    (each-filter (λ c. isFaceOf (c .label)) (λ c. c .bounds) (λ c. Old (c .bounds)) Corner (λ c P. record { x = P .x; y = P .y }) (controlList l) (each-take (λ c. Old (c .bounds)) (l .count) (l .controls) e)))
 
 -- ---- the places
 module _ {r : Row} {dx dy : Float} (R : RowIn r) (DX : In dx (minus 17500) (at 9100)) (DY : In dy (minus 9300) (at 9300)) where
@@ -141,10 +142,7 @@ module _ {r : Row} {dx dy : Float} (R : RowIn r) (DX : In dx (minus 17500) (at 9
 
   -- the controls past the first n are on the screen as they were
   controls-in : (n : ℕ) (cs : List Control) → Each (λ c. Old (c .bounds)) cs → Each (λ c. Element (c .bounds)) (mapFirst (inRow r dx dy) n cs)
-  unfolding mapFirst
-  controls-in zero cs e = each-imp (λ c. Old (c .bounds)) (λ c. Element (c .bounds)) (λ c P. placed-element P tt) cs e
-  controls-in (suc n) [] e = tt
-  controls-in (suc n) (c ∷ cs) e = (place-in (e .0) (c .label), controls-in n cs (e .1))
+  controls-in n cs e = each-mapFirst (λ c. Old (c .bounds)) (λ c. Element (c .bounds)) (inRow r dx dy) (λ c B. place-in B (c .label)) (λ c P. placed-element P tt) n cs e
 
 sticks-in : {r : Row} → RowIn r → (sticks : List Rect) (count : ℕ) → Each Element sticks → Each Element (rowSticksOf sticks count r)
 unfolding rowSticksOf

@@ -5,10 +5,10 @@ use mathlib.Core.List.{List, [], _∷_, _++_, map, foldl, foldl-append, append-a
 use Prim.Native.Nat.{ℕ, zero, suc, _+_, _-_, _<_, _≤_}
 use native.Mathlib.Numerals.{add-one}
 use native.Mathlib.Omega.{arith}
-use lib.ListN.{length, take, drop, getD, set, length-take, length-map, drop-of-length-le}
+use lib.ListN.{length, take, drop, getD, set, length-map, drop-of-length-le}
 use lib.Seq.{take-suc, take-suc-set, drop-cons, getD-take, length-take-le}
 use borrow.Author.Needs.{length-unmapped}
-use Rattle.layout.specs.Lists.{anyOf, allOf, mapFirst, find, flatMap, filterMap}
+use Rattle.layout.specs.Lists.{anyOf, allOf, mapFirst, flatMap, filterMap}
 
 -- the length of an array of structs, as owning it tells
 pub length-mapped : (X Y : Type 0) (f : X → Y) (l : List X) (n : ℕ) → length (map f l) ≡ n → length l ≡ n
@@ -60,20 +60,7 @@ module _ {A B : Type 0} where
   pub take-first : (f : A → B) (x : B) (n : ℕ) (l : List A) → take (n + 1) (x ∷ map f l) ≡ x ∷ map f (take n l)
   take-first f x n l = rw add-one (ap (λ t. x ∷ t) (take-map f n l))
 
--- ---- searches that stop at the first element that passes a test; the invariant: the elements passed leave the answer to the others
-module _ {A B : Type 0} (p : A → Bool) (hit : A → B) (none : B) (l : List A) (n i : ℕ) where
-  abbrev pub Passed : Type 0
-  Passed = find p hit none (take n l) ≡ find p hit none (drop i (take n l))
-
-  pub find-here : (d : A) {t : Bool} → i < n → n ≤ length l → Passed → t ≡ p (getD l i d) → t ≡ true → hit (getD l i d) ≡ find p hit none (take n l)
-  find-here d h k s e t = rw (s, next-of d l (length l) n i refl k h, ← e, t)
-
-  pub find-next : (d : A) {t : Bool} → i < n → n ≤ length l → Passed → t ≡ p (getD l i d) → t ≡ false → find p hit none (take n l) ≡ find p hit none (drop (i + 1) (take n l))
-  find-next d h k s e t = s ∙ rw (next-of d l (length l) n i refl k h, ← e, t)
-
-  pub find-end : n ≤ i → Passed → none ≡ find p hit none (take n l)
-  find-end h s = let e : length (take n l) ≤ i = rw length-take (omega arith) in rw (s, drop-of-length-le (take n l) e)
-
+-- ---- searches that stop at the first element that decides; k is the answer of the whole list
 module _ {A : Type 0} where
   pub any-hit : (p : A → Bool) (l t : List A) (x : A) (k b : Bool) → anyOf p l ≡ k → l ≡ x ∷ t → b ≡ p x → b ≡ true → true ≡ k
   unfolding anyOf
@@ -105,10 +92,6 @@ module _ {A B : Type 0} where
   pub flat-step : (s s' k : List B) (f : A → List B) (l t : List A) (x : A) → s ++ flatMap f l ≡ k → l ≡ x ∷ t → s' ≡ s ++ f x → s' ++ flatMap f t ≡ k
   unfolding flatMap
   flat-step s s' k f l t x g e p = rw (p, append-assoc) (rw e at g)
-
-  pub flat-end : (s k : List B) (f : A → List B) (l : List A) → s ++ flatMap f l ≡ k → l ≡ [] → s ≡ k
-  unfolding flatMap
-  flat-end s k f l g e = sym (append-nil s) ∙ (rw e at g)
 
 module _ {A B : Type 0} (p : A → Bool) (f : A → B) where
   pub filterMap-append : (l m : List A) → filterMap p f (l ++ m) ≡ filterMap p f l ++ filterMap p f m

@@ -9,7 +9,7 @@ use Rattle.geometry.specs.Rect.{emptyRect}
 use Rattle.layout.specs.declared.Control.{Control}
 use Rattle.layout.specs.declared.Layout.{Layout}
 use Rattle.layout.specs.Label.{isFaceOf}
-use Rattle.layout.specs.Layout.{anyControl, controlsOf, elementOf}
+use Rattle.layout.specs.Layout.{anyControl, controlList, elementOf}
 use Rattle.layout.specs.Lists.{filterMap, reduce, enumerateFrom}
 use Rattle.layout.specs.ListLaws.{map-cond}
 use Rattle.layout.specs.ElementLaws.{by-ltb}
@@ -33,12 +33,12 @@ module _ (l : Layout) where
       (boxes-from cs (suc j) (λ k p. let q : suc (suc j + k) ≡ suc (j + suc k) = omega arith in ap (elementOf l) q ∙ h (suc k) (omega arith)))
 
   -- the elements that `action_elements` names are the face controls
-  pub action-boxes : l .count ≤ length (l .controls) → map (elementOf l) (actionElementsOf l) ≡ filterMap (λ c. isFaceOf (c .label)) (λ c. c .bounds) (controlsOf l)
+  pub action-boxes : l .count ≤ length (l .controls) → map (elementOf l) (actionElementsOf l) ≡ filterMap (λ c. isFaceOf (c .label)) (λ c. c .bounds) (controlList l)
   unfolding actionElementsOf
   action-boxes h =
-      let n : length (controlsOf l) ≡ l .count = length-take-le (l .count) (l .controls) h in
-      boxes-from (controlsOf l) 0 (λ k p. let q : suc (0 + k) ≡ suc k = omega arith in ap (elementOf l) q ∙ sym (element-control k (omega arith)) ∙ ap (λ (c : Control). c .bounds) (sym (getD-take (l .count) (l .controls) k anyControl (omega arith))))
+      let n : length (controlList l) ≡ l .count = length-take-le (l .count) (l .controls) h in
+      boxes-from (controlList l) 0 (λ k p. let q : suc (0 + k) ≡ suc k = omega arith in ap (elementOf l) q ∙ sym (element-control k (omega arith)) ∙ ap (λ (c : Control). c .bounds) (sym (getD-take (l .count) (l .controls) k anyControl (omega arith))))
 
-  pub action-bounds : l .count ≤ length (l .controls) → actionBoundsOf l ≡ reduce joinOf emptyRect (filterMap (λ c. isFaceOf (c .label)) (λ c. c .bounds) (controlsOf l))
+  pub action-bounds : l .count ≤ length (l .controls) → actionBoundsOf l ≡ reduce joinOf emptyRect (filterMap (λ c. isFaceOf (c .label)) (λ c. c .bounds) (controlList l))
   unfolding actionBoundsOf
   action-bounds h = ap (reduce joinOf emptyRect) (action-boxes h)

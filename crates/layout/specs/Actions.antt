@@ -7,12 +7,12 @@ use Rattle.geometry.specs.declared.Rect.{Rect}
 use Rattle.geometry.specs.Rect.{newOf, emptyRect}
 use Rattle.layout.specs.declared.Layout.{Layout}
 use Rattle.layout.specs.Label.{isFaceOf}
-use Rattle.layout.specs.Layout.{controlsOf, elementOf}
+use Rattle.layout.specs.Layout.{controlList, elementOf}
 use Rattle.layout.specs.Lists.{filterMap, reduce, enumerateFrom}
 
 -- the element's index, one above the control's, of each face control
 unfoldable pub actionElementsOf : Layout → List ℕ
-actionElementsOf l = filterMap (λ e. isFaceOf (e .1 .label)) (λ e. e .0) (enumerateFrom 1 (controlsOf l))
+actionElementsOf l = filterMap (λ e. isFaceOf (e .1 .label)) (λ e. e .0) (enumerateFrom 1 (controlList l))
 
 -- the box around two rectangles
 unfoldable pub joinOf : Rect → Rect → Rect

@@ -11,7 +11,7 @@ use lib.Seq.{drop-cons, getD-append-add, getD-take, length-take-le, take-at, tak
 use Rattle.geometry.specs.declared.Rect.{Rect}
 use Rattle.layout.specs.declared.Control.{Control}
 use Rattle.layout.specs.declared.Layout.{Layout}
-use Rattle.layout.specs.Layout.{anyRect, anyControl, controlsOf, sticksOf, elementCountOf, elementOf, elementsOf}
+use Rattle.layout.specs.Layout.{anyRect, anyControl, controlList, stickList, elementCountOf, elementOf, elementsOf}
 use Rattle.layout.specs.Elements.{boundsOf, countFrom, controllerElementsOf}
 
 module _ {A : Type 0} where
@@ -25,18 +25,18 @@ module _ {A : Type 0} where
 
 -- the elements after the controls
 abbrev lastOf : Layout → List Rect
-lastOf l = l .pause ∷ l .playback ∷ l .speed ∷ l .mute ∷ sticksOf l
+lastOf l = l .pause ∷ l .playback ∷ l .speed ∷ l .mute ∷ stickList l
 
 -- the counts are within the arrays
 module _ (l : Layout) (cs : l .count ≤ length (l .controls)) (ss : l .stickcount ≤ length (l .sticks)) where
   pub length-bounds : length (boundsOf l) ≡ l .count
-  length-bounds = length-map (controlsOf l) (λ c. c .bounds) ∙ length-take-le (l .count) (l .controls) cs
+  length-bounds = length-map (controlList l) (λ c. c .bounds) ∙ length-take-le (l .count) (l .controls) cs
 
   pub length-elements : length (elementsOf l) ≡ elementCountOf l
   unfolding elementsOf
   length-elements =
       let a = length-bounds in
-      let b : length (sticksOf l) ≡ l .stickcount = length-take-le (l .stickcount) (l .sticks) ss in
+      let b : length (stickList l) ≡ l .stickcount = length-take-le (l .stickcount) (l .sticks) ss in
       rw length-append (omega arith)
 
   control-at : (j : ℕ) → j < l .count → getD (elementsOf l) (suc j) anyRect ≡ getD (l .controls) j anyControl .bounds
@@ -44,7 +44,7 @@ module _ (l : Layout) (cs : l .count ≤ length (l .controls)) (ss : l .stickcou
   control-at j h =
       let a = length-bounds in
       List·getD-append (boundsOf l) (lastOf l) anyRect j (omega arith)
-      ∙ List·getD-map (λ c. c .bounds) (controlsOf l) j anyControl
+      ∙ List·getD-map (λ c. c .bounds) (controlList l) j anyControl
       ∙ ap (λ (c : Control). c .bounds) (getD-take (l .count) (l .controls) j anyControl h)
 
   last-at : (i k : ℕ) → i ≡ l .count + 1 + k → getD (elementsOf l) i anyRect ≡ getD (lastOf l) k anyRect
@@ -78,11 +78,11 @@ module _ (l : Layout) (cs : l .count ≤ length (l .controls)) (ss : l .stickcou
   first-elements = let n = length-bounds in take-at (l .dpad ∷ boundsOf l) (lastOf l) (l .count + 1) (omega arith)
 
   -- the d-pad, the controls, the sticks
-  pub controller-elements : map (elementOf l) (controllerElementsOf l) ≡ l .dpad ∷ (boundsOf l ++ sticksOf l)
+  pub controller-elements : map (elementOf l) (controllerElementsOf l) ≡ l .dpad ∷ (boundsOf l ++ stickList l)
   unfolding controllerElementsOf elementsOf
   controller-elements =
       let n = length-bounds in
-      let s : length (sticksOf l) ≡ l .stickcount = length-take-le (l .stickcount) (l .sticks) ss in
+      let s : length (stickList l) ≡ l .stickcount = length-take-le (l .stickcount) (l .sticks) ss in
       let a : l .count + 1 - 0 ≡ l .count + 1 = omega arith in
       let b : elementCountOf l - (l .count + 5) ≡ l .stickcount = omega arith in
       let c : l .count + 5 ≡ length (l .dpad ∷ boundsOf l) + 4 = omega arith in
@@ -91,4 +91,4 @@ module _ (l : Layout) (cs : l .count ≤ length (l .controls)) (ss : l .stickcou
       first-elements
       (ap (λ (k : ℕ). take (l .stickcount) (drop k (elementsOf l))) c
       ∙ ap (take (l .stickcount)) (drop-append-add (l .dpad ∷ boundsOf l) (lastOf l) 4)
-      ∙ take-all (l .stickcount) (sticksOf l) (omega arith)))
+      ∙ take-all (l .stickcount) (stickList l) (omega arith)))

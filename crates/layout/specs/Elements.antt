@@ -4,7 +4,7 @@ use Prim.Native.Nat.{ℕ, zero, suc, _+_, _-_}
 use lib.ListN.{take, drop, getD}
 use Rattle.geometry.specs.declared.Rect.{Rect}
 use Rattle.layout.specs.declared.Layout.{Layout}
-use Rattle.layout.specs.Layout.{anyRect, withBounds, controlsOf, elementCountOf}
+use Rattle.layout.specs.Layout.{anyRect, withBounds, controlList, elementCountOf}
 
 module _ {A : Type 0} where
   -- the first n elements from one list, the others from another
@@ -13,7 +13,7 @@ module _ {A : Type 0} where
 
 -- the controls' rectangles
 abbrev pub boundsOf : Layout → List Rect
-boundsOf l = map (λ c. c .bounds) (controlsOf l)
+boundsOf l = map (λ c. c .bounds) (controlList l)
 
 -- k numbers from a on
 abbrev pub countFrom : ℕ → ℕ → List ℕ

@@ -1,7 +1,7 @@
 -- `Layout` of input.rs: its elements by index. Definitions only.
 use mathlib.Core.Bool.{cond}
 use mathlib.Core.List.{List, _∷_, _++_, map}
-use Prim.Native.Nat.{ℕ, zero, suc, _+_, _-_}
+use Prim.Native.Nat.{ℕ, _+_, _-_}
 use lib.Dec.{ltb}
 use lib.Ieee.{nan}
 use lib.ListN.{getD, set, take}
@@ -21,11 +21,11 @@ abbrev pub anyControl : Control
 anyControl = record { bounds = anyRect; label = Tri }
 
 -- the lists that the Rust has, without the unused places of the arrays
-abbrev pub controlsOf : Layout → List Control
-controlsOf l = take (l .count) (l .controls)
+abbrev pub controlList : Layout → List Control
+controlList l = take (l .count) (l .controls)
 
-abbrev pub sticksOf : Layout → List Rect
-sticksOf l = take (l .stickcount) (l .sticks)
+abbrev pub stickList : Layout → List Rect
+stickList l = take (l .stickcount) (l .sticks)
 
 -- the lists that an array and its count stand for
 abbrev pub elementList : Elements → List Rect
@@ -91,4 +91,4 @@ setElementOf l i r =
 -- all elements, in the order of their indices
 unfoldable pub elementsOf : Layout → List Rect
 elementsOf l =
-    l .dpad ∷ (map (λ c. c .bounds) (controlsOf l) ++ (l .pause ∷ l .playback ∷ l .speed ∷ l .mute ∷ sticksOf l))
+    l .dpad ∷ (map (λ c. c .bounds) (controlList l) ++ (l .pause ∷ l .playback ∷ l .speed ∷ l .mute ∷ stickList l))

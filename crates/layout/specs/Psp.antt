@@ -6,7 +6,7 @@ use lib.ListN.{length}
 use Rattle.layout.specs.declared.Control.{Control}
 use Rattle.layout.specs.declared.Layout.{Layout}
 use Rattle.layout.specs.Label.{onPspOf}
-use Rattle.layout.specs.Layout.{controlsOf}
+use Rattle.layout.specs.Layout.{controlList}
 use Rattle.layout.specs.Lists.{retain, compact}
 
 unfoldable pub atMostOneOf : ℕ → ℕ
@@ -22,7 +22,7 @@ pspInputsOf l =
       game = l .game;
       dpad = l .dpad;
       controls = compact onPsp (l .count) (l .controls);
-      count = length (retain onPsp (controlsOf l));
+      count = length (retain onPsp (controlList l));
       pause = l .pause;
       playback = l .playback;
       speed = l .speed;

@@ -8,19 +8,19 @@ use lib.Seq.{take-at, length-take-le}
 use Rattle.layout.specs.declared.Control.{Control}
 use Rattle.layout.specs.declared.Layout.{Layout}
 use Rattle.layout.specs.Label.{idOf, maskOf, onPspOf}
-use Rattle.layout.specs.Layout.{controlsOf}
+use Rattle.layout.specs.Layout.{controlList}
 use Rattle.layout.specs.Lists.{retain}
 use Rattle.layout.specs.ListLaws.{map-retain, retain-fewer}
 use Rattle.layout.specs.Labels.{labelsOf, analogLabels, pspLabels}
 use Rattle.layout.specs.Psp.{onPsp, pspInputsOf}
 
 module _ (l : Layout) where
-  pub psp-controls : controlsOf (pspInputsOf l) ≡ retain onPsp (controlsOf l)
+  pub psp-controls : controlList (pspInputsOf l) ≡ retain onPsp (controlList l)
   unfolding pspInputsOf
-  psp-controls = let kept = retain onPsp (controlsOf l) in take-at kept (drop (length kept) (l .controls)) (length kept) refl
+  psp-controls = let kept = retain onPsp (controlList l) in take-at kept (drop (length kept) (l .controls)) (length kept) refl
 
   pub psp-labels : labelsOf (pspInputsOf l) ≡ retain onPspOf (labelsOf l)
-  psp-labels = ap (map (λ (c : Control). c .label)) psp-controls ∙ map-retain (λ (c : Control). c .label) onPspOf (controlsOf l)
+  psp-labels = ap (map (λ (c : Control). c .label)) psp-controls ∙ map-retain (λ (c : Control). c .label) onPspOf (controlList l)
 
   -- L2, R2, L3 and R3 go
   pub psp-of-analog : labelsOf l ≡ analogLabels → labelsOf (pspInputsOf l) ≡ pspLabels
@@ -30,6 +30,6 @@ module _ (l : Layout) where
   pub psp-fewer : l .count ≤ length (l .controls) → pspInputsOf l .count ≤ l .count
   unfolding pspInputsOf
   psp-fewer h =
-      let a = retain-fewer onPsp (controlsOf l) in
-      let b : length (controlsOf l) ≡ l .count = length-take-le (l .count) (l .controls) h in
+      let a = retain-fewer onPsp (controlList l) in
+      let b : length (controlList l) ≡ l .count = length-take-le (l .count) (l .controls) h in
       omega arith

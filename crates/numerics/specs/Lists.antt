@@ -1,7 +1,8 @@
--- What holds of each element: of a part of a list, of lists joined, and along a fold.
+-- What holds of each element: of one, of a part of a list, of lists joined, and along a fold.
 use mathlib.Core.List.{List, [], _∷_, _++_, map, foldl}
-use Prim.Native.Nat.{ℕ, zero, suc}
-use lib.ListN.{take, set}
+use Prim.Native.Nat.{ℕ, zero, suc, _<_}
+use native.Mathlib.Omega.{arith}
+use lib.ListN.{length, take, drop, getD, set}
 use Rattle.numerics.specs.Each.{Each}
 
 module _ {A : Type 0} (C : A → Type 0) where
@@ -9,6 +10,16 @@ module _ {A : Type 0} (C : A → Type 0) where
   each-take zero xs e = tt
   each-take (suc n) [] e = tt
   each-take (suc n) (x ∷ xs) e = (e .0, each-take n xs (e .1))
+
+  pub each-drop : (n : ℕ) (xs : List A) → Each C xs → Each C (drop n xs)
+  each-drop zero xs e = e
+  each-drop (suc n) [] e = tt
+  each-drop (suc n) (x ∷ xs) e = each-drop n xs (e .1)
+
+  pub each-at : (i : ℕ) (xs : List A) (d : A) → i < length xs → Each C xs → C (getD xs i d)
+  each-at i [] d h e = absurd (let z : ⊥ = omega arith in z)
+  each-at zero (x ∷ xs) d h e = e .0
+  each-at (suc i) (x ∷ xs) d h e = each-at i xs d (omega arith) (e .1)
 
   pub each-append : (xs ys : List A) → Each C xs → Each C ys → Each C (xs ++ ys)
   each-append [] ys e f = f

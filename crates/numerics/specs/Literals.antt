@@ -5,7 +5,7 @@ use native.Mathlib.Nat.{mul-le-mul-right, zero-mul}
 use native.Mathlib.Omega.{arith}
 use lib.Dec.{lit≤}
 use lib.Ieee.{ofBits, add, mul, div}
-use Rattle.float.specs.Float.{_⊕_, _⊗_, _⊘_, k0, k0·01, k0·055, k0·09, k0·15, k0·25, k0·4, k0·5, k0·75, k1, k1·35, k1·4, k2, k3, k3·99, k4, k6, k8, k10, k12, k14, k16, k18, k20, k24, k28, k32, k40, k44, k48, k50, k52, k56, k64, k68, k70, k72, k76, k80, k84, k88, k96, k100, k104, k112, k120, k122, k124, k128, k136, k140, k156, k160, k164, k168, k176, k184, k192, k196, k200, k204, k224, k240, k272, k288, k304, k320, k336, k360, k480, k600, k800, k8192, √2}
+use Rattle.float.specs.Float.{_⊕_, _⊗_, _⊘_, k0, k0·01, k0·055, k0·25, k0·4, k0·5, k0·75, k1, k1·4, k2, k3, k4, k6, k8, k12, k14, k16, k18, k20, k24, k28, k32, k40, k44, k48, k50, k52, k56, k64, k68, k70, k72, k76, k80, k84, k88, k96, k100, k104, k112, k120, k122, k128, k136, k140, k156, k160, k164, k168, k176, k184, k196, k200, k204, k224, k240, k272, k288, k336, k360, k480, k8192, √2}
 use Rattle.numerics.specs.Value.{magnitude, posPart, negPart, eps, limit, AtMost, Fraction, P, N, E}
 use Rattle.numerics.specs.Range.{In, at}
 use Rattle.numerics.specs.Ranges.{literal, range-most}
@@ -16,32 +16,14 @@ i0 = unfold ofBits magnitude posPart negPart eps in (literal refl tt tt)
 pub i0·01 : In k0·01 (limit + 2) (limit + 3)
 i0·01 = unfold ofBits magnitude posPart negPart eps in (literal refl tt tt)
 
-pub i0·055 : In k0·055 (limit + 14) (limit + 15)
-i0·055 = unfold ofBits magnitude posPart negPart eps in (literal refl tt tt)
-
-pub i0·09 : In k0·09 (limit + 23) (limit + 24)
-i0·09 = unfold ofBits magnitude posPart negPart eps in (literal refl tt tt)
-
-pub i0·15 : In k0·15 (limit + 38) (limit + 39)
-i0·15 = unfold ofBits magnitude posPart negPart eps in (literal refl tt tt)
-
 pub i0·25 : In k0·25 (limit + 64) (limit + 64)
 i0·25 = unfold ofBits magnitude posPart negPart eps in (literal refl tt tt)
-
-pub i0·4 : In k0·4 (limit + 102) (limit + 103)
-i0·4 = unfold ofBits magnitude posPart negPart eps in (literal refl tt tt)
 
 pub i0·5 : In k0·5 (limit + 128) (limit + 128)
 i0·5 = unfold ofBits magnitude posPart negPart eps in (literal refl tt tt)
 
-pub i0·75 : In k0·75 (limit + 192) (limit + 192)
-i0·75 = unfold ofBits magnitude posPart negPart eps in (literal refl tt tt)
-
 pub i1 : In k1 (at 1) (at 1)
 i1 = unfold ofBits magnitude posPart negPart eps in (literal refl tt tt)
-
-pub i1·35 : In k1·35 (limit + 345) (limit + 346)
-i1·35 = unfold ofBits magnitude posPart negPart eps in (literal refl tt tt)
 
 pub i1·4 : In k1·4 (limit + 358) (limit + 359)
 i1·4 = unfold ofBits magnitude posPart negPart eps in (literal refl tt tt)
@@ -52,9 +34,6 @@ i2 = unfold ofBits magnitude posPart negPart eps in (literal refl tt tt)
 pub i3 : In k3 (at 3) (at 3)
 i3 = unfold ofBits magnitude posPart negPart eps in (literal refl tt tt)
 
-pub i3·99 : In k3·99 (limit + 1021) (limit + 1022)
-i3·99 = unfold ofBits magnitude posPart negPart eps in (literal refl tt tt)
-
 pub i4 : In k4 (at 4) (at 4)
 i4 = unfold ofBits magnitude posPart negPart eps in (literal refl tt tt)
 
@@ -63,9 +42,6 @@ i6 = unfold ofBits magnitude posPart negPart eps in (literal refl tt tt)
 
 pub i8 : In k8 (at 8) (at 8)
 i8 = unfold ofBits magnitude posPart negPart eps in (literal refl tt tt)
-
-pub i10 : In k10 (at 10) (at 10)
-i10 = unfold ofBits magnitude posPart negPart eps in (literal refl tt tt)
 
 pub i12 : In k12 (at 12) (at 12)
 i12 = unfold ofBits magnitude posPart negPart eps in (literal refl tt tt)
@@ -151,9 +127,6 @@ i120 = unfold ofBits magnitude posPart negPart eps in (literal refl tt tt)
 pub i122 : In k122 (at 122) (at 122)
 i122 = unfold ofBits magnitude posPart negPart eps in (literal refl tt tt)
 
-pub i124 : In k124 (at 124) (at 124)
-i124 = unfold ofBits magnitude posPart negPart eps in (literal refl tt tt)
-
 pub i128 : In k128 (at 128) (at 128)
 i128 = unfold ofBits magnitude posPart negPart eps in (literal refl tt tt)
 
@@ -181,9 +154,6 @@ i176 = unfold ofBits magnitude posPart negPart eps in (literal refl tt tt)
 pub i184 : In k184 (at 184) (at 184)
 i184 = unfold ofBits magnitude posPart negPart eps in (literal refl tt tt)
 
-pub i192 : In k192 (at 192) (at 192)
-i192 = unfold ofBits magnitude posPart negPart eps in (literal refl tt tt)
-
 pub i196 : In k196 (at 196) (at 196)
 i196 = unfold ofBits magnitude posPart negPart eps in (literal refl tt tt)
 
@@ -205,12 +175,6 @@ i272 = unfold ofBits magnitude posPart negPart eps in (literal refl tt tt)
 pub i288 : In k288 (at 288) (at 288)
 i288 = unfold ofBits magnitude posPart negPart eps in (literal refl tt tt)
 
-pub i304 : In k304 (at 304) (at 304)
-i304 = unfold ofBits magnitude posPart negPart eps in (literal refl tt tt)
-
-pub i320 : In k320 (at 320) (at 320)
-i320 = unfold ofBits magnitude posPart negPart eps in (literal refl tt tt)
-
 pub i336 : In k336 (at 336) (at 336)
 i336 = unfold ofBits magnitude posPart negPart eps in (literal refl tt tt)
 
@@ -220,17 +184,8 @@ i360 = unfold ofBits magnitude posPart negPart eps in (literal refl tt tt)
 pub i480 : In k480 (at 480) (at 480)
 i480 = unfold ofBits magnitude posPart negPart eps in (literal refl tt tt)
 
-pub i600 : In k600 (at 600) (at 600)
-i600 = unfold ofBits magnitude posPart negPart eps in (literal refl tt tt)
-
-pub i800 : In k800 (at 800) (at 800)
-i800 = unfold ofBits magnitude posPart negPart eps in (literal refl tt tt)
-
 pub i8192 : In k8192 (at 8192) (at 8192)
 i8192 = unfold ofBits magnitude posPart negPart eps in (literal refl tt tt)
-
-pub i√2 : In √2 (limit + 362) (limit + 363)
-i√2 = unfold ofBits magnitude posPart negPart eps in (literal refl tt tt)
 
 -- ---- constants
 pub i4√2 : In (k4 ⊗ √2) (limit + 1448) (limit + 1449)
@@ -245,25 +200,9 @@ pub f0·055 : Fraction k0·055 7381975 134217728
 unfolding ofBits magnitude
 f0·055 = record { whole = refl; plus = refl; is = refl; above = lit≤ tt; below = lit≤ tt }
 
-pub f0·09 : Fraction k0·09 3019899 33554432
-unfolding ofBits magnitude
-f0·09 = record { whole = refl; plus = refl; is = refl; above = lit≤ tt; below = lit≤ tt }
-
-pub f0·15 : Fraction k0·15 5033165 33554432
-unfolding ofBits magnitude
-f0·15 = record { whole = refl; plus = refl; is = refl; above = lit≤ tt; below = lit≤ tt }
-
-pub f0·25 : Fraction k0·25 1 4
-unfolding ofBits magnitude
-f0·25 = record { whole = refl; plus = refl; is = refl; above = lit≤ tt; below = lit≤ tt }
-
 pub f0·4 : Fraction k0·4 13421773 33554432
 unfolding ofBits magnitude
 f0·4 = record { whole = refl; plus = refl; is = refl; above = lit≤ tt; below = lit≤ tt }
-
-pub f0·5 : Fraction k0·5 1 2
-unfolding ofBits magnitude
-f0·5 = record { whole = refl; plus = refl; is = refl; above = lit≤ tt; below = lit≤ tt }
 
 pub f0·75 : Fraction k0·75 3 4
 unfolding ofBits magnitude
@@ -272,14 +211,6 @@ f0·75 = record { whole = refl; plus = refl; is = refl; above = lit≤ tt; below
 pub f1 : Fraction k1 1 1
 unfolding ofBits magnitude
 f1 = record { whole = refl; plus = refl; is = refl; above = lit≤ tt; below = lit≤ tt }
-
-pub f1·35 : Fraction k1·35 11324621 8388608
-unfolding ofBits magnitude
-f1·35 = record { whole = refl; plus = refl; is = refl; above = lit≤ tt; below = lit≤ tt }
-
-pub f1·4 : Fraction k1·4 11744051 8388608
-unfolding ofBits magnitude
-f1·4 = record { whole = refl; plus = refl; is = refl; above = lit≤ tt; below = lit≤ tt }
 
 pub f2 : Fraction k2 2 1
 unfolding ofBits magnitude

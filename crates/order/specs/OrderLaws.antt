@@ -25,7 +25,7 @@ use Rattle.writer.specs.Length.{lengthFor, length-layout}
 use Rattle.written.specs.Written.{LayoutIsF32}
 use Rattle.written.specs.WidestWritten.{widest-written}
 use Rattle.preset.specs.Preset as Preset
-use Rattle.preset.specs.Preset.{sticksOf}
+use Rattle.preset.specs.Preset.{hasSticks}
 use Rattle.preset.specs.Demand.{WidestFor}
 use Rattle.preset.specs.PresetLabels.{OfMode, Few, few, anchor-mode, layout-mode}
 use Rattle.preset.specs.PresetWidest.{layout-widest}
@@ -33,23 +33,23 @@ use Rattle.order.specs.Orders.{settingsLayoutOf, orderLayout, writtenAns
 use Rattle.order.specs.Demands.{WidestWritten}
 
 -- ---- modes
-pub settings-mode : (s : Settings) → OfMode (sticksOf (s .preset)) (s .preset .psp) (settingsLayoutOf s)
+pub settings-mode : (s : Settings) → OfMode (hasSticks (s .preset)) (s .preset .psp) (settingsLayoutOf s)
 unfolding settingsLayoutOf
 settings-mode s = layout-mode _ _ _ _ _
 
-pub viewport-mode : (s : Settings) (reusable covered : Float) → OfMode (sticksOf (s .preset)) (s .preset .psp) (settingsViewportOf s reusable covered)
+pub viewport-mode : (s : Settings) (reusable covered : Float) → OfMode (hasSticks (s .preset)) (s .preset .psp) (settingsViewportOf s reusable covered)
 unfolding settingsViewportOf Preset.viewportLayoutOf
 viewport-mode s reusable covered =
     let cutouts = cutoutList (s .cutouts) in
     let p = s .preset in
-    let anchored = anchor-mode (sticksOf p) (p .psp) _ (layout-mode p (s .w) (s .h) cutouts (s .picture)) (s .w) (s .h) cutouts reusable k0 in
-    either (OfMode (sticksOf p) (p .psp)) (lt k0 covered) (anchor-mode (sticksOf p) (p .psp) _ anchored (s .w) (s .h) cutouts reusable covered) anchored
+    let anchored = anchor-mode (hasSticks p) (p .psp) _ (layout-mode p (s .w) (s .h) cutouts (s .picture)) (s .w) (s .h) cutouts reusable k0 in
+    either (OfMode (hasSticks p) (p .psp)) (lt k0 covered) (anchor-mode (hasSticks p) (p .psp) _ anchored (s .w) (s .h) cutouts reusable covered) anchored
 
 pub settings-few : (s : Settings) → Few (settingsLayoutOf s)
-settings-few s = few (sticksOf (s .preset)) (s .preset .psp) _ (settings-mode s)
+settings-few s = few (hasSticks (s .preset)) (s .preset .psp) _ (settings-mode s)
 
 pub viewport-few : (s : Settings) (reusable covered : Float) → Few (settingsViewportOf s reusable covered)
-viewport-few s reusable covered = few (sticksOf (s .preset)) (s .preset .psp) _ (viewport-mode s reusable covered)
+viewport-few s reusable covered = few (hasSticks (s .preset)) (s .preset .psp) _ (viewport-mode s reusable covered)
 
 -- ---- "It takes 285 bytes standard, 353 analog, 265 psp."
 abbrev pub bytesFor : Bool → Bool → ℕ
@@ -70,7 +70,7 @@ mode-length analog psp l f =
 abbrev pub roomFor : ℕ → List ℕ → Answer ℕ
 roomFor n out = cond (leb n (length out)) (accepted n) (refused 8)
 
-mode-answer : (p : Preset) (l : Layout) → OfMode (sticksOf p) (p .psp) l → (out : List ℕ) → writeLayoutOf l out ≡ roomFor (bytesFor (p .analog) (p .psp)) out
+mode-answer : (p : Preset) (l : Layout) → OfMode (hasSticks p) (p .psp) l → (out : List ℕ) → writeLayoutOf l out ≡ roomFor (bytesFor (p .analog) (p .psp)) out
 unfolding writeLayoutOf
 mode-answer p l f out = rw (mode-length (p .analog) (p .psp) l f)
 

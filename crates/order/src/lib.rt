@@ -27,6 +27,7 @@ pub enum TouchAnswer {
     Refused(u8),
 }
 
+// For crate film_sheet, of settings that the reader accepted; no host calls it.
 pub fn settings_layout(s: Settings) -> Layout
     requires { ⌜ acceptedOf s ≡ true ⌝ }
     ensures { λ r. ⌜ r ≡ settingsLayoutOf s ⌝ }

@@ -11,7 +11,7 @@ use Rattle.hypot.specs.Hypot.{hypotOf}
 use Rattle.layout.specs.declared.Control.{Control}
 use Rattle.layout.specs.declared.Layout.{Layout}
 use Rattle.layout.specs.Label.{isFaceOf}
-use Rattle.layout.specs.Layout.{controlsOf as controlList, sticksOf, withDpad, withSticks}
+use Rattle.layout.specs.Layout.{controlList, stickList, withDpad, withSticks}
 use Rattle.layout.specs.Lists.{anyOf, allOf}
 use Rattle.arranged.specs.declared.Faces.{Faces}
 use Rattle.arranged.specs.declared.Places.{Places}
@@ -190,7 +190,7 @@ fromStick r = input r false
 
 -- the controller's elements: the d-pad, the controls, the sticks
 unfoldable pub inputsOf : Layout → List Input
-inputsOf l = input (l .dpad) false ∷ (map fromControl (controlList l) ++ map fromStick (sticksOf l))
+inputsOf l = input (l .dpad) false ∷ (map fromControl (controlList l) ++ map fromStick (stickList l))
 
 -- Document 01: "Two face caps may overlap as boxes if their centres are at least (a.w + b.w) / 2 + 3.99 apart." The caps
 -- are circles, which stay apart where the corners of their boxes meet.

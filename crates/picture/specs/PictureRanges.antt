@@ -1,7 +1,7 @@
 -- The layout of `controls` is in range, about any game in range. The tests bound the wells and the sticks; for the rest coarse ranges suffice.
 use mathlib.Core.Path.{_≡_}
 use mathlib.Core.Bool.{Bool, true, false, not, _&&_, cond}
-use mathlib.Core.List.{List, [], _∷_}
+use mathlib.Core.List.{List}
 use mathlib.Core.Option.{some}
 use Prim.Native.Nat.{ℕ}
 use lib.Dec.{T, leb}

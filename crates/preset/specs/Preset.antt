@@ -12,7 +12,6 @@ use Rattle.geometry.specs.Rect.{newOf}
 use Rattle.layout.specs.declared.Layout.{Layout}
 use Rattle.layout.specs.Layout.{anyRect, elementsOf, elementCountOf}
 use Rattle.layout.specs.Elements.{replaceFirst, setElementsOf}
-use Rattle.search.specs.declared.Offset.{Offset}
 use Rattle.search.specs.Search.{bottomOf, clearPictureAspectOf, placeGameInAspectOf}
 use Rattle.settings.specs.declared.Fit.{Fit}
 use Rattle.settings.specs.declared.Fit.the-variants.{Unset, Maximum, KeepClear}
@@ -155,12 +154,12 @@ abbrev pub freeOf : Preset → Bool
 freeOf p = isEmpty (savedList p) && not (p .overlap)
 
 -- a psp has a stick, whatever its other mark says
-abbrev pub sticksOf : Preset → Bool
-sticksOf p = p .analog || p .psp
+abbrev pub hasSticks : Preset → Bool
+hasSticks p = p .analog || p .psp
 
 -- the keys beside the sticks may go into a row
 unfoldable pub rowAllowedOf : Preset → List Rect → Bool
-rowAllowedOf p cutouts = sticksOf p && (freeOf p && (not (maximumOf p) && (untouchedOf p && isEmpty cutouts)))
+rowAllowedOf p cutouts = hasSticks p && (freeOf p && (not (maximumOf p) && (untouchedOf p && isEmpty cutouts)))
 
 -- on a screen of 1 by 1 at least
 unfoldable pub laidOutOf : Preset → Float → Float → List Rect → Rect → Layout
@@ -169,7 +168,7 @@ laidOutOf p w h cutouts picture =
     let aspect = aspectOf (p .psp) in
     let first = firstOf (p .psp) (p .analog) maximum w h cutouts picture in
     let area = areaOf maximum first picture in
-    let arrangement = arrangementOf maximum (freeOf p) first w h area cutouts (sticksOf p) (p .psp) in
+    let arrangement = arrangementOf maximum (freeOf p) first w h area cutouts (hasSticks p) (p .psp) in
     let settled = settledOf arrangement w h picture cutouts (savedList p) in
     let placed = placeGameInAspectOf settled area (p .overlap || maximum) (p .scale) (p .offset) aspect in
     cond (rowAllowedOf p cutouts) (fitLandscapeControlsOf placed w h area aspect) placed

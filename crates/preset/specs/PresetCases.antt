@@ -18,7 +18,7 @@ use Rattle.defaults.specs.DefaultCases.{either}
 use Rattle.cutouts.specs.Cutouts.{avoidCutoutsOf}
 use Rattle.camera_rails.specs.CameraRails.{analogCameraRailsOf}
 use Rattle.landscape.specs.Landscape.{fitLandscapeControlsOf}
-use Rattle.preset.specs.Preset.{isEmpty, foundOr, railsWinOf, comparedOf, tryRailsOf, besideOf, firstOf, areaOf, arrangementOf, settledOf, maximumOf, freeOf, sticksOf, rowAllowedOf, laidOutOf}
+use Rattle.preset.specs.Preset.{isEmpty, foundOr, railsWinOf, comparedOf, tryRailsOf, besideOf, firstOf, areaOf, arrangementOf, settledOf, maximumOf, freeOf, hasSticks, rowAllowedOf, laidOutOf}
 
 module _ (C : Layout → Type 0) where
   pub found-case : {l : Layout} (o : Option Layout) → C l → ((m : Layout) → o ≡ some m → C m) → C (foundOr l o)
@@ -54,7 +54,7 @@ module _ (p : Preset) (w h : Float) (cutouts : List Rect) (picture : Rect) where
   areaFor = areaOf (maximumOf p) firstFor picture
 
   abbrev pub arrangementFor : Layout
-  arrangementFor = arrangementOf (maximumOf p) (freeOf p) firstFor w h areaFor cutouts (sticksOf p) (p .psp)
+  arrangementFor = arrangementOf (maximumOf p) (freeOf p) firstFor w h areaFor cutouts (hasSticks p) (p .psp)
 
   abbrev pub settledFor : Layout
   settledFor = settledOf arrangementFor w h picture cutouts (savedList p)
@@ -90,7 +90,7 @@ unfolding rowAllowedOf
 row-allowed p cutouts t =
     let last : Bool = untouchedOf p && isEmpty cutouts in
     let tests : Bool = not (maximumOf p) && last in
-    let u = and-r (sticksOf p) (freeOf p && tests) t in
+    let u = and-r (hasSticks p) (freeOf p && tests) t in
     let v = and-r (freeOf p) tests u in
     record {
       saved = and-l (isEmpty (savedList p)) (not (p .overlap)) (and-l (freeOf p) tests u);

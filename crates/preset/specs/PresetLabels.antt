@@ -31,7 +31,7 @@ use Rattle.camera_rails.specs.CameraLabels.{avoid-formed, camera-rails-formed}
 use Rattle.picture.specs.PictureLabels.{controls-formed}
 use Rattle.landscape.specs.LandscapeLaws.{landscape-formed}
 use Rattle.preset.specs.PresetCases.{found-case, rails-case, firstFor, areaFor, arrangementFor, placedFor, laid-out-case}
-use Rattle.preset.specs.Preset.{isEmpty, startOf, reusableTop, largestOf, foundOr, aroundOf, tryRailsOf, besideOf, restoredOf, withSavedOf, firstOf, arrangementOf, settledOf, maximumOf, freeOf, sticksOf, laidOutOf, layoutInOf, viewportLayoutOf}
+use Rattle.preset.specs.Preset.{isEmpty, startOf, reusableTop, largestOf, foundOr, aroundOf, tryRailsOf, besideOf, restoredOf, withSavedOf, firstOf, arrangementOf, settledOf, maximumOf, freeOf, hasSticks, laidOutOf, layoutInOf, viewportLayoutOf}
 
 -- a layout of a mode: its labels, its sticks, and arrays of 12 and 2
 abbrev pub OfMode : Bool → Bool → Layout → Type 0
@@ -128,27 +128,27 @@ module _ (w h : Float) (cutouts : List Rect) (picture : Rect) where
       anchor-mode analog psp (avoidCutoutsOf restored w h cutouts) g w h cutouts (reusableTop picture) k0
 
 module _ (p : Preset) (w h : Float) (cutouts : List Rect) (picture : Rect) where
-  pub arranged-mode : OfMode (sticksOf p) (p .psp) (arrangementFor p w h cutouts picture)
+  pub arranged-mode : OfMode (hasSticks p) (p .psp) (arrangementFor p w h cutouts picture)
   arranged-mode =
-      arrangement-mode w h (areaFor p w h cutouts picture) cutouts (sticksOf p) (p .psp) (stick-mode (p .analog) (p .psp)) (firstFor p w h cutouts picture) (first-mode w h cutouts picture (p .psp) (p .analog) (maximumOf p)) (maximumOf p)
+      arrangement-mode w h (areaFor p w h cutouts picture) cutouts (hasSticks p) (p .psp) (stick-mode (p .analog) (p .psp)) (firstFor p w h cutouts picture) (first-mode w h cutouts picture (p .psp) (p .analog) (maximumOf p)) (maximumOf p)
       (freeOf p)
 
-  pub placed-mode : OfMode (sticksOf p) (p .psp) (placedFor p w h cutouts picture)
+  pub placed-mode : OfMode (hasSticks p) (p .psp) (placedFor p w h cutouts picture)
   placed-mode =
-      let settled = settled-mode w h cutouts picture (sticksOf p) (p .psp) _ arranged-mode (savedList p) in
-      place-mode (sticksOf p) (p .psp) _ settled w h cutouts (areaFor p w h cutouts picture) (p .overlap || maximumOf p) (p .scale) (p .offset) (aspectOf (p .psp))
+      let settled = settled-mode w h cutouts picture (hasSticks p) (p .psp) _ arranged-mode (savedList p) in
+      place-mode (hasSticks p) (p .psp) _ settled w h cutouts (areaFor p w h cutouts picture) (p .overlap || maximumOf p) (p .scale) (p .offset) (aspectOf (p .psp))
 
-  pub laid-out-mode : OfMode (sticksOf p) (p .psp) (laidOutOf p w h cutouts picture)
+  pub laid-out-mode : OfMode (hasSticks p) (p .psp) (laidOutOf p w h cutouts picture)
   laid-out-mode =
-      let labels = bandLabels (sticksOf p) (p .psp) in
-      let sticks = bandSticks (sticksOf p) (p .psp) in
-      laid-out-case p w h cutouts picture (OfMode (sticksOf p) (p .psp)) placed-mode (λ t. landscape-formed labels sticks _ placed-mode w h (areaFor p w h cutouts picture) (aspectOf (p .psp)))
+      let labels = bandLabels (hasSticks p) (p .psp) in
+      let sticks = bandSticks (hasSticks p) (p .psp) in
+      laid-out-case p w h cutouts picture (OfMode (hasSticks p) (p .psp)) placed-mode (λ t. landscape-formed labels sticks _ placed-mode w h (areaFor p w h cutouts picture) (aspectOf (p .psp)))
 
 module _ (p : Preset) (w h : Float) (cutouts : List Rect) (picture : Rect) where
-  pub layout-mode : OfMode (sticksOf p) (p .psp) (layoutInOf p w h cutouts picture)
+  pub layout-mode : OfMode (hasSticks p) (p .psp) (layoutInOf p w h cutouts picture)
   unfolding layoutInOf
   layout-mode = laid-out-mode p (maxOf w k1) (maxOf h k1) cutouts picture
 
-  pub viewport-mode : (reusable covered : Float) → OfMode (sticksOf p) (p .psp) (viewportLayoutOf p w h picture reusable covered cutouts)
+  pub viewport-mode : (reusable covered : Float) → OfMode (hasSticks p) (p .psp) (viewportLayoutOf p w h picture reusable covered cutouts)
   unfolding viewportLayoutOf anchorToolbarOf
-  viewport-mode reusable covered = either (OfMode (sticksOf p) (p .psp)) (lt k0 covered) layout-mode layout-mode
+  viewport-mode reusable covered = either (OfMode (hasSticks p) (p .psp)) (lt k0 covered) layout-mode layout-mode

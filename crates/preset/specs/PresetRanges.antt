@@ -41,7 +41,7 @@ use Rattle.cutouts.specs.CutoutRanges.{avoid-bounded}
 use Rattle.camera_rails.specs.CameraRanges.{camera-bounded, camera-in}
 use Rattle.picture.specs.PictureRanges.{controls-in}
 use Rattle.landscape.specs.LandscapeRanges.{landscape-bounded, landscape-game-in}
-use Rattle.preset.specs.Preset.{isEmpty, startOf, reusableTop, aroundOf, besideOf, isFiniteOf, usableOf, onScreenOf, restoreOf, restoredOf, withSavedOf, firstOf, areaOf, arrangementOf, settledOf, maximumOf, freeOf, sticksOf, rowAllowedOf, laidOutOf, layoutInOf, viewportLayoutOf}
+use Rattle.preset.specs.Preset.{isEmpty, startOf, reusableTop, aroundOf, besideOf, isFiniteOf, usableOf, onScreenOf, restoreOf, restoredOf, withSavedOf, firstOf, areaOf, arrangementOf, settledOf, maximumOf, freeOf, hasSticks, rowAllowedOf, laidOutOf, layoutInOf, viewportLayoutOf}
 use Rattle.preset.specs.PresetCases.{found-case, beside-case, firstFor, settledFor, placedFor, laid-out-case, whole-area, RowAllowed, row-allowed}
 use Rattle.preset.specs.PresetLabels.{OfMode, few, length-restored, anchor-mode, saved-mode, first-mode, arranged-mode, placed-mode, layout-mode}
 use Rattle.preset.specs.MaximumRanges.{sized, shape, largest-in, lowered-game-in, below-toolbar-in}
@@ -179,7 +179,7 @@ module _ {w h : Float} (W : In w (at 1) (at 8192)) (H : In h (at 1) (at 8192)) w
     row-in p cutouts O t = go cutouts O (row-allowed p cutouts t)
       where
         go : (cutouts : List Rect) → Each Element cutouts → RowAllowed p cutouts → Every (OnScreen shrunkMargin) Element (placedFor p w h cutouts picture)
-        go [] O a = place-bounded (settled-in (savedList p) (a .saved) (arrangement-in (sticksOf p) (p .psp) (maximumOf p) (freeOf p) (a .fit) (first-in [] tt (p .psp) (p .analog) (maximumOf p)))) _ _ _ _ _
+        go [] O a = place-bounded (settled-in (savedList p) (a .saved) (arrangement-in (hasSticks p) (p .psp) (maximumOf p) (freeOf p) (a .fit) (first-in [] tt (p .psp) (p .analog) (maximumOf p)))) _ _ _ _ _
         go (c ∷ cs) O a = absurd (not-empty c cs (a .clear))
 
     -- ---- the layout
@@ -189,10 +189,10 @@ module _ {w h : Float} (W : In w (at 1) (at 8192)) (H : In h (at 1) (at 8192)) w
           let first = firstFor p w h cutouts picture in
           let F = first-in cutouts O (p .psp) (p .analog) (maximumOf p) in
           let f = first-mode w h cutouts picture (p .psp) (p .analog) (maximumOf p) in
-          settled-bounded cutouts O (sticksOf p) (p .psp) _ (arranged-mode p w h cutouts picture) (arrangement-bounded cutouts O (sticksOf p) (p .psp) first F f (maximumOf p) (freeOf p)) (savedList p)
+          settled-bounded cutouts O (hasSticks p) (p .psp) _ (arranged-mode p w h cutouts picture) (arrangement-bounded cutouts O (hasSticks p) (p .psp) first F f (maximumOf p) (freeOf p)) (savedList p)
 
       pub placed-holds : Holds (placedFor p w h cutouts picture)
-      placed-holds = holds (sticksOf p) (p .psp) (placedFor p w h cutouts picture) (placed-mode p w h cutouts picture)
+      placed-holds = holds (hasSticks p) (p .psp) (placedFor p w h cutouts picture) (placed-mode p w h cutouts picture)
 
       laid-out-bounded : Bounded (laidOutOf p w h cutouts picture)
       laid-out-bounded =
@@ -227,7 +227,7 @@ module _ (p : Preset) {w h : Float} (W : In w (at 0) (at 8192)) (H : In h (at 0)
   viewport-bounded {reusable} {covered} R C =
       let l = layoutInOf p w h cutouts picture in
       let anchored = anchorToolbarOf l w h reusable k0 cutouts in
-      let K = holds (sticksOf p) (p .psp) anchored (anchor-mode (sticksOf p) (p .psp) l (layout-mode p w h cutouts picture) w h cutouts reusable k0) in
+      let K = holds (hasSticks p) (p .psp) anchored (anchor-mode (hasSticks p) (p .psp) l (layout-mode p w h cutouts picture) w h cutouts reusable k0) in
       let L = keys-in (anchor-in l cutouts W H R (in-more (minus 8192) (at 8192) i0 tt tt) (uncovered-in l cutouts O) layout-bounded) in
       either Bounded (lt k0 covered) (keys-in (anchor-in anchored cutouts W H R C (avoided-in anchored covered cutouts (K .controls) (K .sticks) L O) L)) L
 

@@ -8,7 +8,7 @@ ghost use lib.ListN.{take};
 ghost use Rattle.layout.specs.Elements.{replaceFirst};
 ghost use Rattle.layout.specs.Layout.{cutoutList, elementList};
 ghost use Rattle.settings.specs.Settings.{savedList};
-ghost use Rattle.preset.specs.Preset.{startOf, belowToolbarOf, largestOf, aroundOf, railsWinOf, tryRailsOf, besideOf, isFiniteOf, usableOf, onScreenOf, restoreOf, restoredOf, withSavedOf, firstOf, areaOf, arrangementOf, settledOf, isMaximum, maximumOf, freeOf, sticksOf, rowAllowedOf, laidOutOf, layoutInOf, layoutWithCutoutsOf, viewportLayoutOf, partOf, captureOf};
+ghost use Rattle.preset.specs.Preset.{startOf, belowToolbarOf, largestOf, aroundOf, railsWinOf, tryRailsOf, besideOf, isFiniteOf, usableOf, onScreenOf, restoreOf, restoredOf, withSavedOf, firstOf, areaOf, arrangementOf, settledOf, isMaximum, maximumOf, freeOf, hasSticks, rowAllowedOf, laidOutOf, layoutInOf, layoutWithCutoutsOf, viewportLayoutOf, partOf, captureOf};
 ghost use Rattle.preset.specs.PresetLabels.{OfMode};
 use band::aspect;
 use band::controller_band;

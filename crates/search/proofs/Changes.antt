@@ -2,20 +2,20 @@
 use mathlib.Core.Path.{_≡_, sym, ap, _∙_, subst}
 use mathlib.Core.Bool.{Bool}
 use mathlib.Core.List.{List, [], _∷_, _++_, map, map-append, zipWith}
-use Prim.Native.Nat.{ℕ, zero, suc, _+_, _≤_, _<_}
+use Prim.Native.Nat.{ℕ, zero, suc, _+_, _≤_}
 use native.Mathlib.Omega.{arith}
 use lib.ListN.{length, take, drop, getD, length-map}
 use lib.Seq.{getD-append-add, drop-append-add}
 use Rattle.geometry.specs.declared.Rect.{Rect}
 use Rattle.layout.specs.declared.Control.{Control}
 use Rattle.layout.specs.declared.Layout.{Layout}
-use Rattle.layout.specs.Layout.{anyRect, withBounds, withDpad, sticksOf, elementsOf}
+use Rattle.layout.specs.Layout.{anyRect, withBounds, withDpad, stickList, elementsOf}
 use Rattle.layout.specs.Lists.{retain, compact}
 use Rattle.layout.specs.Elements.{replaceFirst, boundsOf, setElementsOf}
 use Rattle.layout.specs.ElementLaws.{length-bounds}
 use Rattle.layout.specs.Psp.{onPsp, pspInputsOf}
 use Rattle.numerics.specs.Each.{Each}
-use Rattle.numerics.specs.Lists.{each-take, each-append, each-map, each-imp}
+use Rattle.numerics.specs.Lists.{each-take, each-drop, each-at, each-append, each-map, each-imp}
 use Rattle.numerics.specs.Rects.{OnScreen, Key, margin}
 use Rattle.numerics.specs.Ranges.{placed-element}
 use Rattle.numerics.specs.Shrunk.{shrunkMargin, placed-shrunk}
@@ -24,26 +24,13 @@ use Rattle.search.proofs.Placement.{each-filter}
 
 -- ---- what holds of each element of a list, and of one that is made of it
 module _ {A : Type 0} (C : A → Type 0) where
-  each-drop : (n : ℕ) (xs : List A) → Each C xs → Each C (drop n xs)
-  each-drop zero xs e = e
-  each-drop (suc n) [] e = tt
-  each-drop (suc n) (x ∷ xs) e = each-drop n xs (e .1)
-
-  each-at : (i : ℕ) (xs : List A) (d : A) → i < length xs → Each C xs → C (getD xs i d)
-  each-at i [] d h e = absurd (none i h)
-    where
-      none : (i : ℕ) → i < 0 → ⊥
-      none i h = omega arith
-  each-at zero (x ∷ xs) d h e = e .0
-  each-at (suc i) (x ∷ xs) d h e = each-at i xs d (omega arith) (e .1)
-
   each-replaced : (n : ℕ) (new old : List A) → Each C new → Each C old → Each C (replaceFirst n new old)
-  each-replaced n new old e f = each-append C (take n new) (drop n old) (each-take C n new e) (each-drop n old f)
+  each-replaced n new old e f = each-append C (take n new) (drop n old) (each-take C n new e) (each-drop C n old f)
 
   each-compact : (p : A → Bool) (n : ℕ) (xs : List A) → Each C xs → Each C (compact p n xs)
   each-compact p n xs e =
       let kept = retain p (take n xs) in
-      each-append C kept (drop (length kept) xs) (each-filter p (λ x. x) C C (λ x c. c) (take n xs) (each-take C n xs e)) (each-drop (length kept) xs e)
+      each-append C kept (drop (length kept) xs) (each-filter p (λ x. x) C C (λ x c. c) (take n xs) (each-take C n xs e)) (each-drop C (length kept) xs e)
 
 each-bounds : (C : Rect → Type 0) (cs : List Control) (rs : List Rect) → Each C rs → Each (λ c. C (c .bounds)) (zipWith withBounds cs rs)
 unfolding zipWith
@@ -132,7 +119,7 @@ module _ (C D C' D' : Rect → Type 0) (f : Rect → Rect) (fc : (r : Rect) → 
       first = l .dpad ∷ boundsOf l
 
       last : List Rect
-      last = l .pause ∷ l .playback ∷ l .speed ∷ l .mute ∷ sticksOf l
+      last = l .pause ∷ l .playback ∷ l .speed ∷ l .mute ∷ stickList l
 
       rs : List Rect
       rs = map f (first ++ last)
@@ -152,4 +139,4 @@ module _ (C D C' D' : Rect → Type 0) (f : Rect → Rect) (fc : (r : Rect) → 
       sticks =
           let e : n + 5 ≡ length (map f first) + 4 = omega (arith, sized) in
           subst (Each C') (sym (ap (drop (n + 5)) parted ∙ ap (λ (j : ℕ). drop j (map f first ++ map f last)) e ∙ drop-append-add (map f first) (map f last) 4))
-          (each-map C' f (sticksOf l) (each-imp C (λ r. C' (f r)) fc (sticksOf l) (each-take C s (l .sticks) (L .sticks))))
+          (each-map C' f (stickList l) (each-imp C (λ r. C' (f r)) fc (stickList l) (each-take C s (l .sticks) (L .sticks))))

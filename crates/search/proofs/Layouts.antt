@@ -1,21 +1,18 @@
--- Layouts in range: their elements, a change of one, demand 3, and the range of the game.
+-- Layouts in range: their elements, demand 3, and the range of the game.
 use mathlib.Core.List.{List, [], map}
-use mathlib.Core.Bool.{Bool, true, false, cond}
-use Prim.Native.Nat.{ℕ, _+_, _-_, _*_}
+use mathlib.Core.Bool.{Bool, true, false}
+use Prim.Native.Nat.{ℕ, _+_, _*_}
 use native.Mathlib.Nat.{zero-lt-suc}
 use native.Mathlib.Omega.{arith}
-use lib.Dec.{ltb}
-use lib.ListN.{set, getD}
 use lib.Ieee.{Float}
 use Rattle.float.specs.Float.{k1}
 use Rattle.geometry.specs.declared.Rect.{Rect}
-use Rattle.layout.specs.declared.Control.{Control}
 use Rattle.layout.specs.declared.Layout.{Layout}
-use Rattle.layout.specs.Layout.{controlsOf, anyControl, withBounds, withDpad, withControls, withPause, withPlayback, withSpeed, withMute, withSticks, elementsOf, setElementOf}
+use Rattle.layout.specs.Layout.{controlList, elementsOf}
 use Rattle.numerics.specs.Value.{Whole, AtMost}
 use Rattle.numerics.specs.Rects.{maxArea, Element, Area}
 use Rattle.numerics.specs.Each.{Each, _&_}
-use Rattle.numerics.specs.Lists.{each-take, each-append, each-map, each-set}
+use Rattle.numerics.specs.Lists.{each-take, each-append, each-map}
 use Rattle.numerics.specs.Bounds.{add-most, most-size, most-more, between-most}
 use Rattle.numerics.specs.Ranges.{range-most, sub-in, clamp-whole-in}
 use Rattle.numerics.specs.Products.{product-most}
@@ -33,25 +30,8 @@ pub elements-in : {C : Rect → Type 0} (l : Layout) → Every C C l → Each C 
 unfolding elementsOf
 elements-in {C} l B =
     B .dpad
-    & each-append C (map (λ c. c .bounds) (controlsOf l)) _ (each-map C (λ c. c .bounds) (controlsOf l) (each-take (λ c. C (c .bounds)) (l .count) (l .controls) (B .controls)))
+    & each-append C (map (λ c. c .bounds) (controlList l)) _ (each-map C (λ c. c .bounds) (controlList l) (each-take (λ c. C (c .bounds)) (l .count) (l .controls) (B .controls)))
     (B .pause & B .playback & B .speed & B .mute & each-take C (l .stickcount) (l .sticks) (B .sticks))
-
-pub bounded-set : {C : Rect → Type 0} (l : Layout) (i : ℕ) (r : Rect) → Every C C l → C r → Every C C (setElementOf l i r)
-unfolding setElementOf
-bounded-set {C} l i r B e = go (ltb i 1) (ltb i (l .count + 1)) (ltb i (l .count + 2)) (ltb i (l .count + 3)) (ltb i (l .count + 4)) (ltb i (l .count + 5))
-  where
-    controls : List Control
-    controls = set (l .controls) (i - 1) (withBounds (getD (l .controls) (i - 1) anyControl) r)
-
-    go : (a b c d f g : Bool)
-        → Every C C (cond a (withDpad l r) (cond b (withControls l controls) (cond c (withPause l r) (cond d (withPlayback l r) (cond f (withSpeed l r) (cond g (withMute l r) (withSticks l (set (l .sticks) (i - l .count - 5) r))))))))
-    go true b c d f g = record { dpad = e; controls = B .controls; pause = B .pause; playback = B .playback; speed = B .speed; mute = B .mute; sticks = B .sticks }
-    go false true c d f g = record { dpad = B .dpad; controls = each-set (λ c. C (c .bounds)) (i - 1) (l .controls) _ (B .controls) e; pause = B .pause; playback = B .playback; speed = B .speed; mute = B .mute; sticks = B .sticks }
-    go false false true d f g = record { dpad = B .dpad; controls = B .controls; pause = e; playback = B .playback; speed = B .speed; mute = B .mute; sticks = B .sticks }
-    go false false false true f g = record { dpad = B .dpad; controls = B .controls; pause = B .pause; playback = e; speed = B .speed; mute = B .mute; sticks = B .sticks }
-    go false false false false true g = record { dpad = B .dpad; controls = B .controls; pause = B .pause; playback = B .playback; speed = e; mute = B .mute; sticks = B .sticks }
-    go false false false false false true = record { dpad = B .dpad; controls = B .controls; pause = B .pause; playback = B .playback; speed = B .speed; mute = e; sticks = B .sticks }
-    go false false false false false false = record { dpad = B .dpad; controls = B .controls; pause = B .pause; playback = B .playback; speed = B .speed; mute = B .mute; sticks = each-set C (i - l .count - 5) (l .sticks) r (B .sticks) e }
 
 pub layout-widest : {a : Float} {p q : ℕ} → Shape a p q → (l : Layout) → Bounded l → {b : Rect} → Area b → (offset : Offset) → Whole (offset .x) → Whole (offset .y)
     → Widest p q (elementsOf l) b (centredWidth (elementsOf l) b a) (gameOf (elementsOf l) b k1 offset a)

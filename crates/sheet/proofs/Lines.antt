@@ -9,9 +9,8 @@ use lib.Seq.{take-suc, sets-eq, drop-at}
 use Rattle.geometry.specs.declared.Rect.{Rect}
 use Rattle.layout.specs.declared.Control.{Control}
 use Rattle.layout.specs.declared.Layout.{Layout}
-use Rattle.layout.specs.Layout.{anyRect, anyControl, controlsOf, sticksOf}
+use Rattle.layout.specs.Layout.{anyRect, anyControl, controlList, stickList}
 use Rattle.layout.specs.Lists.{flatMap}
-use Rattle.numerics.specs.Each.{Each}
 use Rattle.search.specs.Bounded.{Bounded, BoundedGame}
 use Rattle.writer.specs.Bytes.{stored}
 use Rattle.sheet.specs.Sheet.{Line, lineOf, controlLine, toolbarLines, stickLines, linesOf, lineText, linesText, headText, film, refusal, sheetText, refusedText, layoutSheetOf, refusedSheetOf, gameName, dpadName, pauseName, playName, speedName, muteName, leftName, rightName, zeros, pageOf, Put}
@@ -28,11 +27,6 @@ unfolding flatMap
 line-alone x = append-nil (lineText x)
 
 -- ---- controls
-pub each-at : {A : Type 0} (C : A → Type 0) (l : List A) (i : ℕ) (d : A) → i < length l → Each C l → C (getD l i d)
-each-at C [] i d h e = absurd (let z : ⊥ = omega arith in z)
-each-at C (x ∷ l) zero d h e = e .0
-each-at C (x ∷ l) (suc i) d h e = each-at C l i d (omega arith) (e .1)
-
 abbrev pub controlText : ℕ → List Control → List ℕ
 controlText n cs = linesText (map controlLine (take n cs))
 
@@ -100,7 +94,7 @@ lines-text : (l : Layout) → linesText (linesOf l)
     ≡ lineText (lineOf gameName (l .game)) ++ (lineText (lineOf dpadName (l .dpad)) ++ (controlText (l .count) (l .controls) ++ (linesText (toolbarLines l) ++ stickText (l .stickcount) (l .sticks))))
 unfolding linesOf flatMap
 lines-text l =
-    rw (lines-append (map controlLine (controlsOf l)) (toolbarLines l ++ stickLines (sticksOf l)), lines-append (toolbarLines l) (stickLines (sticksOf l)))
+    rw (lines-append (map controlLine (controlList l)) (toolbarLines l ++ stickLines (stickList l)), lines-append (toolbarLines l) (stickLines (stickList l)))
 
 drop-zeros : (n k : ℕ) → n ≤ k → drop n (zeros k) ≡ zeros (k - n)
 drop-zeros n k h =

@@ -12,7 +12,7 @@ use Rattle.geometry.specs.declared.Rect.{Rect}
 use Rattle.layout.specs.declared.Control.{Control}
 use Rattle.layout.specs.declared.Layout.{Layout}
 use Rattle.layout.specs.Label.{nameOf}
-use Rattle.layout.specs.Layout.{controlsOf, sticksOf}
+use Rattle.layout.specs.Layout.{controlList, stickList}
 use Rattle.layout.specs.Lists.{flatMap}
 use Rattle.numerics.specs.Value.{value, magnitude, sign, AtMost}
 use Rattle.writer.specs.Bytes.{stored}
@@ -76,7 +76,7 @@ stickLines sticks = zipWith lineOf (leftName ∷ rightName ∷ []) sticks
 -- the game and each element, in the order of their indices
 unfoldable pub linesOf : Layout → List Line
 linesOf l =
-    lineOf gameName (l .game) ∷ lineOf dpadName (l .dpad) ∷ (map controlLine (controlsOf l) ++ (toolbarLines l ++ stickLines (sticksOf l)))
+    lineOf gameName (l .game) ∷ lineOf dpadName (l .dpad) ∷ (map controlLine (controlList l) ++ (toolbarLines l ++ stickLines (stickList l)))
 
 -- ---- text, in ASCII
 

@@ -9,7 +9,7 @@ use borrow.Author.Tests.{lt-ltb, le-ltb, ltb-true, ltb-false}
 use lib.Dec.{T, ltb, leb, leb→le, le→leb, lit≤}
 use lib.Ieee.{Float, nan, inf, fin}
 use lib.IntN.{ℤ, pos, negsuc, negℤ, _+ℤ_, _*ℤ_}
-use lib.ListN.{length, take, length-append, length-map, length-take}
+use lib.ListN.{length, length-append, length-map, length-take}
 use lib.Pow.{pow-pos}
 use lib.Seq.{length-take-le}
 use lib.Signed.{shrZ, mag}
@@ -19,7 +19,7 @@ use Rattle.layout.specs.declared.Label.{Label}
 use Rattle.layout.specs.declared.Label.the-variants.{Tri, O, X, Sq, L1, L2, R2, R1, Select, Start, L3, R3}
 use Rattle.layout.specs.declared.Layout.{Layout}
 use Rattle.layout.specs.Label.{nameOf}
-use Rattle.layout.specs.Layout.{controlsOf, sticksOf}
+use Rattle.layout.specs.Layout.{controlList, stickList}
 use Rattle.layout.specs.Lists.{flatMap}
 use Rattle.numerics.specs.Bounds.{eps-pos, most-magnitude, most-more}
 use Rattle.numerics.specs.Each.{Each, _&_}
@@ -186,10 +186,10 @@ stick-lines (a ∷ b ∷ []) h e = (short leftName a tt (element-printable (e .0
 stick-lines (a ∷ b ∷ c ∷ rs) h e = absurd (let z : ⊥ = omega arith in z)
 
 module _ (l : Layout) (ten : l .count ≤ 12) (two : l .stickcount ≤ 2) (b : Bounded l) where
-  sticks-of : Each Short (stickLines (sticksOf l)) × (length (stickLines (sticksOf l)) ≡ length (sticksOf l))
-  sticks-of = stick-lines (sticksOf l) (rw length-take (omega arith)) (each-take Element (l .stickcount) (l .sticks) (b .sticks))
+  sticks-of : Each Short (stickLines (stickList l)) × (length (stickLines (stickList l)) ≡ length (stickList l))
+  sticks-of = stick-lines (stickList l) (rw length-take (omega arith)) (each-take Element (l .stickcount) (l .sticks) (b .sticks))
 
-  length-linesOf : length (linesOf l) ≡ length (controlsOf l) + length (sticksOf l) + 6
+  length-linesOf : length (linesOf l) ≡ length (controlList l) + length (stickList l) + 6
   unfolding linesOf toolbarLines
   length-linesOf = simp (length-append, length-map) (omega (arith, sticks-of .1))
 
@@ -205,8 +205,8 @@ module _ (l : Layout) (ten : l .count ≤ 12) (two : l .stickcount ≤ 2) (b : B
   lines-short g =
       short gameName (l .game) tt (game-printable g)
       & short dpadName (l .dpad) tt (element-printable (b .dpad))
-      & each-append Short (map controlLine (controlsOf l)) (toolbarLines l ++ stickLines (sticksOf l))
-      (each-map Short controlLine (controlsOf l) (each-imp (λ c. Element (c .bounds)) (λ c. Short (controlLine c)) control (controlsOf l) (each-take (λ c. Element (c .bounds)) (l .count) (l .controls) (b .controls))))
+      & each-append Short (map controlLine (controlList l)) (toolbarLines l ++ stickLines (stickList l))
+      (each-map Short controlLine (controlList l) (each-imp (λ c. Element (c .bounds)) (λ c. Short (controlLine c)) control (controlList l) (each-take (λ c. Element (c .bounds)) (l .count) (l .controls) (b .controls))))
       (short pauseName (l .pause) tt (element-printable (b .pause)) & short playName (l .playback) tt (element-printable (b .playback)) & short speedName (l .speed) tt (element-printable (b .speed)) & short muteName (l .mute) tt (element-printable (b .mute)) & sticks-of .0)
     where
       control : (c : Control) → Element (c .bounds) → Short (controlLine c)

@@ -2,11 +2,11 @@
 use mathlib.Core.Path.{_≡_, refl}
 use mathlib.Core.Bool.{Bool, true, false, cond}
 use mathlib.Core.List.{List}
-use Prim.Native.Nat.{ℕ, zero, suc, _+_, _<_, _≤_}
+use Prim.Native.Nat.{ℕ, zero, suc, _<_, _≤_}
 use native.Mathlib.Omega.{arith}
 use lib.Dec.{leb}
 use lib.Ieee.{Float}
-use lib.IntN.{ℤ, pos, negsuc}
+use lib.IntN.{ℤ, negsuc}
 use lib.ListN.{length}
 use lib.Signed.{mag}
 use Rattle.geometry.specs.Answer.{Answer, accepted, refused}
@@ -14,7 +14,7 @@ use Rattle.settings.specs.declared.Settings.{Settings}
 use Rattle.settings.specs.Settings.{topsInLimitsOf}
 use Rattle.reader.specs.Accepted.{refused-order}
 use Rattle.reader.specs.Order.{must, readOrderOf}
-use Rattle.order.specs.Orders.{orderLayout, layoutOf, layoutOutputOf, touchOf, orderViewport, viewportLayoutOf, viewportOutputOf}
+use Rattle.order.specs.Orders.{orderLayout, layoutOf, layoutOutputOf, orderViewport, viewportLayoutOf, viewportOutputOf}
 use Rattle.order.specs.OrderLaws.{bytesFor, roomFor, layout-answer, viewport-answer, layout-refused, viewport-refused, touch-refused}
 use Rattle.thumb_layout.specs.Interface.{numberOf, tlLayoutOf, tlTouchOf, tlViewportLayoutOf, statusOf, fourOutput, contentFour, tlSafeContentOf, tlSafeContentOutputOf, edgesFour, tlSafeEdgesOf, tlSafeEdgesOutputOf}
 

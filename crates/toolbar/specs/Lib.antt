@@ -1,3 +1,2 @@
 pub mod Toolbar
-pub mod ToolbarLaws
 pub mod ToolbarRanges

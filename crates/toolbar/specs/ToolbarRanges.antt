@@ -13,7 +13,7 @@ use Rattle.float.specs.Float.{_⊕_, _⊖_, _⊘_, k0, k0·01, k2, k8, k320}
 use Rattle.geometry.specs.declared.Rect.{Rect}
 use Rattle.geometry.specs.Rect.{overlapsOf}
 use Rattle.layout.specs.declared.Layout.{Layout}
-use Rattle.layout.specs.Layout.{elementOf, controlsOf, sticksOf}
+use Rattle.layout.specs.Layout.{elementOf, controlList, stickList}
 use Rattle.layout.specs.Elements.{boundsOf, controllerElementsOf}
 use Rattle.layout.specs.ElementLaws.{controller-elements}
 use Rattle.layout.specs.Lists.{anyOf, find}
@@ -106,7 +106,7 @@ module _ (l : Layout) (coveredTop : Float) (cutouts : List Rect) where
       controls : Each Element (map (elementOf l) (controllerElementsOf l))
       controls =
           rw (controller-elements l cs ss)
-          (L .dpad & each-append Element (boundsOf l) (sticksOf l) (each-map Element (λ c. c .bounds) (controlsOf l) (each-take (λ c. Element (c .bounds)) (l .count) (l .controls) (L .controls))) (each-take Element (l .stickcount) (l .sticks) (L .sticks)))
+          (L .dpad & each-append Element (boundsOf l) (stickList l) (each-map Element (λ c. c .bounds) (controlList l) (each-take (λ c. Element (c .bounds)) (l .count) (l .controls) (L .controls))) (each-take Element (l .stickcount) (l .sticks) (L .sticks)))
 
       go : (b : Bool) → Each Element (cond b (cutouts ++ map (elementOf l) (controllerElementsOf l)) cutouts)
       go true = each-append Element cutouts (map (elementOf l) (controllerElementsOf l)) O controls

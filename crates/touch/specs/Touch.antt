@@ -13,7 +13,7 @@ use Rattle.hypot.specs.Hypot.{hypotOf}
 use Rattle.layout.specs.declared.Control.{Control}
 use Rattle.layout.specs.declared.Layout.{Layout}
 use Rattle.layout.specs.Label.{maskOf, isFaceOf}
-use Rattle.layout.specs.Layout.{controlsOf}
+use Rattle.layout.specs.Layout.{controlList}
 use Rattle.layout.specs.Lists.{anyOf}
 use Rattle.touch.specs.declared.Face.{Face}
 
@@ -43,7 +43,7 @@ unfoldable pub otherHoldsOf : Float → Float → Control → Bool
 otherHoldsOf x y c = not (isFaceOf (c .label)) && containsOf (c .bounds) x y
 
 abbrev pub anyOtherOf : Layout → Float → Float → Bool
-anyOtherOf l x y = anyOf (otherHoldsOf x y) (controlsOf l)
+anyOtherOf l x y = anyOf (otherHoldsOf x y) (controlList l)
 
 unfoldable pub joinOf : Float → Float → ℕ → Control → ℕ
 joinOf x y mask c = cond (otherHoldsOf x y c) (bitOr mask (maskOf (c .label))) mask
@@ -94,9 +94,9 @@ unfoldable pub nearest : Float → Float → Bool → ℕ → List Control → F
 nearest x y free previous controls = foldl (nearerOf x y free previous) noFace controls
 
 abbrev pub faceMaskOf : Layout → Float → Float → ℕ → ℕ
-faceMaskOf l x y previous = nearest x y (isFreeOf l x y) previous (controlsOf l) .mask
+faceMaskOf l x y previous = nearest x y (isFreeOf l x y) previous (controlList l) .mask
 
 -- ---- the mask
 
 unfoldable pub maskNearOf : Layout → Float → Float → ℕ → ℕ
-maskNearOf l x y previous = bitOr (bitOr (dpadMaskOf (l .dpad) x y) (othersMaskOf x y (controlsOf l))) (faceMaskOf l x y previous)
+maskNearOf l x y previous = bitOr (bitOr (dpadMaskOf (l .dpad) x y) (othersMaskOf x y (controlList l))) (faceMaskOf l x y previous)

@@ -14,7 +14,7 @@ use lib.Seq.{sets, sets-eq, length-sets, take-suc, length-take-le}
 use Rattle.geometry.specs.declared.Rect.{Rect}
 use Rattle.geometry.specs.Answer.{accepted, refused}
 use Rattle.layout.specs.declared.Layout.{Layout}
-use Rattle.layout.specs.Layout.{elementsOf, controlsOf, elementCountOf}
+use Rattle.layout.specs.Layout.{elementsOf, controlList, elementCountOf}
 use Rattle.layout.specs.Lists.{flatMap}
 use Rattle.writer.specs.Bytes.{stored, numberBytes, rectBytes, maskBytes, headBytes, layoutBytes, writeLayoutOf, outputOf}
 use Rattle.writer.specs.Length.{length-rect, length-head, length-items, length-rects, length-masks, length-layout, lengthFor}
@@ -115,7 +115,7 @@ module _ (l : Layout) (cs : l .count ≤ length (l .controls)) (ss : l .stickcou
   pub layout-run : {n : ℕ} {rs : List Rect} {a b c d e f : List ℕ} → n ≡ 16 * elementCountOf l → rs ≡ elementsOf l
       → a ≡ stored out 0 (headBytes 1 16) → b ≡ stored a 3 (rectBytes (l .game))
       → c ≡ stored b 19 (headBytes 2 n) → d ≡ stored c 22 (flatMap rectBytes rs)
-      → e ≡ stored d (22 + n) (headBytes 3 (2 * l .count)) → f ≡ stored e (25 + n) (flatMap maskBytes (controlsOf l))
+      → e ≡ stored d (22 + n) (headBytes 3 (2 * l .count)) → f ≡ stored e (25 + n) (flatMap maskBytes (controlList l))
       → f ≡ stored out 0 (layoutBytes l)
   unfolding layoutBytes
   layout-run {n} {rs} k q p₁ p₂ p₃ p₄ p₅ p₆ =
@@ -124,7 +124,7 @@ module _ (l : Layout) (cs : l .count ≤ length (l .controls)) (ss : l .stickcou
       let h₂ = headBytes 2 n in
       let es = flatMap rectBytes rs in
       let h₃ = headBytes 3 (2 * l .count) in
-      let ms = flatMap maskBytes (controlsOf l) in
+      let ms = flatMap maskBytes (controlList l) in
       let u₁ = length-head 1 16 in
       let u₂ = length-rect (l .game) in
       let u₃ = length-head 2 n in

@@ -11,7 +11,7 @@ use Rattle.geometry.specs.Answer.{Answer, accepted, refused}
 use Rattle.layout.specs.declared.Control.{Control}
 use Rattle.layout.specs.declared.Layout.{Layout}
 use Rattle.layout.specs.Label.{maskOf}
-use Rattle.layout.specs.Layout.{controlsOf, elementsOf}
+use Rattle.layout.specs.Layout.{controlList, elementsOf}
 use Rattle.layout.specs.Lists.{flatMap}
 use Rattle.writer.specs.declared.Written.{Written}
 use Rattle.writer.specs.declared.Written.the-variants.{Bytes, TooSmall}
@@ -46,7 +46,7 @@ unfoldable pub layoutBytes : Layout → List ℕ
 layoutBytes l =
     fieldBytes 1 (rectBytes (l .game))
     ++ (fieldBytes 2 (flatMap rectBytes (elementsOf l))
-    ++ fieldBytes 3 (flatMap maskBytes (controlsOf l)))
+    ++ fieldBytes 3 (flatMap maskBytes (controlList l)))
 
 -- the answer: how many bytes are written, or 8, sheet too small
 unfoldable pub writeLayoutOf : Layout → List ℕ → Answer ℕ

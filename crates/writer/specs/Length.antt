@@ -10,7 +10,7 @@ use Rattle.geometry.specs.declared.Rect.{Rect}
 use Rattle.layout.specs.declared.Control.{Control}
 use Rattle.layout.specs.declared.Layout.{Layout}
 use Rattle.layout.specs.ElementLaws.{length-elements}
-use Rattle.layout.specs.Layout.{elementCountOf, elementsOf, controlsOf}
+use Rattle.layout.specs.Layout.{elementCountOf, elementsOf, controlList}
 use Rattle.layout.specs.Lists.{flatMap}
 use Rattle.writer.specs.Bytes.{shortBytes, numberBytes, rectBytes, maskBytes, headBytes, layoutBytes}
 
@@ -44,8 +44,8 @@ module _ (l : Layout) (cs : l .count ≤ length (l .controls)) (ss : l .stickcou
   pub length-rects : length (flatMap rectBytes (elementsOf l)) ≡ 16 * elementCountOf l
   length-rects = length-items rectBytes 16 length-rect (elementsOf l) ∙ ap (λ (n : ℕ). 16 * n) (length-elements l cs ss)
 
-  pub length-masks : length (flatMap maskBytes (controlsOf l)) ≡ 2 * l .count
-  length-masks = length-items maskBytes 2 length-mask (controlsOf l) ∙ ap (λ (n : ℕ). 2 * n) (length-take-le (l .count) (l .controls) cs)
+  pub length-masks : length (flatMap maskBytes (controlList l)) ≡ 2 * l .count
+  length-masks = length-items maskBytes 2 length-mask (controlList l) ∙ ap (λ (n : ℕ). 2 * n) (length-take-le (l .count) (l .controls) cs)
 
   pub length-layout : length (layoutBytes l) ≡ lengthFor (l .count) (l .stickcount)
   unfolding layoutBytes

@@ -1,6 +1,6 @@
 use Rattle.layout.specs.Layout.{cutoutList}
 use Rattle.preset.specs.PresetLabels.{Few, few, place-mode, stick-mode}
-use Rattle.preset.specs.Preset.{sticksOf, laidOutOf}
+use Rattle.preset.specs.Preset.{hasSticks, laidOutOf}
 use borrow.Author.Needs.{needs}
 use Rattle.preset.proofs.laid_out.Statement.{statement}
 use Rattle.preset.proofs.laid_out.Tie as tie
@@ -30,13 +30,13 @@ aspect-requires : tie.Need-aspect-requires
 aspect-requires c κs = search needs
 
 place-game-in-aspect-requires : tie.Need-place-game-in-aspect-requires
-place-game-in-aspect-requires c κs = let p = c .before .before .before .before .before .before .before .before .before .before .before .args .p in let n = few (sticksOf p) (p .psp) (c .before .before .settled .result) (c .before .before .settled .ensures .1) in (n .count, n .stickcount)
+place-game-in-aspect-requires c κs = let p = c .before .before .before .before .before .before .before .before .before .before .before .args .p in let n = few (hasSticks p) (p .psp) (c .before .before .settled .result) (c .before .before .settled .ensures .1) in (n .count, n .stickcount)
 
 row-allowed-requires : tie.Need-row-allowed-requires
 row-allowed-requires c κs = (c .before .before .before .before .before .before .before .before .before .before .before .before .pre .0, c .before .before .before .before .before .before .before .before .before .before .before .before .pre .1)
 
 fit-landscape-controls-requires : tie.Need-fit-landscape-controls-requires
-fit-landscape-controls-requires c κs = let p = c .before .before .before .before .before .before .before .before .before .before .before .before .before .before .args .p in let n : Few (c .before .before .place-game-in-aspect .result) = rw (c .before .before .place-game-in-aspect .ensures) (few (sticksOf p) (p .psp) _ (place-mode (sticksOf p) (p .psp) (c .before .before .before .before .before .settled .result) (c .before .before .before .before .before .settled .ensures .1) (c .before .before .before .before .before .before .before .before .before .before .before .before .before .before .args .w) (c .before .before .before .before .before .before .before .before .before .before .before .before .before .before .args .h) (cutoutList (c .before .before .before .before .before .before .before .before .before .before .before .before .before .before .args .cutouts)) _ _ _ _ _)) in (n .count, n .stickcount)
+fit-landscape-controls-requires c κs = let p = c .before .before .before .before .before .before .before .before .before .before .before .before .before .before .args .p in let n : Few (c .before .before .place-game-in-aspect .result) = rw (c .before .before .place-game-in-aspect .ensures) (few (hasSticks p) (p .psp) _ (place-mode (hasSticks p) (p .psp) (c .before .before .before .before .before .settled .result) (c .before .before .before .before .before .settled .ensures .1) (c .before .before .before .before .before .before .before .before .before .before .before .before .before .before .args .w) (c .before .before .before .before .before .before .before .before .before .before .before .before .before .before .args .h) (cutoutList (c .before .before .before .before .before .before .before .before .before .before .before .before .before .before .args .cutouts)) _ _ _ _ _)) in (n .count, n .stickcount)
 
 returns : tie.Need-returns
 unfolding laidOutOf

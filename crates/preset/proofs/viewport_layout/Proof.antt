@@ -1,4 +1,4 @@
-use Rattle.preset.specs.Preset.{sticksOf, viewportLayoutOf}
+use Rattle.preset.specs.Preset.{hasSticks, viewportLayoutOf}
 use borrow.Author.Needs.{needs}
 use Rattle.preset.proofs.viewport_layout.Statement.{statement}
 use Rattle.preset.proofs.viewport_layout.Tie as tie
@@ -8,10 +8,10 @@ layout-in-requires : tie.Need-layout-in-requires
 layout-in-requires c κs = search needs
 
 anchor-toolbar-requires : tie.Need-anchor-toolbar-requires
-anchor-toolbar-requires c κs = let p = c .before .args .p in let n : Few (c .layout-in .result) = rw (c .layout-in .ensures) (few (sticksOf p) (p .psp) _ (layout-mode p _ _ _ _)) in (c .before .pre .1, n .count, n .stickcount)
+anchor-toolbar-requires c κs = let p = c .before .args .p in let n : Few (c .layout-in .result) = rw (c .layout-in .ensures) (few (hasSticks p) (p .psp) _ (layout-mode p _ _ _ _)) in (c .before .pre .1, n .count, n .stickcount)
 
 anchor-toolbar-requires-2 : tie.Need-anchor-toolbar-requires-2
-anchor-toolbar-requires-2 c κs = let p = c .before .before .before .args .p in let n : Few (c .before .anchor-toolbar .result) = rw (c .before .anchor-toolbar .ensures, c .before .before .layout-in .ensures) (few (sticksOf p) (p .psp) _ (anchor-mode (sticksOf p) (p .psp) _ (layout-mode p _ _ _ _) _ _ _ _ _)) in (c .before .before .before .pre .1, n .count, n .stickcount)
+anchor-toolbar-requires-2 c κs = let p = c .before .before .before .args .p in let n : Few (c .before .anchor-toolbar .result) = rw (c .before .anchor-toolbar .ensures, c .before .before .layout-in .ensures) (few (hasSticks p) (p .psp) _ (anchor-mode (hasSticks p) (p .psp) _ (layout-mode p _ _ _ _) _ _ _ _ _)) in (c .before .before .before .pre .1, n .count, n .stickcount)
 
 returns : tie.Need-returns
 unfolding viewportLayoutOf

@@ -2,9 +2,10 @@ use mathlib.Core.Path.{sym, _∙_, refl, _≡_}
 use lib.Seq.{length-take-le}
 use Rattle.layout.specs.Layout.{anyControl}
 use Rattle.numerics.specs.Rects.{Element}
+use Rattle.numerics.specs.Lists.{each-at}
 use Rattle.sheet.specs.SheetLaws.{element-printable}
 use Rattle.sheet.proofs.Puts.{none, same}
-use Rattle.sheet.proofs.Lines.{each-at, control-next, control-room}
+use Rattle.sheet.proofs.Lines.{control-next, control-room}
 use Rattle.layout.proofs.Loops.{sized}
 use Rattle.layout.specs.Lists.{flatMap}
 use lib.ListN.{length, take}
@@ -51,7 +52,7 @@ put-line-requires c κs =
     let l = c .before .before .before .before .before .before .loop in
     let k : length (s .args .t3) ≡ 12 = search sized in
     let r = control-room (s .args .t3) (l .i) (s .args .n) (c .before .before .before .before .before .loop-test .taken) (omega arith) in
-    (element-printable (each-at (λ c. Element (c .bounds)) (s .args .t3) (l .i) anyControl (omega arith) (s .pre .1)), rw (c .before .before .before .name .ensures .0) (omega arith))
+    (element-printable (each-at (λ c. Element (c .bounds)) (l .i) (s .args .t3) anyControl (omega arith) (s .pre .1)), rw (c .before .before .before .name .ensures .0) (omega arith))
 
 add-i : tie.Need-add-i Inv-loop μ-loop
 add-i c = omega arith

@@ -6,7 +6,8 @@ use Rattle.layout.specs.Layout.{anyRect}
 use Rattle.numerics.specs.Rects.{Element}
 use Rattle.sheet.specs.SheetLaws.{element-printable}
 use Rattle.sheet.proofs.Puts.{none, after}
-use Rattle.sheet.proofs.Lines.{each-at, no-stick, one-stick, two-sticks, first-room}
+use Rattle.numerics.specs.Lists.{each-at}
+use Rattle.sheet.proofs.Lines.{no-stick, one-stick, two-sticks, first-room}
 use borrow.Author.Needs.{needs}
 use Rattle.sheet.proofs.put_sticks.Statement.{statement}
 use Rattle.sheet.proofs.put_sticks.Tie as tie
@@ -24,7 +25,7 @@ put-line-requires : tie.Need-put-line-requires
 put-line-requires c κs =
     let s = c .before .before .before .before .before in
     let k : length (s .args .t3) ≡ 2 = search sized in
-    (element-printable (each-at Element (s .args .t3) 0 anyRect (omega arith) (s .pre .1)), omega (arith, first-room (s .args .t3) (s .args .n) k (c .before .before .before .if1 .left)))
+    (element-printable (each-at Element 0 (s .args .t3) anyRect (omega arith) (s .pre .1)), omega (arith, first-room (s .args .t3) (s .args .n) k (c .before .before .before .if1 .left)))
 
 same-length : tie.Need-same-length
 same-length c = search needs
@@ -44,7 +45,7 @@ put-line-requires-2 : tie.Need-put-line-requires-2
 put-line-requires-2 c κs =
     let s = c .before .before .before .before .before .before .before .before .before .before .before .before in
     let k : length (s .args .t3) ≡ 2 = search sized in
-    (element-printable (each-at Element (s .args .t3) 1 anyRect (omega arith) (s .pre .1)), omega (arith, simp length-append at (ap length (two-sticks (s .args .t3) (s .args .n) k (c .before .before .before .if2 .left) (s .pre .0)))))
+    (element-printable (each-at Element 1 (s .args .t3) anyRect (omega arith) (s .pre .1)), omega (arith, simp length-append at (ap length (two-sticks (s .args .t3) (s .args .n) k (c .before .before .before .if2 .left) (s .pre .0)))))
 
 same-length-2 : tie.Need-same-length-2
 same-length-2 c = search needs

@@ -5,7 +5,7 @@ use mathlib.Core.Path.{_≡_, refl}
 use mathlib.Core.List.{_∷_}
 use Prim.Native.Nat.{ℕ, _+_, _-_, _<_, _≤_}
 use lib.ListN.{length, drop, getD, length-map}
-use Rattle.layout.specs.Layout.{anyControl, controlsOf}
+use Rattle.layout.specs.Layout.{anyControl, controlList}
 use Rattle.layout.specs.Lists.{anyOf}
 use Rattle.layout.proofs.Loops.{next-of, none-left, any-hit, any-miss, any-end}
 use Rattle.touch.specs.Touch.{otherHoldsOf}
@@ -13,7 +13,7 @@ use Rattle.touch.proofs.any_other.Statement.{statement}
 use Rattle.touch.proofs.any_other.Tie as tie
 
 abbrev Inv-loop : tie.InvT-loop
-Inv-loop x y l n i₀ i = (i ≤ n) × (anyOf (otherHoldsOf x y) (drop i (controlsOf l)) ≡ anyOf (otherHoldsOf x y) (controlsOf l))
+Inv-loop x y l n i₀ i = (i ≤ n) × (anyOf (otherHoldsOf x y) (drop i (controlList l)) ≡ anyOf (otherHoldsOf x y) (controlList l))
 
 abbrev μ-loop : tie.MeasureT-loop
 μ-loop x y l n i₀ i = n - i
@@ -22,7 +22,7 @@ twelve : (s : tie.Start Inv-loop μ-loop) → length (s .args .t1 .controls) ≡
 twelve s = rw length-map at (s .good .0 .1 .1 .1 .1 .0 .1 .0 .1)
 
 next : (s : tie.Start Inv-loop μ-loop) (i : ℕ) → i < s .args .t1 .count
-    → drop i (controlsOf (s .args .t1)) ≡ getD (s .args .t1 .controls) i anyControl ∷ drop (i + 1) (controlsOf (s .args .t1))
+    → drop i (controlList (s .args .t1)) ≡ getD (s .args .t1 .controls) i anyControl ∷ drop (i + 1) (controlList (s .args .t1))
 next s i h = next-of anyControl (s .args .t1 .controls) 12 (s .args .t1 .count) i (twelve s) (omega arith) h
 
 returns : tie.Need-returns Inv-loop μ-loop

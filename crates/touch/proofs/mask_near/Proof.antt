@@ -9,7 +9,7 @@ use lib.Ieee.{Float, nanBits}
 use lib.ListN.{length, take, length-map}
 use Rattle.geometry.specs.Rect.{containsOf}
 use Rattle.layout.specs.declared.Layout.{Layout}
-use Rattle.layout.specs.Layout.{controlsOf}
+use Rattle.layout.specs.Layout.{controlList}
 use Rattle.layout.proofs.Loops.{fold-next}
 use Rattle.touch.specs.declared.Face.{Face}
 use Rattle.touch.specs.Touch.{othersMaskOf, isFreeOf, nearest, maskNearOf}
@@ -66,7 +66,7 @@ returns c =
     let e : l .loop .i ≡ s .l .count = omega arith in
     let v = rw e at (l .loop .inv) in
     let o = l .before .before .outside in
-    let f = either (isFreeOf (s .l) (s .x) (s .y)) (o .result) (λ b. nearest (s .x) (s .y) b (s .previous) (controlsOf (s .l))) (λ h. o .ensures ∙ outside-of (s .l) (s .x) (s .y) h) (v .2) (v .3) in
+    let f = either (isFreeOf (s .l) (s .x) (s .y)) (o .result) (λ b. nearest (s .x) (s .y) b (s .previous) (controlList (s .l))) (λ h. o .ensures ∙ outside-of (s .l) (s .x) (s .y) h) (v .2) (v .3) in
     rw (← c .before .dpad-mask .ensures, ← v .1) (ap (bitOr (bitOr (c .before .dpad-mask .result) (l .loop .others))) (c .face-mask .ensures ∙ f))
 
 pub mask-near-spec : {M : Type 1} → statement M

@@ -4,7 +4,7 @@ use mathlib.Core.Path.{_≡_, refl, ap, _∙_}
 use Prim.Native.Nat.{_-_, _<_, _≤_}
 use mathlib.Core.Logic.{⊎-elim}
 use lib.ListN.{length, length-map, length-set, take}
-use Rattle.layout.specs.Layout.{anyControl, controlsOf}
+use Rattle.layout.specs.Layout.{anyControl, controlList}
 use Rattle.layout.specs.Lists.{retain, compact}
 use Rattle.layout.specs.Psp.{onPsp, pspInputsOf}
 use Rattle.layout.proofs.Filters.{put-count, put-list, skip-count, skip-list}
@@ -69,7 +69,7 @@ returns c =
     let s = l .before .before .args .self in
     let e : s .count ≡ l .loop .i = omega arith in
     let k : l .loop .controls ≡ compact onPsp (s .count) (s .controls) = rw e (l .loop .inv .4) in
-    let m : l .loop .count ≡ length (retain onPsp (controlsOf s)) = rw e (l .loop .inv .3) in
+    let m : l .loop .count ≡ length (retain onPsp (controlList s)) = rw e (l .loop .inv .3) in
     rw (k, m, c .at-most-one .ensures)
 
 pub psp-inputs-spec : {M : Type 1} → statement M
