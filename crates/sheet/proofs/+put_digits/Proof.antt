@@ -4,7 +4,7 @@ use lib.ListN.{length}
 use Rattle.sheet.proofs.Puts.{digit, digit-after}
 use borrow.Author.Needs.{needs}
 use native.Mathlib.Omega.{arith}
-use Prim.Native.Nat.{ℕ}
+use Prim.Native.Nat.{_<_, ℕ}
 use borrow.Fn.Kinds.{In}
 use borrow.Fn.PlainCycle.{Measures, is, falls, and}
 use Rattle.sheet.proofs.put_digits.Reads as put-digits
