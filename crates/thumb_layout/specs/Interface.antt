@@ -1,5 +1,5 @@
 -- The functions for hosts in other languages: each answer as one number, and each lent output afterwards. Definitions only.
-use mathlib.Core.Bool.{not}
+use mathlib.Core.Bool.{not, cond}
 use mathlib.Core.List.{List, [], _∷_, _++_}
 use Prim.Native.Nat.{ℕ, _+_}
 use lib.Dec.{eqb, leb}
@@ -12,6 +12,7 @@ use Rattle.geometry.specs.declared.Rect.{Rect}
 use Rattle.geometry.specs.declared.safe.Edges.{Edges}
 use Rattle.reader.specs.Order.{must, andThen}
 use Rattle.order.specs.Orders.{layoutOf, touchOf, viewportLayoutOf}
+use Rattle.film_sheet.specs.Film.{filmSheetOf}
 
 -- an answer as a number: minus the refusal's, if it is one
 abbrev pub numberOf : Answer ℕ → ℤ
@@ -28,6 +29,16 @@ tlTouchOf order x y previous = numberOf (touchOf order x y previous)
 
 unfoldable pub tlViewportLayoutOf : List ℕ → Float → Float → List ℕ → ℤ
 tlViewportLayoutOf order reusable covered out = numberOf (viewportLayoutOf order reusable covered out)
+
+-- ---- the film sheet: 1,024 bytes at the start of a lent output, of a refused order too; or refusal 8
+
+-- the text's length
+unfoldable pub tlFilmOf : List ℕ → List ℕ → ℤ
+tlFilmOf order sheet = numberOf (must (leb 1024 (length sheet)) 8 (accepted (filmSheetOf order .len)))
+
+-- later bytes stay, and all of them on refusal
+unfoldable pub tlFilmOutputOf : List ℕ → List ℕ → List ℕ
+tlFilmOutputOf order sheet = cond (leb 1024 (length sheet)) (filmSheetOf order .bytes ++ drop 1024 sheet) sheet
 
 -- ---- the safe area: four numbers at the start of a lent output, or refusals 3, 6, 8 in this order
 

@@ -1,13 +1,15 @@
 // The functions for hosts in other languages, through the C calling convention; host/include/thumb_layout.h declares them.
 // An answer below 0 is minus the number of a refusal, and then every lent output is as it was.
 ghost use mathlib.Core.Path.{_≡_};
+ghost use mathlib.Core.List.{_++_};
 ghost use Prim.Native.Nat.{_+_, _≤_};
 ghost use lib.IntN.{pos, negℤ};
-ghost use lib.ListN.{length};
+ghost use lib.ListN.{length, drop};
 ghost use lib.Signed.{mag};
 ghost use Rattle.order.specs.Demands.{WidestWritten};
 ghost use Rattle.order.specs.Orders.{layoutAnswer, layoutOf, layoutOutputOf, viewportOutputOf};
-ghost use Rattle.thumb_layout.specs.Interface.{numberOf, tlLayoutOf, tlTouchOf, tlViewportLayoutOf, twoOf, fourOf, areaNumbers, edgeNumbers, roomOf, statusOf, fourOutput, tlSafeContentOf, tlSafeContentOutputOf, tlSafeEdgesOf, tlSafeEdgesOutputOf};
+ghost use Rattle.thumb_layout.specs.Interface.{numberOf, tlLayoutOf, tlTouchOf, tlViewportLayoutOf, tlFilmOf, tlFilmOutputOf, twoOf, fourOf, areaNumbers, edgeNumbers, roomOf, statusOf, fourOutput, tlSafeContentOf, tlSafeContentOutputOf, tlSafeEdgesOf, tlSafeEdgesOutputOf};
+use film_sheet::film_sheet;
 use geometry::Rect;
 use geometry::safe::Edges;
 use geometry::safe::SafeContent;
@@ -66,6 +68,31 @@ fn minus(refusal: u8) -> i32
     ensures { λ r. ⌜ r ≡ negℤ (pos refusal) ⌝ }
 {
     -(refusal as i32)
+}
+
+// A refused order has a sheet too, so the output alone decides whether there is a refusal.
+#[no_mangle]
+pub extern "C" fn tl_film(order: &[u8], sheet: &mut [u8]) -> i32
+    ensures answer { λ r. ⌜ r ≡ tlFilmOf (now (order .entry)) (now (sheet .entry)) ⌝ }
+    ensures output { λ _. ⌜ now (sheet .exit) ≡ tlFilmOutputOf (now (order .entry)) (now (sheet .entry)) ⌝ }
+{
+    if sheet.len() < 1024 {
+        return -8;
+    }
+    let film = film_sheet(order);
+    let bytes = film.bytes;
+    let len = film.len;
+    put_bytes(&bytes, sheet);
+    len as i32
+}
+
+fn put_bytes(bytes: &[u8], out: &mut [u8])
+    requires { ⌜ length (now bytes) ≤ length (now out) ⌝ }
+    ensures { λ _. ⌜ now (out .exit) ≡ now (bytes .entry) ++ drop (length (now (bytes .entry))) (now (out .entry)) ⌝ }
+{
+    for i in 0..bytes.len() {
+        out[i] = bytes[i];
+    }
 }
 
 // ---- the safe area
