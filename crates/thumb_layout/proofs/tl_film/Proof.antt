@@ -28,7 +28,6 @@ slice-aggregate-put-bytes c = search needs
 put-bytes-requires : tie.Need-put-bytes-requires
 put-bytes-requires c κs =
     let f = c .before .before .before .film-sheet in
-    let g = f .ok in
     let k : length (f .result .bytes) ≡ 1024 = search sized in
     omega arith
 
@@ -47,7 +46,6 @@ unfolding tlFilmOf tlFilmOutputOf must filmSheetOf
 returns-2 c =
     let s = c .before .before .before .before .before .before in
     let f = s .film-sheet in
-    let g = f .ok in
     let k : length (f .result .bytes) ≡ 1024 = search sized in
     let e = le-leb 1024 _ (s .before .if1 .left) in
     (rw (e, f .ensures) (toZ-pos w32 (omega (arith, film-fits (now (s .before .before .before .before .args .order))))), rw e (rw (k, f .ensures) at (c .before .before .put-bytes .ensures)))
