@@ -42,6 +42,9 @@ enum tl_refusal {
 /* Bytes of a layout: standard, analog, psp. An output of TL_LAYOUT_MOST bytes has room for any. */
 enum { TL_LAYOUT_STANDARD = 285, TL_LAYOUT_ANALOG = 353, TL_LAYOUT_PSP = 265, TL_LAYOUT_MOST = 353 };
 
+/* Bytes of a film sheet. */
+enum { TL_SHEET = 1024 };
+
 /* The layout of an order, written to `out`.
    Fields of the layout: a tag of one byte, a length of two bytes (high byte first), the value. Tag 1 is the game, four f32 of four
    bytes each (high byte first): x, y, w, h. Tag 2 has the elements, 16 bytes each: the d-pad, the controls, pause, playback, speed,
@@ -58,6 +61,11 @@ int32_t tl_touch(const uint8_t *order, size_t order_len, float x, float y, uint1
    tags 3 to 7 as in any order. Both tops lie in -8,192 to 8,192, and reusable_top is at least 0; else -6, if the order has no fault.
    Answers: the number of bytes written. Or -1 to -8. */
 int32_t tl_viewport_layout(const uint8_t *order, size_t order_len, float reusable_top, float covered_top, uint8_t *out, size_t out_len);
+
+/* The film sheet of an order: lines of ASCII text, written to the first 1,024 bytes of `sheet`, with zeros after the text's end.
+   A refused order has a sheet too, the line REFUSED with the refusal's number, and its answer is that text's length.
+   Answers: the text's length, at most 788; later bytes of `sheet` stay. Or -8 if sheet_len is below 1,024, whatever the order. */
+int32_t tl_film(const uint8_t *order, size_t order_len, uint8_t *sheet, size_t sheet_len);
 
 /* The part of a screen inside the system's edges.
    numbers: eight: size w, h, the size w, h at which the edges were measured, the edges left, top, right, bottom.

@@ -57,6 +57,34 @@ static void orders(void)
     EXPECT(tl_touch(NULL, 0, 0, 0, 0), -4);
 }
 
+/* A film sheet into `room` bytes: the text that it starts with, zeros up to 1,024, and that no later byte has changed. */
+static void film(int line, const uint8_t *order, size_t length, size_t room, const char *start, long want)
+{
+    uint8_t *sheet = malloc(room ? room : 1);
+    if (!sheet)
+        abort();
+    memset(sheet, 0xAA, room);
+    long got = tl_film(order, length, sheet, room);
+    expect(line, got, want);
+    if (got >= 0)
+        expect(line, memcmp(sheet, start, strlen(start)), 0);
+    for (size_t i = got < 0 ? 0 : (size_t)got; i < room; i++)
+        expect(line, sheet[i], got < 0 || i >= TL_SHEET ? 0xAA : 0);
+    free(sheet);
+}
+
+static void films(void)
+{
+    film(__LINE__, standard, sizeof standard, TL_SHEET, "FILM 16\nGAME 0 180 10000 7500\n", 348);
+    film(__LINE__, standard, sizeof standard, TL_SHEET + 40, "FILM 16\n", 348);
+    film(__LINE__, standard, sizeof standard, TL_SHEET - 1, "", -8);
+    film(__LINE__, standard, sizeof standard - 1, TL_SHEET, "REFUSED 1\n", 10);
+    film(__LINE__, NULL, 0, TL_SHEET, "REFUSED 4\n", 10);
+    film(__LINE__, NULL, 0, TL_SHEET - 1, "", -8);
+    EXPECT(tl_film(standard, sizeof standard, NULL, 0), -8);
+    EXPECT(tl_film(NULL, 0, NULL, 0), -8);
+}
+
 static void safe_area(void)
 {
     int32_t content[] = {800, 600, 800, 600, 10, 20, 30, 40};
@@ -88,6 +116,7 @@ static void safe_area(void)
 int main(void)
 {
     orders();
+    films();
     safe_area();
     if (failures == 0)
         puts("calls: ok");

@@ -13,6 +13,7 @@ unsafe extern "C" {
         out: *mut u8,
         out_len: usize,
     ) -> i32;
+    fn tl_film(order: *const u8, order_len: usize, sheet: *mut u8, sheet_len: usize) -> i32;
     fn tl_safe_content(numbers: *const i32, n: usize, area: *mut f32, area_len: usize) -> i32;
     fn tl_safe_edges(
         numbers: *const i32,
@@ -70,6 +71,19 @@ pub fn viewport_layout(
         )
     };
     Ok(answer(number)? as usize)
+}
+
+/// Bytes of a film sheet: its text, and zeros after it.
+const SHEET: usize = 1024;
+
+/// The film sheet of an order, which is ASCII. A refused order has one too:
+/// the line `REFUSED` with the number of the refusal.
+pub fn film(order: &[u8]) -> String {
+    let mut sheet = [0; SHEET];
+    // SAFETY: each pointer is passed with the length of what it points to.
+    let number = unsafe { tl_film(order.as_ptr(), order.len(), sheet.as_mut_ptr(), sheet.len()) };
+    let length = answer(number).expect("only a shorter output is refused") as usize;
+    String::from_utf8(sheet[..length].to_vec()).expect("a sheet is ASCII")
 }
 
 /// The part of a screen of this size inside the edges (left, top, right,

@@ -9,7 +9,7 @@ mod calls;
 mod layout;
 mod refusal;
 
-pub use calls::{layout, safe_content, safe_edges, touch, viewport_layout};
+pub use calls::{film, layout, safe_content, safe_edges, touch, viewport_layout};
 pub use layout::{Layout, Rect};
 pub use refusal::Refusal;
 

@@ -2,7 +2,8 @@
 //! outputs.
 use std::thread;
 use thumb_layout::{
-    LAYOUT_MOST, Layout, Rect, Refusal, layout, safe_content, safe_edges, touch, viewport_layout,
+    LAYOUT_MOST, Layout, Rect, Refusal, film, layout, safe_content, safe_edges, touch,
+    viewport_layout,
 };
 
 /// A field of an order.
@@ -63,6 +64,7 @@ fn every_refusal() {
         assert_eq!(viewport_layout(&order, 0., 0., &mut out), Err(refusal));
         assert_eq!(touch(&order, 0., 0., 0), Err(refusal));
         assert_eq!(Layout::of_order(&order), Err(refusal));
+        assert_eq!(film(&order), format!("REFUSED {}\n", refusal.number()));
         assert_eq!(out, [0xAA; LAYOUT_MOST]);
     }
     let texts: Vec<String> = Refusal::ALL.iter().map(Refusal::to_string).collect();
@@ -88,6 +90,21 @@ fn elements_by_name() {
         ]
     );
     assert!(!names.contains(&"?"));
+}
+
+#[test]
+fn film_sheets() {
+    for mode in 0..4 {
+        let order = order(&[field(3, &[mode])]);
+        let lines = Layout::of_order(&order).unwrap().lines();
+        let tenths = |v: f32| (10. * f64::from(v) + 0.5).floor();
+        let mut text = format!("FILM {}\n", lines.len());
+        for (name, r) in lines {
+            let [x, y, w, h] = [r.x, r.y, r.w, r.h].map(tenths);
+            text += &format!("{name} {x} {y} {w} {h}\n");
+        }
+        assert_eq!(film(&order), text);
+    }
 }
 
 #[test]
