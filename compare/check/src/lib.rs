@@ -9,7 +9,6 @@ pub mod hypot;
 pub mod inner;
 #[cfg(feature = "probe")]
 pub mod lent;
-#[cfg(feature = "probe")]
 pub mod masks;
 pub mod nearest;
 pub mod orders;

@@ -1,0 +1,153 @@
+// Runs the lists in data/, whose README has their form: orders, calls of our functions and the Rust's answers, every byte
+// of which is compared. A case with a name prints `ok NAME` or `WRONG NAME`; a list prints how many calls it has, and
+// whether all of them agree.
+ghost use Prim.Native.Nat.{_<_};
+ghost use Rattle.io.specs.Counts.{Counts};
+use film_sheet::film_sheet;
+use order::LayoutAnswer;
+use order::TouchAnswer;
+use tally::Tally;
+
+mod tally;
+
+fn main() {
+    replay(b"cases");
+    replay(b"orders");
+}
+
+fn replay(list: &[u8]) {
+    let file = os::open_read(list);
+    let mut head = [0u8; 17];
+    let mut order = io::large_buffer();
+    let mut size = 0;
+    let mut bytes = io::large_buffer();
+    let mut count = tally::none();
+    for _ in 0usize..100000 {
+        if io::read_full(file, &mut head) < 17 {
+            break;
+        }
+        if head[0] == b'O' {
+            size = load(file, &head, &mut order);
+            count = tally::counted(count, b'O', true);
+        } else {
+            let n = load(file, &head, &mut bytes);
+            count = ran(count, &head, &order[..size], &bytes[..n]);
+        }
+    }
+    libc::close(file);
+    tally::report(list, count);
+}
+
+// The bytes that follow a step's head: how many there are.
+fn load(file: i32, head: &[u8; 17], out: &mut [u8]) -> usize
+    ensures { λ r. ⌜ Counts r (now (out .exit)) ⌝ }
+{
+    let n = within(short(head[15], head[16]), out);
+    io::read_full(file, &mut out[..n])
+}
+
+// With the step run, on the last order.
+fn ran(t: Tally, head: &[u8; 17], order: &[u8], bytes: &[u8]) -> Tally {
+    if head[0] == b'N' {
+        tally::say(bytes, t.fault);
+    }
+    tally::counted(t, head[0], agrees(head, order, bytes))
+}
+
+fn agrees(head: &[u8; 17], order: &[u8], bytes: &[u8]) -> bool {
+    let kind = head[0];
+    match kind {
+        b'L' => layout_agrees(head, order, bytes),
+        b'V' => viewport_agrees(head, order, bytes),
+        b'T' => touch_agrees(head, order),
+        b'S' => sheet_agrees(order, bytes),
+        _ => kind == b'N',
+    }
+}
+
+fn layout_agrees(head: &[u8; 17], order: &[u8], bytes: &[u8]) -> bool {
+    let fill = head[11];
+    let mut out = [fill; 1024];
+    let room = within(short(head[9], head[10]), &out);
+    let answer = order::layout(order, &mut out[..room]);
+    (layout_number(answer) == answer_of(head)) & holds(out, bytes, fill)
+}
+
+fn viewport_agrees(head: &[u8; 17], order: &[u8], bytes: &[u8]) -> bool {
+    let fill = head[11];
+    let mut out = [fill; 1024];
+    let room = within(short(head[9], head[10]), &out);
+    let answer = order::viewport_layout(order, x_of(head), y_of(head), &mut out[..room]);
+    (layout_number(answer) == answer_of(head)) & holds(out, bytes, fill)
+}
+
+fn touch_agrees(head: &[u8; 17], order: &[u8]) -> bool {
+    let previous = short(head[9], head[10]) as u16;
+    let answer = order::touch(order, x_of(head), y_of(head), previous);
+    touch_number(answer) == answer_of(head)
+}
+
+fn sheet_agrees(order: &[u8], bytes: &[u8]) -> bool {
+    let sheet = film_sheet(order);
+    let text = sheet.bytes;
+    (sheet.len == bytes.len()) & holds(text, bytes, 0)
+}
+
+// Whether `out` begins with the bytes and is filled up as it was before.
+fn holds(out: [u8; 1024], bytes: &[u8], fill: u8) -> bool {
+    let before = [fill; 1024];
+    let n = within(bytes.len(), &out);
+    check::same(&out[..n], bytes) & check::same(&out[n..], &before[n..])
+}
+
+// An answer as a list has it: a number below 65,536, or 65,536 times that of a refusal.
+fn layout_number(answer: LayoutAnswer) -> usize {
+    match answer {
+        LayoutAnswer::Bytes(n) => n,
+        LayoutAnswer::Refused(n) => n as usize * 65536,
+    }
+}
+
+fn touch_number(answer: TouchAnswer) -> usize {
+    match answer {
+        TouchAnswer::Mask(n) => n as usize,
+        TouchAnswer::Refused(n) => n as usize * 65536,
+    }
+}
+
+fn answer_of(head: &[u8; 17]) -> usize {
+    short(0, head[12]) * 65536 + short(head[13], head[14])
+}
+
+fn x_of(head: &[u8; 17]) -> f32 {
+    number(short(head[1], head[2]), short(head[3], head[4]))
+}
+
+fn y_of(head: &[u8; 17]) -> f32 {
+    number(short(head[5], head[6]), short(head[7], head[8]))
+}
+
+// `n`, or all of the bytes where they are fewer.
+fn within(n: usize, bytes: &[u8]) -> usize
+    ensures { λ r. ⌜ Counts r (now (bytes .entry)) ⌝ }
+{
+    if n < bytes.len() { n } else { bytes.len() }
+}
+
+fn short(high: u8, low: u8) -> usize
+    ensures { λ r. ⌜ r < 65536 ⌝ }
+{
+    high as usize * 256 + low as usize
+}
+
+// The f32 with a bit pattern; each NaN pattern gives the one NaN.
+fn number(high: usize, low: usize) -> f32
+    requires { ⌜ (high < 65536) × (low < 65536) ⌝ }
+{
+    let n = (high * 65536 + low) as u32;
+    if 0x7f80_0000 < n % 0x8000_0000 {
+        0.0 / 0.0
+    } else {
+        f32::from_bits(n)
+    }
+}
