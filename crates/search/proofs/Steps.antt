@@ -1,18 +1,18 @@
--- The turns of the searches and the game, from what the calls in them return.
+-- Where a picture of the searches may start, and the game, from what the calls return.
 use mathlib.Core.Path.{_≡_, _∙_}
-use mathlib.Core.Bool.{Bool, true, cond}
+use mathlib.Core.Bool.{cond}
 use mathlib.Core.List.{List, _∷_, map}
 use Prim.Native.Nat.{ℕ, _-_, _<_, _≤_}
 use native.Mathlib.Omega.{arith}
 use lib.ListN.{length, getD, length-map}
 use lib.Ieee.{Float, eq}
-use Rattle.float.specs.Float.{_⊕_, _⊖_, _⊗_, _⊘_, k0, k0·25, k1, k2, k3, k4}
+use Rattle.float.specs.Float.{_⊕_, _⊖_, _⊗_, _⊘_, k0, k0·25, k1, k3, k4}
 use Rattle.float.specs.MinMax.{clampOf}
 use Rattle.geometry.specs.declared.Rect.{Rect}
 use Rattle.geometry.specs.Rect.{newOf}
 use Rattle.layout.specs.Layout.{anyRect}
 use Rattle.layout.proofs.Loops.{getD-first}
-use Rattle.search.specs.Search.{withinOf, betterOf, widthAt, tryAt, sideWidthAt, trySideAt, clearPictureOf, clearPictureAspectOf, obstaclesOf, gameOf}
+use Rattle.search.specs.Search.{clearPictureOf, clearPictureAspectOf, obstaclesOf, gameOf}
 use Rattle.search.specs.declared.Offset.{Offset}
 
 -- the place where a picture may start: 0 in the first turn, an edge of the obstacle before in a later one
@@ -22,18 +22,6 @@ module _ (edge : Rect → Float) (l : List Rect) (k : ℕ) where
 
   pub later-start : {y : Float} → 0 < k → k < length (k0 ∷ map edge l) → y ≡ edge (getD l (k - 1) anyRect) → y ≡ getD (k0 ∷ map edge l) k k0
   later-start h n p = p ∙ getD-first edge k0 k0 l k anyRect (λ e. omega arith) (omega (arith, length-map l edge))
-
--- a turn at a place in the area
-module _ (w h : Float) (l : List Rect) (aspect : Float) (best : Rect) where
-  pub try-here : (y : Float) {flag : Bool} {width : Float} {r : Rect} → flag ≡ withinOf y h → flag ≡ true → width ≡ widthAt w h l aspect y
-      → r ≡ betterOf best ((w ⊖ width) ⊘ k2) y width aspect → r ≡ tryAt w h l aspect best y
-  unfolding tryAt
-  try-here y p t e q = rw (← p, t, ← e) q
-
-  pub try-side-here : (x y : Float) {flag : Bool} {width : Float} {r : Rect} → flag ≡ withinOf y h → flag ≡ true → width ≡ sideWidthAt w h l aspect x y
-      → r ≡ betterOf best x y width aspect → r ≡ trySideAt w h l aspect x best y
-  unfolding trySideAt
-  try-side-here x y p t e q = rw (← p, t, ← e) q
 
 -- the game, from its obstacles, the clear picture, and the three numbers between their limits
 pub game-is : (elements : List Rect) (bounds : Rect) (factor : Float) (offset : Offset) (aspect : Float) {obstacles : List Rect} {area : Rect} {scale across down : Float}

@@ -64,7 +64,7 @@ fn narrow_side(aspect: f32, x: f32, y: f32, width: f32, r: Rect) -> f32
     min(width, limit)
 }
 
-// The widest picture in the middle, starting at the top or under an obstacle.
+// The widest picture in the middle, starting at the top or under an obstacle. One that has become narrower than the best is given up: obstacles only narrow it.
 fn centered(w: f32, h: f32, obstacles: [Rect; 19], count: usize, aspect: f32) -> Rect
     requires { ⌜ count ≤ 19 ⌝ }
     ensures { λ r. ⌜ r ≡ centeredOf w h (take count obstacles) aspect ⌝ }
@@ -85,6 +85,9 @@ fn centered(w: f32, h: f32, obstacles: [Rect; 19], count: usize, aspect: f32) ->
         if within(y, h) {
             let mut width = max(min(w, (h - y) * aspect), 0.0);
             for k in 0..count {
+                if width < best.w {
+                    break;
+                }
                 let r = obstacles[k];
                 width = narrow(center, aspect, y, width, r);
             }
@@ -121,6 +124,9 @@ fn side(w: f32, h: f32, obstacles: [Rect; 19], count: usize, aspect: f32) -> Rec
                 if within(y, h) {
                     let mut width = max(min(w - x, (h - y) * aspect), 0.0);
                     for k in 0..count {
+                        if width < best.w {
+                            break;
+                        }
                         let r = obstacles[k];
                         width = narrow_side(aspect, x, y, width, r);
                     }

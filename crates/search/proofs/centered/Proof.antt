@@ -1,21 +1,22 @@
--- `centered` is the fold `centeredOf`: each loop has done the first part of its fold.
+-- `centered` is the fold `centeredOf`: the outer loop has done the first part of it; what is left of the inner one gives the whole width, or is given up.
 use borrow.Author.Needs.{needs}
 use native.Mathlib.Omega.{arith}
-use mathlib.Core.Path.{_≡_, refl, ap, _∙_}
-use mathlib.Core.Logic.{⊎-elim}
+use mathlib.Core.Path.{_≡_, refl, _∙_}
+use mathlib.Core.Logic.{⊎-elim, ⊎-map}
 use mathlib.Core.List.{foldl}
 use lib.ListN.{take, length, length-map}
-use Rattle.float.specs.MinMax.{maxOf}
+use Rattle.float.specs.Float.{_⊖_, _⊘_, k2}
 use Rattle.geometry.specs.Rect.{emptyRect}
-use Rattle.layout.proofs.Loops.{sized, fold-next, take-first, cond-no}
-use Rattle.search.specs.Search.{bottomOf, bottoms, widthAt, tryAt, centeredOf}
-use Rattle.search.proofs.Steps.{first-start, later-start, try-here}
+use Rattle.layout.proofs.Loops.{sized, fold-next, take-first, cond-yes, cond-no}
+use Rattle.search.specs.Search.{bottomOf, bottoms, narrowOf, widthAt, tryAt, centeredOf}
+use Rattle.search.proofs.Narrower.{narrow-below, Left, left-next, settled}
+use Rattle.search.proofs.Steps.{first-start, later-start}
 use Prim.Native.Nat.{_+_, _-_, _<_, _≤_, zero-le}
 use Rattle.search.proofs.centered.Statement.{statement}
 use Rattle.search.proofs.centered.Tie as tie
 
 abbrev Inv-loop2 : tie.InvT-loop2
-Inv-loop2 w h count aspect obstacles center best j y width₀ k₀ j-end width k = (k ≤ count) × (width ≡ widthAt w h (take k obstacles) aspect y)
+Inv-loop2 w h count aspect obstacles center best j y width₀ k₀ j-end width k = (k ≤ count) × Left (narrowOf (w ⊘ k2) aspect y) obstacles count k width (widthAt w h (take count obstacles) aspect y)
 
 abbrev μ-loop2 : tie.MeasureT-loop2
 μ-loop2 w h count aspect obstacles center best j y width₀ k₀ j-end width k = count - k
@@ -32,16 +33,14 @@ loop-holds c = (zero-le, refl, refl)
 
 loop2-holds : tie.Need-loop2-holds Inv-loop2 μ-loop2 Inv-loop μ-loop
 unfolding widthAt
-loop2-holds c = (zero-le, c .max .ensures ∙ ap (λ m. maxOf m _) (c .before .min .ensures))
+loop2-holds c = (zero-le, rw (c .max .ensures, c .before .min .ensures))
 
 loop2-again : tie.Need-loop2-again Inv-loop2 μ-loop2 Inv-loop μ-loop
-unfolding widthAt
 loop2-again c =
-    let l = c .before .before .before in
+    let l = c .before .before .before .before .before in
     let s = l .before .before .before .before .before .before .before .before in
     let n : length (s .args .t3) ≡ 19 = search sized in
-    let h : l .loop2 .k < length (s .args .t3) = omega arith in
-    (omega arith, fold-next _ _ _ _ _ h (l .loop2 .inv .1) refl (c .narrow .ensures))
+    (omega arith, left-next _ _ _ (l .loop2 .k) 19 _ _ _ n (s .pre) (c .before .before .before .before .loop2-test .taken) (l .loop2 .inv .1) (c .narrow .ensures))
 
 loop-again : tie.Need-loop-again Inv-loop2 μ-loop2 Inv-loop μ-loop
 unfolding tryAt
@@ -59,7 +58,9 @@ loop-again c =
           (λ t. first-start bottomOf (s .args .t3) _ (t .0 .left) (t .1))
           (b .before .if1 .came))
           (⊎-elim
-          (λ t. let e : t .3 .k ≡ s .args .count = omega arith in try-here _ _ _ _ _ _ (b .within .ensures) (t .0 .taken) (rw e at (t .3 .inv .1)) (t .6 ∙ t .5 .ensures))
+          (λ t. cond-yes _ _ _ (b .within .ensures) (t .0 .taken)
+          (t .6 ∙ t .5 .ensures ∙ settled _ _ _ _ (narrow-below _ _ _ _) (λ width. (s .args .w ⊖ width) ⊘ k2) _ _ _ 19 _ _ n (s .pre) (t .3 .inv .1)
+          (⊎-map (λ u. u .left) (λ u. u .2 .taken) (t .4 .came))))
           (λ t. cond-no _ _ _ (b .within .ensures) (t .0 .left) (t .1))
           (c .if2 .came)),
     )

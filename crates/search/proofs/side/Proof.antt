@@ -1,21 +1,21 @@
--- `side` is the fold `sideOf`: each of its three loops has done the first part of its fold.
+-- `side` is the fold `sideOf`: the loops over x and y have done the first part of their folds; what is left of the inner one gives the whole width, or is given up.
 use borrow.Author.Needs.{needs}
 use native.Mathlib.Omega.{arith}
-use mathlib.Core.Path.{_≡_, refl, ap, _∙_}
-use mathlib.Core.Logic.{⊎-elim}
+use mathlib.Core.Path.{_≡_, refl, _∙_}
+use mathlib.Core.Logic.{⊎-elim, ⊎-map}
 use mathlib.Core.List.{foldl}
 use lib.ListN.{take, length, length-map}
-use Rattle.float.specs.MinMax.{maxOf}
 use Rattle.geometry.specs.Rect.{emptyRect}
 use Rattle.layout.proofs.Loops.{sized, fold-next, take-first, cond-yes, cond-no}
-use Rattle.search.specs.Search.{bottomOf, rightOf, bottoms, rights, sideWidthAt, trySideAt, tryColumn, sideOf}
-use Rattle.search.proofs.Steps.{first-start, later-start, try-side-here}
+use Rattle.search.specs.Search.{bottomOf, rightOf, bottoms, rights, narrowSideOf, sideWidthAt, trySideAt, tryColumn, sideOf}
+use Rattle.search.proofs.Narrower.{narrow-side-below, Left, left-next, settled}
+use Rattle.search.proofs.Steps.{first-start, later-start}
 use Prim.Native.Nat.{_+_, _-_, _<_, _≤_, zero-le}
 use Rattle.search.proofs.side.Statement.{statement}
 use Rattle.search.proofs.side.Tie as tie
 
 abbrev Inv-loop3 : tie.InvT-loop3
-Inv-loop3 w h count aspect obstacles best i x j y width₀ k₀ i-end j-end width k = (k ≤ count) × (width ≡ sideWidthAt w h (take k obstacles) aspect x y)
+Inv-loop3 w h count aspect obstacles best i x j y width₀ k₀ i-end j-end width k = (k ≤ count) × Left (narrowSideOf aspect x y) obstacles count k width (sideWidthAt w h (take count obstacles) aspect x y)
 
 abbrev μ-loop3 : tie.MeasureT-loop3
 μ-loop3 w h count aspect obstacles best i x j y width₀ k₀ i-end j-end width k = count - k
@@ -42,16 +42,14 @@ loop2-holds c = (zero-le, refl, refl)
 
 loop3-holds : tie.Need-loop3-holds Inv-loop3 μ-loop3 Inv-loop2 μ-loop2 Inv-loop μ-loop
 unfolding sideWidthAt
-loop3-holds c = (zero-le, c .max .ensures ∙ ap (λ m. maxOf m _) (c .before .min .ensures))
+loop3-holds c = (zero-le, rw (c .max .ensures, c .before .min .ensures))
 
 loop3-again : tie.Need-loop3-again Inv-loop3 μ-loop3 Inv-loop2 μ-loop2 Inv-loop μ-loop
-unfolding sideWidthAt
 loop3-again c =
-    let l = c .before .before .before in
+    let l = c .before .before .before .before .before in
     let s = l .before .before .before .before .before .before .before .before .before .before .before .before .before in
     let n : length (s .args .t3) ≡ 19 = search sized in
-    let h : l .loop3 .k < length (s .args .t3) = omega arith in
-    (omega arith, fold-next _ _ _ _ _ h (l .loop3 .inv .1) refl (c .narrow-side .ensures))
+    (omega arith, left-next _ _ _ (l .loop3 .k) 19 _ _ _ n (s .pre) (c .before .before .before .before .loop3-test .taken) (l .loop3 .inv .1) (c .narrow-side .ensures))
 
 loop2-again : tie.Need-loop2-again Inv-loop3 μ-loop3 Inv-loop2 μ-loop2 Inv-loop μ-loop
 unfolding trySideAt
@@ -69,7 +67,9 @@ loop2-again c =
           (λ t. first-start bottomOf (s .args .t3) _ (t .0 .left) (t .1))
           (b .before .if3 .came))
           (⊎-elim
-          (λ t. let e : t .3 .k ≡ s .args .count = omega arith in try-side-here _ _ _ _ _ _ _ (b .within2 .ensures) (t .0 .taken) (rw e at (t .3 .inv .1)) (t .6 ∙ t .5 .ensures))
+          (λ t. cond-yes _ _ _ (b .within2 .ensures) (t .0 .taken)
+          (t .6 ∙ t .5 .ensures ∙ settled _ _ _ _ (narrow-side-below _ _ _ _) (λ _. l .before .before .before .if1 .x) _ _ _ 19 _ _ n (s .pre) (t .3 .inv .1)
+          (⊎-map (λ u. u .left) (λ u. u .2 .taken) (t .4 .came))))
           (λ t. cond-no _ _ _ (b .within2 .ensures) (t .0 .left) (t .1))
           (c .if4 .came)),
     )

@@ -1,0 +1,61 @@
+-- A picture that has become narrower than the best one cannot win, since obstacles only narrow it: a search may give it up.
+use mathlib.Core.Path.{_≡_, refl, sym, _∙_}
+use mathlib.Core.Logic.{_⊎_, inl, inr}
+use mathlib.Core.Bool.{Bool, true, false, cond, _||_, _&&_}
+use mathlib.Core.List.{List, [], _∷_, foldl}
+use Prim.Native.Nat.{ℕ, _+_, _<_, _≤_}
+use lib.ListN.{length, take, drop, getD}
+use lib.Dec.{T}
+use lib.Ieee.{Float, lt, le, eq}
+use Rattle.float.specs.Float.{_⊕_, _⊘_, k0·01}
+use Rattle.float.proofs.Order.{lt-trans, lt-irrefl, lt-not-eq, min-below}
+use Rattle.geometry.specs.declared.Rect.{Rect}
+use Rattle.geometry.specs.Rect.{newOf}
+use Rattle.layout.specs.Layout.{anyRect}
+use Rattle.layout.proofs.Loops.{next-of, none-left}
+use Rattle.search.specs.Search.{bottomOf, rightOf, narrowOf, narrowSideOf, betterOf}
+
+-- f makes no width that is below b greater than b
+abbrev pub Narrows : (Float → Rect → Float) → Float → Type 0
+Narrows f b = (width : Float) (r : Rect) → T (lt width b) → T (lt (f width r) b)
+
+either : (t : Bool) (a c b : Float) → T (lt a b) → T (lt c b) → T (lt (cond t a c) b)
+either true a c b p q = p
+either false a c b p q = q
+
+pub narrow-below : (center aspect y b : Float) → Narrows (narrowOf center aspect y) b
+unfolding narrowOf
+narrow-below center aspect y b width r p = either (le (bottomOf r) (y ⊕ k0·01)) _ _ b p (min-below width _ b p)
+
+pub narrow-side-below : (aspect x y b : Float) → Narrows (narrowSideOf aspect x y) b
+unfolding narrowSideOf
+narrow-side-below aspect x y b width r p = either (le (rightOf r) (x ⊕ k0·01) || le (bottomOf r) (y ⊕ k0·01)) _ _ b p (min-below width _ b p)
+
+fold-below : (f : Float → Rect → Float) (b : Float) → Narrows f b → (rest : List Rect) (width : Float) → T (lt width b) → T (lt (foldl f width rest) b)
+fold-below f b keeps [] width p = p
+fold-below f b keeps (r ∷ rest) width p = fold-below f b keeps rest (f width r) (keeps width r p)
+
+better-not : (best : Rect) (x y width aspect : Float) → T (lt width (best .w)) → betterOf best x y width aspect ≡ best
+unfolding betterOf
+better-not best x y width aspect p = go (lt (best .w) width) refl (eq width (best .w)) refl
+  where
+    go : (l : Bool) → lt (best .w) width ≡ l → (e : Bool) → eq width (best .w) ≡ e → cond (l || (e && lt y (best .y))) (newOf x y width (width ⊘ aspect)) best ≡ best
+    go true h e k = absurd (lt-irrefl width (lt-trans width (best .w) width p (rw h tt)))
+    go false h true k = absurd (lt-not-eq width (best .w) p (rw k tt))
+    go false h false k = refl
+
+-- ---- a loop over the first n of at most m obstacles that has come to the k-th: f over those that are left gives the full width
+module _ (f : Float → Rect → Float) (l : List Rect) (n : ℕ) where
+  abbrev pub Left : ℕ → Float → Float → Type 0
+  Left k width full = full ≡ foldl f width (drop k (take n l))
+
+  pub left-next : (k m : ℕ) (width full v : Float) → length l ≡ m → n ≤ m → k < n → Left k width full → v ≡ f width (getD l k anyRect) → Left (k + 1) v full
+  left-next k m width full v e h j p q = rw q (rw (next-of anyRect l m n k e h j) at p)
+
+  -- A turn's answer is that of the full width, if no obstacle is left or the picture was given up. `left` is where a picture of a width starts.
+  pub settled : (best : Rect) → Narrows f (best .w) → (left : Float → Float) (y aspect : Float) (k m : ℕ) (width full : Float) → length l ≡ m → n ≤ m → Left k width full
+      → (n ≤ k) ⊎ (lt width (best .w) ≡ true) → betterOf best (left width) y width aspect ≡ betterOf best (left full) y full aspect
+  settled best keeps left y aspect k m width full e h p (inl j) = let s : full ≡ width = rw (none-left l m n k e h j) at p in rw s
+  settled best keeps left y aspect k m width full e h p (inr t) =
+      let q : T (lt width (best .w)) = rw t tt in
+      better-not best (left width) y width aspect q ∙ sym (better-not best (left full) y full aspect (rw p (fold-below f (best .w) keeps (drop k (take n l)) width q)))
