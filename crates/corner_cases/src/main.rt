@@ -2,11 +2,11 @@
 ghost use mathlib.Core.Path.{_≡_};
 use arranged::MaybeLayout;
 use geometry::Rect;
-use geometry::safe::SafeContent;
-use geometry::safe::SafeEdges;
 use layout::Control;
 use layout::Layout;
 use libc::STDOUT_FILENO;
+use safe_area::SafeContent;
+use safe_area::SafeEdges;
 
 mod layouts;
 mod packing;
@@ -229,7 +229,7 @@ fn rect_cases() {
 }
 
 fn content(size: [i32; 2], inset_size: [i32; 2], margins: [i32; 4]) -> [u32; 5] {
-    match geometry::safe::safe_content(size, inset_size, margins) {
+    match safe_area::safe_content(size, inset_size, margins) {
         SafeContent::Area(r) => bounds(r),
         SafeContent::OffScale => refusal(6),
     }
@@ -304,7 +304,7 @@ fn safe_content_limits() {
 }
 
 fn merged(decoration: [i32; 4], navigation: [i32; 4], camera: [i32; 4], local: bool) -> [u32; 5] {
-    match geometry::safe::safe_edges(decoration, navigation, camera, local) {
+    match safe_area::safe_edges(decoration, navigation, camera, local) {
         SafeEdges::Merged(e) => edges(e.left, e.top, e.right, e.bottom),
         SafeEdges::OffScale => refusal(6),
     }

@@ -1,3 +1,2 @@
 pub mod Rect
 pub mod Answer
-pub mod Safe

@@ -2,8 +2,6 @@
 ghost use mathlib.Core.Path.{_≡_};
 ghost use Rattle.geometry.specs.Rect.{newOf, containsOf, fitOf, overlapsOf, nearOf, sameBoundsOf};
 
-pub mod safe;
-
 pub struct Rect {
     pub x: f32,
     pub y: f32,

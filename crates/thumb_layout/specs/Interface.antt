@@ -7,7 +7,7 @@ use lib.Ieee.{Float}
 use lib.IntN.{ℤ, pos, negℤ}
 use lib.ListN.{length, drop}
 use Rattle.geometry.specs.Answer.{Answer, accepted, refused}
-use Rattle.geometry.specs.Safe.{at, safeContentOf, safeEdgesOf}
+use Rattle.safe_area.specs.Safe.{at, safeContentOf, safeEdgesOf}
 use Rattle.geometry.specs.declared.Rect.{Rect}
 use Rattle.geometry.specs.declared.safe.Edges.{Edges}
 use Rattle.reader.specs.Order.{must, andThen}

@@ -11,13 +11,13 @@ ghost use Rattle.order.specs.Orders.{layoutAnswer, layoutOf, layoutOutputOf, vi
 ghost use Rattle.thumb_layout.specs.Interface.{numberOf, tlLayoutOf, tlTouchOf, tlViewportLayoutOf, tlFilmOf, tlFilmOutputOf, twoOf, fourOf, areaNumbers, edgeNumbers, roomOf, statusOf, fourOutput, tlSafeContentOf, tlSafeContentOutputOf, tlSafeEdgesOf, tlSafeEdgesOutputOf};
 use film_sheet::film_sheet;
 use geometry::Rect;
-use geometry::safe::Edges;
-use geometry::safe::SafeContent;
-use geometry::safe::SafeEdges;
-use geometry::safe::safe_content;
-use geometry::safe::safe_edges;
 use order::LayoutAnswer;
 use order::TouchAnswer;
+use safe_area::Edges;
+use safe_area::SafeContent;
+use safe_area::SafeEdges;
+use safe_area::safe_content;
+use safe_area::safe_edges;
 
 // ---- orders
 

@@ -1,0 +1,139 @@
+-- Signed integers: the machine reads back what it stored, and document 01's limits keep differences and casts in range.
+use mathlib.Core.Path.{_≡_, refl, _∙_}
+use mathlib.Core.Bool.{Bool, true, false, _&&_, cond, and-true, and-eq-true-iff}
+use mathlib.Core.List.{List, [], _∷_}
+use Prim.Native.Nat.{ℕ, zero, suc, _+_, _-_, _^_, _<_, _≤_}
+use native.Mathlib.Omega.{arith}
+use lib.Dec.{T, ltb, eqb, lt→ltb, le→leb}
+use lib.IntN.{ℤ, pos, negsuc, subℕ, _-ℤ_}
+use lib.Signed.{mag, ltZ}
+use lib.Ieee.{binary32, inFloat}
+use mir.Syntax.{w32}
+use mir.Val.{SFits, toZ, ofZ, hbits}
+use mir.Facts.{toZ-ofZ}
+use borrow.Author.Needs.{sfits-of}
+use borrow.Author.Tests.{leb-true, eqb-true, eqb-false, eq-eqb, ne-eqb}
+use Rattle.safe_area.specs.Safe.{at, eqZ, maxOf, clampOf, withinLimitsOf, onScaleOf, allOnScaleOf, sameSizeOf, currentEdgesOf}
+
+-- what is read back from the bits of z
+abbrev pub back : ℤ → ℤ
+back z = toZ w32 (ofZ w32 z)
+
+pub stored : {z y : ℤ} → mag z < 2 ^ hbits w32 → z ≡ y → back z ≡ y
+stored p e = toZ-ofZ (sfits-of p) ∙ e
+
+pub cond-keeps : {A : Type 0} (P : A → Type 0) (t : Bool) {x y : A} → P x → P y → P (cond t x y)
+cond-keeps P true p q = p
+cond-keeps P false p q = q
+
+-- ---- tests
+pub ltZ-back : {a b : ℤ} {t : Bool} → SFits w32 a → SFits w32 b → ltZ (back a) (back b) ≡ t → ltZ a b ≡ t
+ltZ-back p q h = rw (toZ-ofZ p, toZ-ofZ q) at h
+
+eqb-as : (a b c d : ℕ) → (a ≡ b → c ≡ d) → (c ≡ d → a ≡ b) → eqb a b ≡ eqb c d
+eqb-as a b c d f g = go (eqb c d) refl
+  where
+    go : (t : Bool) → eqb c d ≡ t → eqb a b ≡ t
+    go true h = eq-eqb a b (g (eqb-true c d h))
+    go false h = ne-eqb a b (λ e. eqb-false c d h (f e))
+
+pub eqZ-back : (a b : ℤ) → SFits w32 a → SFits w32 b → eqb (ofZ w32 a) (ofZ w32 b) ≡ eqZ a b
+unfolding eqZ
+eqZ-back (pos a) (pos b) p q = refl
+eqZ-back (pos a) (negsuc b) p q = ne-eqb a (2 ^ 32 - suc b) (λ e. omega (arith, p .sfits, q .sfits))
+eqZ-back (negsuc a) (pos b) p q = ne-eqb (2 ^ 32 - suc a) b (λ e. omega (arith, p .sfits, q .sfits))
+eqZ-back (negsuc a) (negsuc b) p q =
+    eqb-as (2 ^ 32 - suc a) (2 ^ 32 - suc b) a b (λ e. omega (arith, p .sfits, q .sfits)) (λ e. rw e)
+
+-- ---- limits
+pub within-mag : (n : ℤ) → withinLimitsOf n ≡ true → mag n ≤ 8192
+unfolding withinLimitsOf
+within-mag (pos n) h = leb-true n 8192 h
+within-mag (negsuc n) h = let k : n ≤ 8191 = leb-true n 8191 (rw and-true at h) in omega arith
+
+pub within-at : (xs : List ℤ) (i : ℕ) → onScaleOf xs ≡ true → withinLimitsOf (at xs i) ≡ true
+unfolding onScaleOf withinLimitsOf
+within-at [] i h = refl
+within-at (x ∷ xs) zero h = and-eq-true-iff (withinLimitsOf x) (onScaleOf xs) .0 h .0
+within-at (x ∷ xs) (suc i) h = within-at xs i (and-eq-true-iff (withinLimitsOf x) (onScaleOf xs) .0 h .1)
+
+mag-subℕ : (a b : ℕ) → mag (subℕ a b) ≤ a + b
+mag-subℕ a b = cond-keeps (λ z. mag z ≤ a + b) (ltb a b) (omega arith) (omega arith)
+
+pub mag-sub : (a b : ℤ) → mag (a -ℤ b) ≤ mag a + mag b + 2
+mag-sub (pos a) (pos zero) = omega arith
+mag-sub (pos a) (pos (suc b)) = omega (arith, mag-subℕ a (suc b))
+mag-sub (pos a) (negsuc b) = omega arith
+mag-sub (negsuc a) (pos zero) = omega (arith, mag-subℕ 0 (suc a))
+mag-sub (negsuc a) (pos (suc b)) = omega arith
+mag-sub (negsuc a) (negsuc b) = omega (arith, mag-subℕ (suc b) (suc a))
+
+back-small : (z : ℤ) → mag z ≤ 65536 → back z ≡ z
+back-small z h = toZ-ofZ (sfits-of (omega arith))
+
+in-float : (z : ℤ) → mag z ≤ 65536 → T (inFloat binary32 z)
+unfolding inFloat
+in-float (pos n) h = le→leb n (2 ^ 24) (omega arith)
+in-float (negsuc n) h = lt→ltb n (2 ^ 24) (omega arith)
+
+pub cast-small : (z : ℤ) → mag z ≤ 65536 → T (inFloat binary32 (back z))
+cast-small z h = rw (back-small z h) (in-float z h)
+
+max-mag : (k : ℕ) (a b : ℤ) → mag a ≤ k → mag b ≤ k → mag (maxOf a b) ≤ k
+unfolding maxOf
+max-mag k a b p q = cond-keeps (λ z. mag z ≤ k) (ltZ a b) q p
+
+-- ---- a span: its start, the differences up to its extent, and the extent
+pub record Measured (whole near far start end : ℤ) : Type 0 where
+  pub start-is : start ≡ clampOf near (pos 0) (maxOf whole (pos 0))
+  pub start-small : mag start ≤ 8192
+  pub first : SFits w32 (back whole -ℤ back start)
+  pub second : SFits w32 (back (back whole -ℤ back start) -ℤ back end)
+  pub rest-small : mag (whole -ℤ start -ℤ maxOf far (pos 0)) ≤ 65536
+  pub rest-is : back (back (back whole -ℤ back start) -ℤ back end) ≡ whole -ℤ start -ℤ maxOf far (pos 0)
+
+module _ {whole near far least start end : ℤ} where
+  pub measured : withinLimitsOf whole ≡ true → withinLimitsOf near ≡ true → withinLimitsOf far ≡ true
+      → least ≡ maxOf (back whole) (pos 0) → start ≡ clampOf (back near) (pos 0) (back least) → end ≡ maxOf (back far) (pos 0) → Measured whole near far start end
+  unfolding clampOf
+  measured w n f el es ee =
+      let hw = within-mag whole w in
+      let hn = within-mag near n in
+      let hf = within-mag far f in
+      let bw = back-small whole (omega arith) in
+      let l : least ≡ maxOf whole (pos 0) = el ∙ rw bw in
+      let hl : mag least ≤ 8192 = rw l (max-mag 8192 whole (pos 0) hw (omega arith)) in
+      let s : start ≡ clampOf near (pos 0) least = es ∙ rw (back-small near (omega arith), back-small least (omega arith)) in
+      let hs : mag start ≤ 8192 = rw s (cond-keeps (λ z. mag z ≤ 8192) (ltZ near (pos 0)) (omega arith) (cond-keeps (λ z. mag z ≤ 8192) (ltZ least near) hl hn)) in
+      let e : end ≡ maxOf far (pos 0) = ee ∙ rw (back-small far (omega arith)) in
+      let he : mag end ≤ 8192 = rw e (max-mag 8192 far (pos 0) hf (omega arith)) in
+      let bs = back-small start (omega arith) in
+      let be = back-small end (omega arith) in
+      let h1 = mag-sub whole start in
+      let h2 = mag-sub (whole -ℤ start) end in
+      let b1 = back-small (whole -ℤ start) (omega arith) in
+      record {
+        start-is = s ∙ rw l;
+        start-small = hs;
+        first = rw (bw, bs) (sfits-of (omega arith));
+        second = rw (bw, bs, b1, be) (sfits-of (omega arith));
+        rest-small = rw (← e) (omega arith);
+        rest-is = rw (bw, bs, b1, be, back-small (whole -ℤ start -ℤ end) (omega arith), e);
+      }
+
+module _ {whole near far start end extent : ℤ} (m : Measured whole near far start end) (e : extent ≡ maxOf (back (back (back whole -ℤ back start) -ℤ back end)) (pos 1)) where
+  pub extent-is : extent ≡ maxOf (whole -ℤ clampOf near (pos 0) (maxOf whole (pos 0)) -ℤ maxOf far (pos 0)) (pos 1)
+  extent-is = e ∙ rw (m .rest-is, m .start-is)
+
+  pub extent-small : mag extent ≤ 65536
+  extent-small = rw (e, m .rest-is) (max-mag 65536 (whole -ℤ start -ℤ maxOf far (pos 0)) (pos 1) (m .rest-small) (omega arith))
+
+pub sizes-and-edges : (a b c : List ℤ) → allOnScaleOf a b c ≡ true → (onScaleOf a ≡ true) × (onScaleOf c ≡ true)
+unfolding allOnScaleOf
+sizes-and-edges a b c h =
+    let k = and-eq-true-iff (onScaleOf a) (onScaleOf b && onScaleOf c) .0 h in
+    (k .0, and-eq-true-iff (onScaleOf b) (onScaleOf c) .0 (k .1) .1)
+
+pub current-on-scale : (size inset edges : List ℤ) {current : List ℤ} → current ≡ currentEdgesOf size inset edges → onScaleOf edges ≡ true → onScaleOf current ≡ true
+unfolding currentEdgesOf onScaleOf withinLimitsOf
+current-on-scale size inset edges e h = rw e (cond-keeps (λ xs. onScaleOf xs ≡ true) (sameSizeOf size inset) h refl)

@@ -1,0 +1,22 @@
+use Rattle.safe_area.proofs.Signed.{current-on-scale}
+use Rattle.safe_area.specs.Safe.{contentOf}
+use borrow.Author.Needs.{needs}
+use Rattle.safe_area.proofs.content.Statement.{statement}
+use Rattle.safe_area.proofs.content.Tie as tie
+
+current-edges-requires : tie.Need-current-edges-requires
+current-edges-requires c κs = search needs
+
+span-along-requires : tie.Need-span-along-requires
+span-along-requires c κs = (search needs, (search needs, current-on-scale (c .before .args .size) (c .before .args .inset-size) (c .before .args .edges) (c .current-edges .ensures) (search needs)))
+
+span-along-requires-2 : tie.Need-span-along-requires-2
+span-along-requires-2 c κs = (search needs, (search needs, current-on-scale (c .before .before .args .size) (c .before .before .args .inset-size) (c .before .before .args .edges) (c .before .current-edges .ensures) (search needs)))
+
+returns : tie.Need-returns
+unfolding contentOf
+returns c = rw (← c .before .before .current-edges .ensures, ← c .before .span-along .ensures, ← c .span-along2 .ensures)
+
+pub content-spec : {M : Type 1} → statement M
+content-spec =
+    tie.close (tie.spec current-edges-requires span-along-requires span-along-requires-2 returns)

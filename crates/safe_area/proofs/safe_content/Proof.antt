@@ -1,0 +1,41 @@
+use Rattle.safe_area.proofs.Signed.{sizes-and-edges}
+use Rattle.safe_area.specs.Safe.{safeContentOf}
+use mathlib.Core.Path.{sym, _∙_}
+use borrow.Author.Needs.{needs}
+use Rattle.safe_area.proofs.safe_content.Statement.{statement}
+use Rattle.safe_area.proofs.safe_content.Tie as tie
+
+slice-aggregate-all-on-scale : tie.Need-slice-aggregate-all-on-scale
+slice-aggregate-all-on-scale c = search needs
+
+slice-aggregate-all-on-scale-2 : tie.Need-slice-aggregate-all-on-scale-2
+slice-aggregate-all-on-scale-2 c = search needs
+
+slice-aggregate-all-on-scale-3 : tie.Need-slice-aggregate-all-on-scale-3
+slice-aggregate-all-on-scale-3 c = search needs
+
+all-on-scale-requires : tie.Need-all-on-scale-requires
+all-on-scale-requires c κs = search needs
+
+content-requires : tie.Need-content-requires
+content-requires c κs = sizes-and-edges _ _ _ (sym (c .before .all-on-scale .ensures) ∙ c .if1 .taken)
+
+returns : tie.Need-returns
+unfolding safeContentOf
+returns c = rw (← c .before .before .all-on-scale .ensures, c .before .if1 .taken, c .content .ensures)
+
+returns-2 : tie.Need-returns-2
+unfolding safeContentOf
+returns-2 c = rw (← c .before .all-on-scale .ensures, c .if1 .left)
+
+pub safe-content-spec : {M : Type 1} → statement M
+safe-content-spec =
+    tie.close
+    (tie.spec
+    slice-aggregate-all-on-scale
+    slice-aggregate-all-on-scale-2
+    slice-aggregate-all-on-scale-3
+    all-on-scale-requires
+    content-requires
+    returns
+    returns-2)

@@ -1,0 +1,92 @@
+use Rattle.safe_area.proofs.Signed.{stored, extent-small, Measured, measured, within-at, cast-small, extent-is}
+use borrow.Author.Needs.{needs}
+use Rattle.safe_area.specs.Safe.{at, spanAlongOf}
+use native.Mathlib.Omega.{arith}
+use Prim.Native.Nat.{_+_}
+use Rattle.safe_area.proofs.span_along.Statement.{statement}
+use Rattle.safe_area.proofs.span_along.Tie as tie
+
+abbrev start : tie.After-max2 → tie.Start
+start c = c .before .before .before .before .before .before
+
+-- what is known once both ends are there
+at-ends : (c : tie.After-max2)
+    → Measured (at (start c .args .t1) (start c .args .axis)) (at (start c .args .t2) (start c .args .axis)) (at (start c .args .t2) (start c .args .axis + 2)) (c .before .before .clamp .result) (c .max2 .result)
+at-ends c =
+    let on = start c .pre .1 in
+    measured (within-at _ _ (on .0)) (within-at _ _ (on .1)) (within-at _ _ (on .1)) (c .before .before .before .max .ensures) (c .before .before .clamp .ensures) (c .max2 .ensures)
+
+mul-whole : tie.Need-mul-whole
+mul-whole c = search needs
+
+array-copy-out-whole : tie.Need-array-copy-out-whole
+array-copy-out-whole c = search needs
+
+mul-clamp : tie.Need-mul-clamp
+mul-clamp c = search needs
+
+array-copy-out-clamp : tie.Need-array-copy-out-clamp
+array-copy-out-clamp c = search needs
+
+max-requires : tie.Need-max-requires
+max-requires c κs = search needs
+
+clamp-requires : tie.Need-clamp-requires
+clamp-requires c κs = search needs
+
+add-max : tie.Need-add-max
+add-max c = search needs
+
+mul-max : tie.Need-mul-max
+mul-max c = search needs
+
+array-copy-out-max : tie.Need-array-copy-out-max
+array-copy-out-max c = search needs
+
+max-requires-2 : tie.Need-max-requires-2
+max-requires-2 c κs = search needs
+
+sub-max : tie.Need-sub-max
+sub-max c = at-ends c .first
+
+sub-max-2 : tie.Need-sub-max-2
+sub-max-2 c = at-ends c .second
+
+max-requires-3 : tie.Need-max-requires-3
+max-requires-3 c κs = search needs
+
+int-to-float-t20 : tie.Need-int-to-float-t20
+int-to-float-t20 c = let m = at-ends (c .before .before) in cast-small (c .before .before .before .before .clamp .result) (omega (arith, m .start-small))
+
+int-to-float-t21 : tie.Need-int-to-float-t21
+int-to-float-t21 c =
+    let x = c .before .before .max3 in
+    cast-small (x .result) (extent-small (at-ends (c .before .before .before)) (x .ensures))
+
+returns : tie.Need-returns
+unfolding spanAlongOf
+returns c =
+    let m = at-ends (c .before .before .before) in
+    let x = c .before .before .max3 in
+    rw (stored (c .before .before .before .before .before .clamp .ok) (m .start-is), stored (x .ok) (extent-is m (x .ensures)))
+
+pub span-along-spec : {M : Type 1} → statement M
+span-along-spec =
+    tie.close
+    (tie.spec
+    mul-whole
+    array-copy-out-whole
+    mul-clamp
+    array-copy-out-clamp
+    max-requires
+    clamp-requires
+    add-max
+    mul-max
+    array-copy-out-max
+    max-requires-2
+    sub-max
+    sub-max-2
+    max-requires-3
+    int-to-float-t20
+    int-to-float-t21
+    returns)
