@@ -134,9 +134,7 @@ fn drive<I: Value, O: Value>(
             differences += 1;
             if differences <= limits.shown {
                 let function = name.split(' ').next().unwrap_or(name);
-                println!("{function} {}", line(&words(&input)));
-                println!("  ours   {}", text(&our));
-                println!("  theirs {}", text(&their));
+                println!("{}", shown(function, &input, &our, &their));
             }
         }
     }
@@ -165,10 +163,23 @@ fn same(our: &Option<impl Value>, their: &Option<impl Value>) -> bool {
     our.len() == their.len() && our.iter().zip(their).all(|(a, b)| a.same(b))
 }
 
-fn text(answer: &Option<impl Value>) -> String {
-    answer
-        .as_ref()
-        .map_or("panicked".into(), |value| line(&words(value)))
+/// A differing input as a request for the oracle, and both answers.
+pub fn shown<O: Value>(
+    function: &str,
+    input: &impl Value,
+    our: &Option<O>,
+    their: &Option<O>,
+) -> String {
+    let text = |answer: &Option<O>| {
+        let value = answer.as_ref();
+        value.map_or("panicked".into(), |value| line(&words(value)))
+    };
+    format!(
+        "{function} {}\n  ours   {}\n  theirs {}",
+        line(&words(input)),
+        text(our),
+        text(their)
+    )
 }
 
 #[cfg(test)]

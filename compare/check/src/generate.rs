@@ -1,7 +1,7 @@
 //! Generated arguments. Those named `any_` have no limits; the others keep
 //! the limits that document 01 sets for orders.
 use crate::random::Random;
-use player::access::{self, LayoutData};
+use player::access::{self, LayoutData, native::Layout};
 use player::{PictureFit, PlayerViewport, Preset, Rect};
 
 /// The greatest number in an order, and least with a minus.
@@ -325,6 +325,37 @@ pub fn touch(r: &mut Random, layout: &LayoutData) -> [f32; 2] {
     let index = r.below(access::element_count(layout) as u64) as usize;
     let e = access::element(layout, index);
     [(e.x, e.w), (e.y, e.h)].map(|(start, size)| start + size * r.between(-0.2, 1.2))
+}
+
+/// A point on an edge of an element, of its margin or of a d-pad's neutral
+/// centre, on a border between sectors, or next to one of these; or any.
+pub fn edge_touch(r: &mut Random, layout: &Layout) -> [f32; 2] {
+    let count = layout.element_count();
+    let e = match r.below(count as u64 + 1) as usize {
+        index if index < count => layout.element(index),
+        _ => layout.game,
+    };
+    let [margin, neutral] = [(e.w.min(e.h) * 0.15).min(10.), e.w * 0.09];
+    let [mut x, mut y] = [(e.x, e.w), (e.y, e.h)].map(|(start, size)| {
+        let (end, middle) = (start + size, start + size / 2.);
+        let part = start + size * r.between(-0.2, 1.2);
+        let edges = [start, end, start - margin, end + margin];
+        let inner = [middle, middle - neutral, middle + neutral, part];
+        let at = if r.yes() {
+            r.pick(&edges)
+        } else {
+            r.pick(&inner)
+        };
+        r.pick(&[at, at, at.next_up(), at.next_down()])
+    });
+    match r.below(16) {
+        0 => y = e.y + e.h / 2. + (x - e.x - e.w / 2.) * (std::f32::consts::SQRT_2 - 1.),
+        1 => x = e.x + e.w / 2. + (y - e.y - e.h / 2.) * (std::f32::consts::SQRT_2 - 1.),
+        2 => x = any_number(r),
+        3 => y = any_number(r),
+        _ => (),
+    }
+    [x, y]
 }
 
 /// Whole numbers for `safe_content` and `safe_edges`: in -8,192 to 8,192, and

@@ -11,7 +11,8 @@ use crate::{
 use ours::host;
 use player::{
     PictureFit, access,
-    order::{self, Answer, OFF_THE_SCALE, lent},
+    order::{self, Answer, OFF_THE_SCALE, Settings, lent},
+    sheet,
 };
 
 pub fn comparisons() -> Vec<Comparison> {
@@ -24,7 +25,23 @@ pub fn comparisons() -> Vec<Comparison> {
         },
         |(order, length, fill)| lent(*length, *fill, |out| host::layout(&order.bytes, out)),
         |(order, length, fill)| lent(*length, *fill, |out| order::layout(&order.bytes, out)),
-        |(order, length, _), (answer, _)| layout_classes(order, *length, *answer),
+        |(order, length, _), (answer, _)| {
+            let read = order::read(&order.bytes);
+            layout_classes(order, &read, *length, *answer)
+        },
+    );
+    let film = compare_classes(
+        "order_film",
+        orders::order,
+        |order| host::film_sheet(&order.bytes),
+        |order| sheet::film_sheet(&order.bytes),
+        |order, (text, _)| {
+            let refused = text.starts_with(b"REFUSED");
+            vec![
+                made(order),
+                ("sheet", if refused { "REFUSED" } else { "FILM" }),
+            ]
+        },
     );
     let viewport = compare_classes(
         "order_viewport",
@@ -43,12 +60,13 @@ pub fn comparisons() -> Vec<Comparison> {
         },
         |(order, tops, length, _), (answer, _)| {
             let covered = if tops[1] > 0. { "above 0" } else { "none" };
-            let mut classes = layout_classes(order, *length, *answer);
+            let read = order::read(&order.bytes);
+            let mut classes = layout_classes(order, &read, *length, *answer);
             classes.push(("covered top", covered));
             classes
         },
     );
-    [layout, viewport]
+    [layout, film, viewport]
         .into_iter()
         .chain(touches())
         .chain(edges())
@@ -77,7 +95,7 @@ fn touches() -> impl Iterator<Item = Comparison> {
             let theirs = |(order, at, previous): &Touch| order::touch(&order.bytes, *at, *previous);
             let copied = |hypot| {
                 move |(order, at, previous): &Touch| {
-                    let layout = order::read(&order.bytes)?.layout();
+                    let layout = order::read(&order.bytes)?.layout().into();
                     Ok(masks::mask_near(&layout, *at, *previous, hypot))
                 }
             };
@@ -130,7 +148,7 @@ fn on_the_scale(numbers: &[i32]) -> Answer<()> {
 }
 
 /// Just enough bytes or more, or seldom too few.
-fn lent_length(r: &mut Random, order: &Order) -> usize {
+pub fn lent_length(r: &mut Random, order: &Order) -> usize {
     let exact = order.length;
     let more = exact + r.below(100) as usize;
     let fewer = r.below(exact as u64) as usize;
@@ -148,7 +166,7 @@ fn mostly_sound(r: &mut Random) -> Order {
 
 /// The reusable and the covered top: usual ones, any in the limits, the limits
 /// themselves, and some outside.
-fn tops(r: &mut Random) -> [f32; 2] {
+pub fn tops(r: &mut Random) -> [f32; 2] {
     let least = -f32::from_bits(1);
     let limits = [
         8192.,
@@ -176,12 +194,12 @@ fn tops(r: &mut Random) -> [f32; 2] {
 }
 
 /// An order, a point, the previous mask.
-type Touch = (Order, [f32; 2], u16);
+pub type Touch = (Order, [f32; 2], u16);
 
 fn touch(r: &mut Random) -> Touch {
     let order = mostly_sound(r);
     let at = match order::read(&order.bytes) {
-        Ok(settings) => generate::touch(r, &settings.layout()),
+        Ok(settings) => generate::touch(r, &settings.layout().into()),
         Err(_) => [any_number(r), any_number(r)],
     };
     (order, at, r.bits() as u16)
@@ -191,7 +209,7 @@ fn touch(r: &mut Random) -> Touch {
 /// midpoint between the neutral centre's radius and the next f32: there the
 /// platform's hypot is sometimes not the nearest. A screen of 8,192 by 1 gives
 /// the d-pad just as it is saved; so low, it has points of the finest heights.
-fn tie(r: &mut Random) -> Touch {
+pub fn tie(r: &mut Random) -> Touch {
     let w = r.between(500., 8192.);
     let radius = w * 0.09;
     let middle = (f64::from(radius) + f64::from(radius.next_up())) / 2.;
@@ -227,14 +245,19 @@ const REFUSALS: [&str; 9] = [
     "8 sheet too small",
 ];
 
-fn made(order: &Order) -> Class {
+pub fn made(order: &Order) -> Class {
     match order.damage {
         "none" => ("kind", order.kind),
         damage => ("damage", damage),
     }
 }
 
-fn layout_classes(order: &Order, lent: usize, answer: Answer<usize>) -> Vec<Class> {
+pub fn layout_classes(
+    order: &Order,
+    read: &Answer<Settings>,
+    lent: usize,
+    answer: Answer<usize>,
+) -> Vec<Class> {
     let mut classes = vec![made(order)];
     classes.push((
         "answer",
@@ -246,7 +269,7 @@ fn layout_classes(order: &Order, lent: usize, answer: Answer<usize>) -> Vec<Clas
             Err(refusal) => REFUSALS[refusal as usize],
         },
     ));
-    let (Ok(length), Ok(settings)) = (answer, order::read(&order.bytes)) else {
+    let (Ok(length), Ok(settings)) = (answer, read) else {
         return classes;
     };
     let spare = if lent > length {
@@ -292,14 +315,17 @@ fn layout_classes(order: &Order, lent: usize, answer: Answer<usize>) -> Vec<Clas
 }
 
 fn touch_classes((order, ..): &Touch, answer: &Answer<u16>) -> Vec<Class> {
-    let name = match answer {
+    vec![made(order), ("answer", touched(*answer))]
+}
+
+pub fn touched(answer: Answer<u16>) -> &'static str {
+    match answer {
         Ok(0) => "no bits",
         Ok(mask) if mask & 0xF0 != 0 => "d-pad",
         Ok(mask) if mask & 0x303 != 0 => "face button",
         Ok(_) => "other button",
-        Err(refusal) => REFUSALS[*refusal as usize],
-    };
-    vec![made(order), ("answer", name)]
+        Err(refusal) => REFUSALS[refusal as usize],
+    }
 }
 
 #[cfg(test)]
@@ -320,7 +346,7 @@ mod tests {
         .concat();
         let at = [0x44D8_265E, 0x4141_6F7F].map(f32::from_bits);
         let settings = order::read(&order);
-        let nearest = settings.map(|s| masks::mask_near(&s.layout(), at, 0, nearest_hypot));
+        let nearest = settings.map(|s| masks::mask_near(&s.layout().into(), at, 0, nearest_hypot));
         assert_eq!(nearest, Ok(0x80));
         assert_eq!(host::touch(&order, at, 0), nearest);
     }

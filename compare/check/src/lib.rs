@@ -1,6 +1,7 @@
 //! Comparison of functions over generated cases.
 #![forbid(unsafe_code)]
 pub mod driver;
+pub mod exact;
 pub mod generate;
 #[cfg(feature = "probe")]
 pub mod host;
@@ -9,9 +10,12 @@ pub mod hypot;
 pub mod inner;
 #[cfg(feature = "probe")]
 pub mod lent;
+#[cfg(feature = "probe")]
+pub mod live;
 pub mod masks;
 pub mod nearest;
 pub mod orders;
 #[cfg(feature = "probe")]
 pub mod picture;
 pub mod random;
+pub mod widest;

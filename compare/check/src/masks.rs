@@ -12,7 +12,8 @@ pub fn mask_near(
     hypot: fn(f32, f32) -> f32,
 ) -> u16 {
     // Labels 0 to 3 are the face buttons.
-    let (faces, others): (Vec<_>, Vec<_>) = layout.controls.iter().partition(|c| c.label < 4);
+    let faces = layout.controls.iter().filter(|c| c.label < 4);
+    let others = layout.controls.iter().filter(|c| c.label >= 4);
     let mask = |label: usize| 1u16 << LABELS[label].1;
     let from_centre = |r: Rect| [x - r.x - r.w / 2., y - r.y - r.h / 2.];
 
@@ -27,14 +28,14 @@ pub fn mask_near(
             result |= if dy < 0. { 1 << 4 } else { 1 << 5 };
         }
     }
-    let held = others.iter().filter(|c| c.bounds.contains(x, y));
+    let held = others.clone().filter(|c| c.bounds.contains(x, y));
     result = held.fold(result, |result, c| result | mask(c.label));
 
     let keys = [layout.pause, layout.playback, layout.speed, layout.mute];
     let free = ![layout.game, layout.dpad]
         .into_iter()
         .chain(keys)
-        .chain(others.iter().map(|c| c.bounds))
+        .chain(others.map(|c| c.bounds))
         .any(|r| r.contains(x, y));
     let mut nearest = (f32::INFINITY, 0);
     for c in faces {

@@ -1,4 +1,6 @@
 //! Generated orders: sound ones of several kinds, and damaged ones.
+mod keep_clear;
+
 use crate::{
     generate::{self, LIMIT, any_rect, cameras, number, rect, rect_on, signed, stacked},
     random::Random,
@@ -48,6 +50,17 @@ pub fn sound(r: &mut Random) -> Order {
     Order {
         bytes: bytes(&fields(&parts)),
         kind,
+        damage: "none",
+        length: length(&parts),
+    }
+}
+
+/// A sound order of which demand 3 speaks.
+pub fn keep_clear(r: &mut Random) -> Order {
+    let parts = keep_clear::parts(r);
+    Order {
+        bytes: bytes(&fields(&parts)),
+        kind: "keep clear",
         damage: "none",
         length: length(&parts),
     }
@@ -271,8 +284,9 @@ fn camera(r: &mut Random, [w, h]: [f32; 2]) -> Vec<Rect> {
 fn moved(r: &mut Random, parts: &Parts) -> Vec<Rect> {
     let [w, h] = parts.screen;
     let order = bytes(&fields(parts));
-    let layout = order::read(&order).expect("a sound order").layout();
-    let mut saved = access::capture(&layout, w, h);
+    let mut preset = Preset::default();
+    preset.capture(&order::read(&order).expect("a sound order").layout(), w, h);
+    let mut saved = preset.elements;
     for rect in &mut saved {
         if r.below(4) == 0 {
             rect.x += r.between(-0.1, 0.1);
@@ -499,7 +513,7 @@ fn cutouts(r: &mut Random) -> Parts {
     let [w, h] = screen;
     let order = bytes(&fields(&parts));
     let layout = order::read(&order).expect("a sound order").layout();
-    let elements = access::element_count(&layout);
+    let elements = layout.element_count();
     let most = r.pick(&[1, 2, 4, 16, 16]);
     let grid = stacked(r, 16, screen);
     let mut list = r.list(1, most, |r| {
@@ -508,7 +522,7 @@ fn cutouts(r: &mut Random) -> Parts {
         match r.below(8) {
             0..4 => {
                 let index = r.below(elements as u64) as usize;
-                let e = access::element(&layout, index);
+                let e = layout.element(index);
                 let [x, y] = [r.between(-20., e.w), r.between(-20., e.h)];
                 Rect::new(e.x + x, e.y + y, width, height)
             }

@@ -2,7 +2,7 @@
 use player::access::{self, LayoutData, picture};
 use player::order::{self, Answer};
 use player::words::{Rest, Value, line, words};
-use player::{PictureFit, PlayerViewport, Preset, Rect};
+use player::{PictureFit, PlayerViewport, Preset, Rect, sheet};
 
 pub struct Request {
     pub name: &'static str,
@@ -121,6 +121,7 @@ requests! {
     order_viewport(order: Vec<u8>, tops: [f32; 2], lent: usize, fill: u8)
         -> (Answer<usize>, Vec<u8>)
         = order::lent(lent, fill, |out| order::viewport_layout(&order, tops, out));
+    order_film(order: Vec<u8>) -> ([u8; 1024], usize) = sheet::film_sheet(&order);
 }
 
 /// The answer to one request line.

@@ -17,6 +17,7 @@ unsafe extern "C" {
         local_side_camera: bool,
         edges: &mut [i32; 4],
     ) -> bool;
+    fn probe_film_sheet(order: *const u8, order_len: usize, sheet: &mut [u8; 1024]) -> usize;
 }
 
 /// A function's answer, or the number of its refusal.
@@ -74,4 +75,12 @@ pub fn safe_edges(numbers: &[i32; 12], local_side_camera: bool) -> Answer<[i32; 
         probe_safe_edges(numbers, local_side_camera, &mut edges),
         edges,
     )
+}
+
+/// The sheet and its length.
+pub fn film_sheet(order: &[u8]) -> ([u8; 1024], usize) {
+    let mut sheet = [255; 1024];
+    // SAFETY: the pointer is passed with the length of what it points to.
+    let length = unsafe { probe_film_sheet(order.as_ptr(), order.len(), &mut sheet) };
+    (sheet, length)
 }

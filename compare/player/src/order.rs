@@ -1,6 +1,6 @@
 //! The order as document 01 has it, answered by the Rust: its bytes are read,
 //! the Rust lays out, and the layout's bytes are written.
-use crate::access::{self, LABELS, LayoutData};
+use crate::access::native::{self, Layout};
 use crate::{PictureFit, PlayerViewport, Preset, Rect};
 
 /// An answer, or the number of a refusal.
@@ -31,22 +31,26 @@ pub struct Settings {
 }
 
 impl Settings {
-    pub fn layout(&self) -> LayoutData {
+    pub fn layout(&self) -> Layout {
         let [w, h] = self.screen;
         match self.picture {
-            Some(picture) => access::layout_in(&self.preset, w, h, &self.cutouts, picture),
-            None => access::layout_with_cutouts(&self.preset, w, h, &self.cutouts),
+            Some(picture) => self.preset.layout_in(w, h, &self.cutouts, picture),
+            None => self.preset.layout_with_cutouts(w, h, &self.cutouts),
         }
     }
-    pub fn viewport_layout(&self, [reusable_top, covered_top]: [f32; 2]) -> LayoutData {
+    /// The picture's area, as document 01 has it if it is absent.
+    pub fn area(&self) -> Rect {
         let [w, h] = self.screen;
+        (self.picture).unwrap_or(Rect::new(0., 0., w.max(1.), h.max(1.)))
+    }
+    pub fn viewport_layout(&self, [reusable_top, covered_top]: [f32; 2]) -> Layout {
         let viewport = PlayerViewport {
             controls: self.screen,
-            picture: (self.picture).unwrap_or(Rect::new(0., 0., w.max(1.), h.max(1.))),
+            picture: self.area(),
             reusable_top,
             covered_top,
         };
-        access::viewport_layout(viewport, &self.preset, &self.cutouts)
+        viewport.layout(&self.preset, &self.cutouts)
     }
 }
 
@@ -127,7 +131,7 @@ pub fn read(order: &[u8]) -> Answer<Settings> {
     Ok(settings)
 }
 
-fn numbers(value: &[u8]) -> Vec<f32> {
+pub fn numbers(value: &[u8]) -> Vec<f32> {
     let (chunks, _) = value.as_chunks();
     chunks.iter().copied().map(f32::from_be_bytes).collect()
 }
@@ -143,7 +147,7 @@ fn at_least_0(numbers: &[f32]) -> Answer<()> {
     must(numbers.iter().all(|n| *n >= 0.), OFF_THE_SCALE)
 }
 
-fn rects(numbers: &[f32]) -> impl Iterator<Item = Rect> {
+pub fn rects(numbers: &[f32]) -> impl Iterator<Item = Rect> {
     let (rects, _) = numbers.as_chunks();
     rects.iter().map(|&[x, y, w, h]| Rect::new(x, y, w, h))
 }
@@ -154,26 +158,33 @@ pub fn field(tag: u8, value: &[u8]) -> Vec<u8> {
     [&[tag], &length.to_be_bytes()[..], value].concat()
 }
 
+fn put_header(bytes: &mut Vec<u8>, tag: u8, length: usize) {
+    bytes.push(tag);
+    bytes.extend((length as u16).to_be_bytes());
+}
+
 /// A rectangle's bytes, negative zero as plus zero.
-fn rect_bytes(r: Rect) -> Vec<u8> {
-    let bytes = |n: f32| if n == 0. { [0; 4] } else { n.to_be_bytes() };
-    [r.x, r.y, r.w, r.h].map(bytes).concat()
+fn put_rect(bytes: &mut Vec<u8>, r: Rect) {
+    let number = |n: f32| if n == 0. { [0; 4] } else { n.to_be_bytes() };
+    bytes.extend([r.x, r.y, r.w, r.h].map(number).as_flattened());
 }
 
 /// A layout's bytes.
-pub fn written(layout: &LayoutData) -> Vec<u8> {
-    let elements = (0..access::element_count(layout)).map(|i| access::element(layout, i));
-    let masks = layout.controls.iter().map(|c| 1u16 << LABELS[c.label].1);
-    [
-        field(1, &rect_bytes(layout.game)),
-        field(2, &elements.flat_map(rect_bytes).collect::<Vec<_>>()),
-        field(3, &masks.flat_map(u16::to_be_bytes).collect::<Vec<_>>()),
-    ]
-    .concat()
+pub fn written(layout: &Layout) -> Vec<u8> {
+    let count = layout.element_count();
+    let mut bytes = Vec::with_capacity(353);
+    put_header(&mut bytes, 1, 16);
+    put_rect(&mut bytes, layout.game);
+    put_header(&mut bytes, 2, 16 * count);
+    (0..count).for_each(|i| put_rect(&mut bytes, layout.element(i)));
+    put_header(&mut bytes, 3, 2 * layout.controls.len());
+    let masks = layout.controls.iter().map(|c| c.mask.to_be_bytes());
+    bytes.extend(masks.flatten());
+    bytes
 }
 
 /// Writes a layout at the start of the lent bytes: how many there are.
-fn write(layout: &LayoutData, out: &mut [u8]) -> Answer<usize> {
+pub fn write(layout: &Layout, out: &mut [u8]) -> Answer<usize> {
     let bytes = written(layout);
     let out = out.get_mut(..bytes.len()).ok_or(SHEET_TOO_SMALL)?;
     out.copy_from_slice(&bytes);
@@ -193,11 +204,15 @@ pub fn layout(order: &[u8], out: &mut [u8]) -> Answer<usize> {
 }
 
 pub fn touch(order: &[u8], [x, y]: [f32; 2], previous: u16) -> Answer<u16> {
-    Ok(access::mask_near(&read(order)?.layout(), x, y, previous))
+    Ok(native::mask_near(&read(order)?.layout(), x, y, previous))
 }
 
 pub fn viewport_layout(order: &[u8], tops: [f32; 2], out: &mut [u8]) -> Answer<usize> {
-    let settings = read(order)?;
+    write_viewport(&read(order)?, tops, out)
+}
+
+/// Writes the layout of a viewport with the settings of an order.
+pub fn write_viewport(settings: &Settings, tops: [f32; 2], out: &mut [u8]) -> Answer<usize> {
     must(tops.iter().all(|n| n.abs() <= 8192.), OFF_THE_SCALE)?;
     at_least_0(&tops[..1])?;
     write(&settings.viewport_layout(tops), out)

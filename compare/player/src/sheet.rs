@@ -1,6 +1,6 @@
 //! The film sheet as document 01 has it, of the layout that the Rust gives.
-use crate::access::{self, LayoutData};
-use crate::{Rect, order};
+use crate::access::native::Layout;
+use crate::order::{self, Answer};
 
 /// The nearest whole number to ten times `x`, halves upward, by whole numbers: `x` is `mantissa` times 2 to `exponent`.
 pub fn tenths(x: f32) -> i128 {
@@ -22,24 +22,42 @@ pub fn tenths(x: f32) -> i128 {
 }
 
 /// The lines of a layout, after their number.
-fn lines(layout: &LayoutData) -> String {
-    let names = ["GAME", "DPAD"].into_iter().chain(layout.labels());
+fn lines(layout: &Layout) -> String {
+    let count = layout.element_count();
+    let labels = layout.controls.iter().map(|c| c.label);
+    let names = ["GAME", "DPAD"].into_iter().chain(labels);
     let names = names.chain(["PAUSE", "PLAY", "SPEED", "MUTE", "LEFT", "RIGHT"]);
-    let count = access::element_count(layout);
-    let elements = (0..count).map(|i| access::element(layout, i));
-    let line = |(name, r): (&str, Rect)| {
-        let [x, y, w, h] = [r.x, r.y, r.w, r.h].map(tenths);
-        format!("{name} {x} {y} {w} {h}\n")
-    };
+    let elements = (0..count).map(|i| layout.element(i));
     let rects = std::iter::once(layout.game).chain(elements);
-    let lines: String = names.zip(rects).map(line).collect();
-    format!("FILM {}\n{lines}", count + 1)
+    let mut text = format!("FILM {}\n", count + 1);
+    for (name, r) in names.zip(rects) {
+        text += name;
+        for number in [r.x, r.y, r.w, r.h] {
+            text.push(' ');
+            text += &tenths(number).to_string();
+        }
+        text.push('\n');
+    }
+    text
 }
 
-/// The sheet of an order, or its refusal.
-pub fn film(order: &[u8]) -> String {
-    match order::read(order) {
-        Ok(settings) => lines(&settings.layout()),
+/// The sheet of an order's layout, or of its refusal.
+pub fn sheet(layout: Answer<&Layout>) -> String {
+    match layout {
+        Ok(layout) => lines(layout),
         Err(refusal) => format!("REFUSED {refusal}\n"),
     }
+}
+
+/// The sheet of an order: 1,024 bytes, zeros after its end, and its length.
+pub fn film_sheet(order: &[u8]) -> ([u8; 1024], usize) {
+    let layout = order::read(order).map(|settings| settings.layout());
+    padded(&sheet(layout.as_ref().map_err(|refusal| *refusal)))
+}
+
+/// A text with zeros after its end, and its length.
+pub fn padded(text: &str) -> ([u8; 1024], usize) {
+    let mut bytes = [0; 1024];
+    bytes[..text.len()].copy_from_slice(text.as_bytes());
+    (bytes, text.len())
 }

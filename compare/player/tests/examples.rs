@@ -1,5 +1,5 @@
 //! The sheets in examples/, made from their orders by the unchanged Rust.
-use player::sheet::{film, tenths};
+use player::sheet::{film_sheet, tenths};
 use std::{fs, path::Path};
 
 #[test]
@@ -27,8 +27,9 @@ fn sheets_are_those_of_the_rust() {
         if path.extension().is_none_or(|e| e != "order") {
             continue;
         }
-        let written = fs::read_to_string(path.with_extension("sheet")).unwrap();
-        assert_eq!(written, film(&fs::read(&path).unwrap()), "{path:?}");
+        let written = fs::read(path.with_extension("sheet")).unwrap();
+        let (sheet, length) = film_sheet(&fs::read(&path).unwrap());
+        assert_eq!(written, &sheet[..length], "{path:?}");
         count += 1;
     }
     assert!(count > 0, "no sheets in {folder:?}");

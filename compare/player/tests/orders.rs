@@ -1,7 +1,8 @@
 //! The reader of orders by document 01's worked examples and its order of
 //! refusals.
 use player::{
-    Rect, access,
+    Rect,
+    access::{self, LayoutData},
     order::{self, field},
 };
 
@@ -119,5 +120,5 @@ fn parts_of_an_order() {
     let whole = Rect::new(0., 0., 1., 600.);
     let cutouts = &settings.cutouts;
     let layout = access::layout_in(preset, 0., 600., cutouts, whole);
-    assert_eq!(settings.layout(), layout);
+    assert_eq!(LayoutData::from(settings.layout()), layout);
 }

@@ -71,7 +71,13 @@ impl From<&LayoutData> for Layout {
 
 impl From<Layout> for LayoutData {
     fn from(layout: Layout) -> Self {
-        let control = |c: Control| {
+        (&layout).into()
+    }
+}
+
+impl From<&Layout> for LayoutData {
+    fn from(layout: &Layout) -> Self {
+        let control = |c: &Control| {
             let label = LABELS.iter().position(|(name, _)| *name == c.label);
             let label = label.expect("every label is in the table");
             assert_eq!(c.mask, 1 << LABELS[label].1, "a label has one bit");
@@ -83,12 +89,12 @@ impl From<Layout> for LayoutData {
         Self {
             game: layout.game,
             dpad: layout.dpad,
-            controls: layout.controls.into_iter().map(control).collect(),
+            controls: layout.controls.iter().map(control).collect(),
             pause: layout.pause,
             playback: layout.playback,
             speed: layout.speed,
             mute: layout.mute,
-            sticks: layout.sticks,
+            sticks: layout.sticks.clone(),
         }
     }
 }
