@@ -43,6 +43,8 @@ fn saved(r: &mut Random, [w, h]: [f32; 2], edges: &[[f32; 4]; 2]) -> Vec<Rect> {
     let kind = r.below(4);
     let count = r.whole(1, 12);
     let (rows, mut row) = (count as f32, 0.);
+    // Without a gap between rows, or with one that may be as small as an f32's step.
+    let lap = r.pick(&[0., 1.]);
     r.list(count, 19, |r| {
         let [x, right] = [0; 2].map(|_| near_edge(r, &edges[0]));
         let [y, bottom] = [0; 2].map(|_| near_edge(r, &edges[1]));
@@ -50,7 +52,7 @@ fn saved(r: &mut Random, [w, h]: [f32; 2], edges: &[[f32; 4]; 2]) -> Vec<Rect> {
         // One row below the other, from the left half into the right.
         let [left, more] = [0; 2].map(|_| r.between(-0.02, w / 2.));
         let top = near(r, h * row / rows);
-        let across = Rect::new(w / 2. - left, top, left + more, near(r, h / rows));
+        let across = Rect::new(w / 2. - left, top, left + more, near(r, h / rows) + lap);
         row = (row + 1.) % rows;
         let whole = Rect::new(0., 0., w, h);
         let place = match (kind, r.below(32)) {
