@@ -7,7 +7,8 @@ ghost use Rattle.layout.specs.Layout.{cutoutList};
 ghost use Rattle.layout.specs.Lists.{mapFirst};
 ghost use Rattle.arranged.specs.Places.{maybe, capOf, placeFacesOf, atOf, moved, placedOf};
 ghost use Rattle.arranged.specs.Blank.{blankOf};
-ghost use Rattle.arranged.specs.Arranged.{finishedOf, sizeWellsOf, placeDockOf, composedOf, arrangedOf, measureRailsOf, railPlacesOf, railedOf, requestedOf, narrowOf, sideRailsOf};
+ghost use Rattle.arranged.specs.Arranged.{finishedOf, sizeWellsOf, placeDockOf, composedOf, arrangedOf, measureRailsOf, railPlacesOf, requestedOf, narrowOf, sideRailsOf};
+ghost use Rattle.arranged.specs.Controls.{anchoredOf, dockedOf, railControlsOf, sideControlsOf};
 use float::clamp;
 use float::max;
 use float::min;
@@ -176,10 +177,10 @@ pub fn placed(l: Layout, places: Places) -> Layout
     out
 }
 
-// The layout with the toolbar at its place and the largest game that is clear of all elements.
-pub fn finished(l: Layout, w: f32, h: f32) -> Layout
+// The layout with the toolbar at its place.
+pub fn anchored(l: Layout, w: f32, h: f32) -> Layout
     requires { ⌜ (l .count ≤ 12) × (l .stickcount ≤ 2) ⌝ }
-    ensures { λ r. ⌜ (r ≡ finishedOf l w h) × (r .count ≡ l .count) × (r .stickcount ≡ l .stickcount) ⌝ }
+    ensures { λ r. ⌜ (r ≡ anchoredOf l w h) × (r .count ≡ l .count) × (r .stickcount ≡ l .stickcount) ⌝ }
 {
     let none = Rect {
         x: 0.0,
@@ -191,8 +192,16 @@ pub fn finished(l: Layout, w: f32, h: f32) -> Layout
         at: [none; 16],
         count: 0,
     };
-    let anchored = toolbar::anchor_toolbar(l, w, h, 0.0, 0.0, cutouts);
-    search::place_game(anchored, w, h, false, 1.0, Offset { x: 0.5, y: 0.5 })
+    toolbar::anchor_toolbar(l, w, h, 0.0, 0.0, cutouts)
+}
+
+// And with the largest game that is clear of all elements.
+pub fn finished(l: Layout, w: f32, h: f32) -> Layout
+    requires { ⌜ (l .count ≤ 12) × (l .stickcount ≤ 2) ⌝ }
+    ensures { λ r. ⌜ (r ≡ finishedOf l w h) × (r .count ≡ l .count) × (r .stickcount ≡ l .stickcount) ⌝ }
+{
+    let ready = anchored(l, w, h);
+    search::place_game(ready, w, h, false, 1.0, Offset { x: 0.5, y: 0.5 })
 }
 
 // The thumb wells: their width, the size of a face cap, their height.
@@ -413,15 +422,21 @@ fn composed(w: f32, wells: Wells, dock: Dock) -> Layout
     }
 }
 
-pub fn arranged(w: f32, h: f32, compact: bool) -> Layout
-    ensures { λ r. ⌜ (r ≡ arrangedOf w h compact) × (r .count ≡ 10) × (r .stickcount ≡ 0) ⌝ }
+// The controls of `arranged`. The toolbar and the game are left to whoever puts them in place.
+pub fn docked(w: f32, h: f32, compact: bool) -> Layout
+    ensures { λ r. ⌜ (r ≡ dockedOf w h compact) × (r .count ≡ 10) × (r .stickcount ≡ 0) ⌝ }
 {
     let wells = size_wells(w, h, compact);
     let select = max(w / 2.0 - 196.0, 16.0);
     let start = min(w / 2.0 + 100.0, w - 112.0);
     let dock = place_dock(compact, w, h, wells, select, start);
-    let layout = composed(w, wells, dock);
-    finished(layout, w, h)
+    composed(w, wells, dock)
+}
+
+pub fn arranged(w: f32, h: f32, compact: bool) -> Layout
+    ensures { λ r. ⌜ (r ≡ arrangedOf w h compact) × (r .count ≡ 10) × (r .stickcount ≡ 0) ⌝ }
+{
+    finished(docked(w, h, compact), w, h)
 }
 
 pub struct Rails {
@@ -518,7 +533,7 @@ fn rail_places(r: Rails) -> Places
 
 // The rails around wells of a width.
 fn railed(w: f32, h: f32, cluster: f32) -> Layout
-    ensures { λ r. ⌜ (r ≡ railedOf w h cluster) × (r .count ≡ 10) × (r .stickcount ≡ 0) ⌝ }
+    ensures { λ r. ⌜ (r ≡ railControlsOf w h cluster) × (r .count ≡ 10) × (r .stickcount ≡ 0) ⌝ }
 {
     let rails = measure_rails(w, h, cluster);
     let dpad = Rect {
@@ -527,9 +542,9 @@ fn railed(w: f32, h: f32, cluster: f32) -> Layout
         w: cluster,
         h: cluster,
     };
-    let mut layout = placed(arranged(w, h, false), rail_places(rails));
+    let mut layout = placed(docked(w, h, false), rail_places(rails));
     layout.dpad = dpad;
-    finished(layout, w, h)
+    layout
 }
 
 fn requested(w: f32, h: f32, picture_height: f32) -> f32
@@ -576,13 +591,21 @@ fn narrowed(w: f32, h: f32, requested: f32, cutouts: Cutouts) -> f32
     cluster
 }
 
+// The controls of `side_rails`, without toolbar and game as in `docked`.
+pub fn side_controls(w: f32, h: f32, picture_height: f32, cutouts: Cutouts) -> Layout
+    requires { ⌜ cutouts .count ≤ 16 ⌝ }
+    ensures { λ r. ⌜ (r ≡ sideControlsOf w h «picture_height» (cutoutList cutouts)) × (r .count ≡ 10) × (r .stickcount ≡ 0) ⌝ }
+{
+    let cluster = narrowed(w, h, requested(w, h, picture_height), cutouts);
+    if cluster < 122.0 {
+        return docked(w, h, false);
+    }
+    railed(w, h, cluster)
+}
+
 pub fn side_rails(w: f32, h: f32, picture_height: f32, cutouts: Cutouts) -> Layout
     requires { ⌜ cutouts .count ≤ 16 ⌝ }
     ensures { λ r. ⌜ (r ≡ sideRailsOf w h «picture_height» (cutoutList cutouts)) × (r .count ≡ 10) × (r .stickcount ≡ 0) ⌝ }
 {
-    let cluster = narrowed(w, h, requested(w, h, picture_height), cutouts);
-    if cluster < 122.0 {
-        return arranged(w, h, false);
-    }
-    railed(w, h, cluster)
+    finished(side_controls(w, h, picture_height, cutouts), w, h)
 }

@@ -134,12 +134,16 @@ withAnalogOf l l3 r3 left right =
       stickcount = 2;
     }
 
-unfoldable pub bandedOf : Float → Float → Bool → Bool → Band → Layout
-bandedOf w h analog deep b =
+-- the controls of a standard layout moved into the band
+abbrev pub bandedFrom : Layout → Float → Float → Bool → Bool → Band → Layout
+bandedFrom standard w h analog deep b =
     let places = bandPlacesOf analog deep b in
-    let layout = withDpad (placedOf (arrangedOf w h false) places) (newOf (b .x) (b .y) (b .face) (b .face)) in
+    let layout = withDpad (placedOf standard places) (newOf (b .x) (b .y) (b .face) (b .face)) in
     let y = h ⊖ k4 ⊖ b .stick in
     cond analog (withAnalogOf layout (places .l3) (places .r3) (newOf (b .outer) y (b .stick) (b .stick)) (newOf (w ⊖ b .outer ⊖ b .stick) y (b .stick) (b .stick))) layout
+
+unfoldable pub bandedOf : Float → Float → Bool → Bool → Band → Layout
+bandedOf w h analog deep b = bandedFrom (arrangedOf w h false) w h analog deep b
 
 unfoldable pub controllerBandOf : Float → Float → Bool → Bool → Rect → Option Layout
 controllerBandOf w h analog psp picture =

@@ -1,15 +1,16 @@
 // `controller_band` of input.rs: mirrored controls in the room that a picture of full width leaves.
 ghost use mathlib.Core.Path.{_≡_};
-ghost use mathlib.Core.Bool.{cond};
+ghost use mathlib.Core.Bool.{false, cond};
 ghost use Prim.Native.Nat.{_+_, _≤_};
 ghost use Rattle.layout.specs.Psp.{pspInputsOf};
+ghost use Rattle.arranged.specs.Controls.{dockedOf};
 ghost use Rattle.arranged.specs.Places.{maybe};
-ghost use Rattle.band.specs.Band.{findRoomOf, measureBandOf, plainPlacesOf, deepPlacesOf, rowPlacesOf, bandPlacesOf, withAnalogOf, bandedOf, aspectOf, controllerBandOf};
+ghost use Rattle.band.specs.Band.{findRoomOf, measureBandOf, plainPlacesOf, deepPlacesOf, rowPlacesOf, bandPlacesOf, withAnalogOf, bandedFrom, aspectOf, controllerBandOf};
 use arranged::Faces;
 use arranged::MaybeLayout;
 use arranged::Places;
-use arranged::arranged;
 use arranged::cap;
+use arranged::docked;
 use arranged::no_layout;
 use arranged::place_faces;
 use arranged::placed;
@@ -330,8 +331,9 @@ pub fn with_analog(l: Layout, l3: Rect, r3: Rect, left: Rect, right: Rect) -> La
     out
 }
 
+// Without toolbar and game, which are put in place afterwards.
 fn banded(w: f32, h: f32, analog: bool, deep: bool, b: Band) -> Layout
-    ensures { λ r. ⌜ (r ≡ bandedOf w h analog deep b) × (r .count ≤ 12) × (r .stickcount ≤ 2) ⌝ }
+    ensures { λ r. ⌜ (r ≡ bandedFrom (dockedOf w h false) w h analog deep b) × (r .count ≤ 12) × (r .stickcount ≤ 2) ⌝ }
 {
     let places = band_places(analog, deep, b);
     let dpad = Rect {
@@ -340,7 +342,7 @@ fn banded(w: f32, h: f32, analog: bool, deep: bool, b: Band) -> Layout
         w: b.face,
         h: b.face,
     };
-    let mut layout = placed(arranged(w, h, false), places);
+    let mut layout = placed(docked(w, h, false), places);
     layout.dpad = dpad;
     if analog {
         let l3 = places.l3;

@@ -50,6 +50,12 @@ length-mapFirst g zero xs = refl
 length-mapFirst g (suc n) [] = refl
 length-mapFirst g (suc n) (x ∷ xs) = ap suc (length-mapFirst g n xs)
 
+pub take-mapFirst : {A : Type 0} (g : A → A) (n : ℕ) (xs : List A) → take n (mapFirst g n xs) ≡ map g (take n xs)
+unfolding mapFirst
+take-mapFirst g zero xs = refl
+take-mapFirst g (suc n) [] = refl
+take-mapFirst g (suc n) (x ∷ xs) = ap (λ t. g x ∷ t) (take-mapFirst g n xs)
+
 pub placed-arrays : (l : Layout) (p : Places) → Arrays l → Arrays (placedOf l p)
 unfolding placedOf
 placed-arrays l p a = (length-mapFirst (moved p) (l .count) (l .controls) ∙ a .0, a .1)
@@ -120,7 +126,7 @@ band-arrays w h analog psp picture band e =
 
 -- ---- L3 and R3 after the other controls
 module _ {A : Type 0} where
-  take-two : (n : ℕ) (l : List A) (a b : A) → n + 2 ≤ length l → take (n + 2) (set (set l n a) (n + 1) b) ≡ take n l ++ (a ∷ b ∷ [])
+  pub take-two : (n : ℕ) (l : List A) (a b : A) → n + 2 ≤ length l → take (n + 2) (set (set l n a) (n + 1) b) ≡ take n l ++ (a ∷ b ∷ [])
   take-two n l a b h =
       let e : n + 2 ≡ suc (n + 1) = omega arith in
       rw (e, take-suc-set (set l n a) (n + 1) b (rw length-set (omega arith)), add-one n, take-suc-set l n a (omega arith), append-assoc)

@@ -1,4 +1,5 @@
 pub mod Defaults
 pub mod DefaultCases
 pub mod DefaultLabels
+pub mod AnalogControls
 pub mod DefaultRanges

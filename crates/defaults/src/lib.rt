@@ -3,24 +3,28 @@ ghost use mathlib.Core.Path.{_≡_};
 ghost use mathlib.Core.List.{map, []};
 ghost use Prim.Native.Nat.{_≤_};
 ghost use Rattle.layout.specs.Layout.{cutoutList, elementList};
+ghost use Rattle.arranged.specs.Anew.{bareOf};
+ghost use Rattle.arranged.specs.Arranged.{finishedOf};
 ghost use Rattle.arranged.specs.Places.{maybe};
+ghost use Rattle.defaults.specs.AnalogControls.{analogControlsOf};
 ghost use Rattle.defaults.specs.Defaults.{widerOf, clearOf, tryDockOf, trySideOf, tryBandOf, defaultInOf, defaultWithCutoutsOf, newLayoutOf, sizeHalvesOf, measureHalvesOf, halfPlacesOf, analogFullOf, scaledRectOf, shrunkOf, analogDefaultOf, pspOf};
 use arranged::Faces;
 use arranged::Places;
-use arranged::arranged;
+use arranged::anchored;
 use arranged::cap;
+use arranged::docked;
 use arranged::finished;
 use arranged::place_faces;
-use arranged::placed;
-use arranged::side_rails;
+use arranged::side_controls;
 use band::controller_band;
-use band::with_analog;
 use float::clamp;
 use float::max;
 use float::pick;
 use geometry::Rect;
+use layout::Control;
 use layout::Cutouts;
 use layout::Elements;
+use layout::Label;
 use layout::Layout;
 use search::Offset;
 use search::place_game_in;
@@ -37,12 +41,14 @@ fn wider(layout: Layout, other: Layout) -> Layout
     layout
 }
 
-// The layout with the largest game that is clear of all elements.
-fn clear(layout: Layout, picture: Rect) -> Layout
-    requires { ⌜ (layout .count ≤ 12) × (layout .stickcount ≤ 2) ⌝ }
-    ensures { λ r. ⌜ r ≡ clearOf layout picture ⌝ }
+// Controls with the toolbar at its place and the largest game in the picture's area that is clear of all elements. No game
+// is looked for on the whole screen, as `finished` does: this one takes its place.
+fn clear(controls: Layout, w: f32, h: f32, picture: Rect) -> Layout
+    requires { ⌜ (controls .count ≤ 12) × (controls .stickcount ≤ 2) ⌝ }
+    ensures { λ r. ⌜ r ≡ clearOf (finishedOf controls w h) picture ⌝ }
 {
-    place_game_in(layout, picture, false, 1.0, Offset { x: 0.5, y: 0.5 })
+    let ready = anchored(controls, w, h);
+    place_game_in(ready, picture, false, 1.0, Offset { x: 0.5, y: 0.5 })
 }
 
 // Shoulders and system keys between the thumb wells, where there is room for them.
@@ -54,7 +60,7 @@ fn try_dock(rails: Layout, w: f32, h: f32, picture: Rect) -> Layout
     let shoulder = (cluster - 8.0) / 2.0;
     let middle = w - 2.0 * (16.0 + cluster);
     if (cluster >= 160.0) & (middle >= 2.0 * shoulder + 16.0) {
-        return wider(rails, clear(arranged(w, h, true), picture));
+        return wider(rails, clear(docked(w, h, true), w, h, picture));
     }
     rails
 }
@@ -65,7 +71,8 @@ fn try_side(rails: Layout, w: f32, h: f32, cutouts: Cutouts, picture: Rect) -> L
     ensures { λ r. ⌜ r ≡ trySideOf rails w h (cutoutList cutouts) picture ⌝ }
 {
     if (w > h * 1.35) & (h >= 304.0) {
-        return wider(rails, clear(side_rails(w, h, picture.h, cutouts), picture));
+        let controls = side_controls(w, h, picture.h, cutouts);
+        return wider(rails, clear(controls, w, h, picture));
     }
     rails
 }
@@ -86,9 +93,9 @@ pub fn default_in(w: f32, h: f32, cutouts: Cutouts, picture: Rect) -> Layout
     requires { ⌜ cutouts .count ≤ 16 ⌝ }
     ensures { λ r. ⌜ (r ≡ defaultInOf w h (cutoutList cutouts) picture) × (r .count ≡ 10) × (r .stickcount ≡ 0) ⌝ }
 {
-    let rails = clear(arranged(w, h, false), picture);
-    let docked = try_dock(rails, w, h, picture);
-    let sided = try_side(docked, w, h, cutouts, picture);
+    let rails = clear(docked(w, h, false), w, h, picture);
+    let compact = try_dock(rails, w, h, picture);
+    let sided = try_side(compact, w, h, cutouts, picture);
     try_band(sided, w, h, false, picture)
 }
 
@@ -269,9 +276,95 @@ fn half_places(b: Halves) -> Places
     }
 }
 
-// For a screen of 360 by 360 at least.
+// The controls of an analog layout at their places, without toolbar and game.
+pub fn analog_controls(places: Places, dpad: Rect, left: Rect, right: Rect) -> Layout
+    ensures { λ r. ⌜ (r ≡ analogControlsOf places dpad left right) × (r .count ≡ 12) × (r .stickcount ≡ 2) ⌝ }
+{
+    let none = Rect {
+        x: 0.0,
+        y: 0.0,
+        w: 0.0,
+        h: 0.0,
+    };
+    let tri = places.tri;
+    let o = places.o;
+    let x = places.x;
+    let sq = places.sq;
+    let l1 = places.l1;
+    let l2 = places.l2;
+    let r2 = places.r2;
+    let r1 = places.r1;
+    let select = places.select;
+    let start = places.start;
+    let l3 = places.l3;
+    let r3 = places.r3;
+    let sticks = [left, right];
+    Layout {
+        game: none,
+        dpad,
+        controls: [
+            Control {
+                bounds: tri,
+                label: Label::Tri,
+            },
+            Control {
+                bounds: o,
+                label: Label::O,
+            },
+            Control {
+                bounds: x,
+                label: Label::X,
+            },
+            Control {
+                bounds: sq,
+                label: Label::Sq,
+            },
+            Control {
+                bounds: l1,
+                label: Label::L1,
+            },
+            Control {
+                bounds: l2,
+                label: Label::L2,
+            },
+            Control {
+                bounds: r2,
+                label: Label::R2,
+            },
+            Control {
+                bounds: r1,
+                label: Label::R1,
+            },
+            Control {
+                bounds: select,
+                label: Label::Select,
+            },
+            Control {
+                bounds: start,
+                label: Label::Start,
+            },
+            Control {
+                bounds: l3,
+                label: Label::L3,
+            },
+            Control {
+                bounds: r3,
+                label: Label::R3,
+            },
+        ],
+        count: 12,
+        pause: none,
+        playback: none,
+        speed: none,
+        mute: none,
+        sticks,
+        stickcount: 2,
+    }
+}
+
+// For a screen of 360 by 360 at least, without toolbar and game.
 fn analog_full(w: f32, h: f32) -> Layout
-    ensures { λ r. ⌜ (r ≡ analogFullOf w h) × (r .count ≡ 12) × (r .stickcount ≡ 2) ⌝ }
+    ensures { λ r. ⌜ (r ≡ bareOf (analogFullOf w h)) × (r .count ≡ 12) × (r .stickcount ≡ 2) ⌝ }
 {
     let sizes = size_halves(w, h);
     let b = measure_halves(w, h, sizes);
@@ -294,11 +387,7 @@ fn analog_full(w: f32, h: f32) -> Layout
         w: b.stick,
         h: b.stick,
     };
-    let mut layout = placed(new_layout(w, h), places);
-    layout.dpad = dpad;
-    let l3 = places.l3;
-    let r3 = places.r3;
-    with_analog(layout, l3, r3, left, right)
+    analog_controls(places, dpad, left, right)
 }
 
 pub struct Size {

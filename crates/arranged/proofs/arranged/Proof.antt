@@ -1,34 +1,12 @@
 -- `arranged` is `arrangedOf`.
 use native.Mathlib.Omega.{arith}
 use borrow.Author.Needs.{needs}
-use Rattle.arranged.specs.Arranged.{arrangedOf}
+use Rattle.arranged.specs.Controls.{arranged-finished}
 use Rattle.arranged.proofs.arranged.Statement.{statement}
 use Rattle.arranged.proofs.arranged.Tie as tie
 
 returns : tie.Need-returns
-unfolding arrangedOf
-returns c =
-    let p = c .before .before .before in (
-      rw (
-        ← p .before .before .size-wells .ensures,
-        ← p .before .max .ensures,
-        ← p .min .ensures,
-        ← c .before .before .place-dock .ensures,
-        ← c .before .composed .ensures .0,
-        ← c .finished .ensures .0,
-      ),
-      omega arith,
-      omega arith,
-    )
+returns c = (rw (arranged-finished, ← c .before .docked .ensures .0) (c .finished .ensures .0), omega arith, omega arith)
 
 pub arranged-spec : {M : Type 1} → statement M
-arranged-spec =
-    tie.close
-    (tie.spec
-    (λ c κs. search needs)
-    (λ c κs. search needs)
-    (λ c κs. search needs)
-    (λ c κs. search needs)
-    (λ c κs. search needs)
-    (λ c κs. search needs)
-    returns)
+arranged-spec = tie.close (tie.spec (λ c κs. search needs) (λ c κs. search needs) returns)

@@ -1,19 +1,18 @@
--- `railed` is `railedOf`.
+-- `railed` is `railControlsOf`.
 use native.Mathlib.Omega.{arith}
 use borrow.Author.Needs.{needs}
-use Rattle.arranged.specs.Arranged.{railedOf}
+use Rattle.arranged.specs.Controls.{railControlsOf}
 use Rattle.arranged.proofs.railed.Statement.{statement}
 use Rattle.arranged.proofs.railed.Tie as tie
 
 returns : tie.Need-returns
-unfolding railedOf
+unfolding railControlsOf
 returns c =
-    let p = c .before in (
+    let p = c in (
       rw (
-        c .finished .ensures .0,
         p .placed .ensures .0,
         ← p .before .before .before .measure-rails .ensures,
-        ← p .before .before .arranged .ensures .0,
+        ← p .before .before .docked .ensures .0,
         ← p .before .rail-places .ensures,
       ),
       omega arith,
@@ -24,7 +23,6 @@ pub railed-spec : {M : Type 1} → statement M
 railed-spec =
     tie.close
     (tie.spec
-    (λ c κs. search needs)
     (λ c κs. search needs)
     (λ c κs. search needs)
     (λ c κs. search needs)

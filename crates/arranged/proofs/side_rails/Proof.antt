@@ -1,30 +1,12 @@
 -- `side_rails` is `sideRailsOf`.
+use native.Mathlib.Omega.{arith}
 use borrow.Author.Needs.{needs}
-use Rattle.arranged.specs.Arranged.{sideRailsOf}
+use Rattle.arranged.specs.Controls.{side-finished}
 use Rattle.arranged.proofs.side_rails.Statement.{statement}
 use Rattle.arranged.proofs.side_rails.Tie as tie
 
 returns : tie.Need-returns
-unfolding sideRailsOf
-returns c =
-    let p = c .before .before in
-    let k = c .arranged .ensures in
-    (rw (← p .before .requested .ensures, ← p .narrowed .ensures, ← k .0, c .before .if1 .taken), k .1, k .2)
-
-returns-2 : tie.Need-returns-2
-unfolding sideRailsOf
-returns-2 c =
-    let p = c .before .before in
-    let k = c .railed .ensures in
-    (rw (← p .before .requested .ensures, ← p .narrowed .ensures, ← k .0, c .before .if1 .left), k .1, k .2)
+returns c = (rw (side-finished, ← c .before .side-controls .ensures .0) (c .finished .ensures .0), omega arith, omega arith)
 
 pub side-rails-spec : {M : Type 1} → statement M
-side-rails-spec =
-    tie.close
-    (tie.spec
-    (λ c κs. search needs)
-    (λ c κs. search needs)
-    (λ c κs. search needs)
-    returns
-    (λ c κs. search needs)
-    returns-2)
+side-rails-spec = tie.close (tie.spec (λ c κs. search needs) (λ c κs. search needs) returns)

@@ -1,25 +1,22 @@
--- `banded` is `bandedOf`.
+-- `banded` is `bandedFrom` of the controls of `arranged`.
 use native.Mathlib.Omega.{arith}
 use borrow.Author.Needs.{needs}
-use Rattle.band.specs.Band.{bandedOf}
 use Rattle.band.proofs.banded.Statement.{statement}
 use Rattle.band.proofs.banded.Tie as tie
 
 returns : tie.Need-returns
-unfolding bandedOf
 returns c =
     let p = c .before .before .before .before .before .before in
     let q = p .before in (
-      rw (c .with-analog .ensures .0, q .placed .ensures .0, ← q .before .before .band-places .ensures, ← q .before .arranged .ensures .0, p .if1 .taken),
+      rw (c .with-analog .ensures .0, q .placed .ensures .0, ← q .before .before .band-places .ensures, ← q .before .docked .ensures .0, p .if1 .taken),
       omega arith,
       omega arith,
     )
 
 returns-2 : tie.Need-returns-2
-unfolding bandedOf
 returns-2 c =
     let q = c .before in (
-      rw (q .placed .ensures .0, ← q .before .before .band-places .ensures, ← q .before .arranged .ensures .0, c .if1 .left),
+      rw (q .placed .ensures .0, ← q .before .before .band-places .ensures, ← q .before .docked .ensures .0, c .if1 .left),
       omega arith,
       omega arith,
     )

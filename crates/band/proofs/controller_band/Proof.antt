@@ -2,6 +2,7 @@
 use native.Mathlib.Omega.{arith}
 use borrow.Author.Needs.{needs}
 use Rattle.band.specs.Band.{controllerBandOf}
+use Rattle.band.proofs.Anew.{band-anew}
 use Rattle.band.proofs.Counts.{Counted, anchor-counts, game-counts}
 use Rattle.band.proofs.controller_band.Statement.{statement}
 use Rattle.band.proofs.controller_band.Tie as tie
@@ -28,14 +29,16 @@ returns-3 c =
     let i = c .before .before in
     let p = i .before .before .before .before in
     let t = p .before .before in
+    let a = t .before .before .before .before .args in
     let k : Counted (c .place-game-in-aspect .result) = rw (c .place-game-in-aspect .ensures) (game-counts (i .with-inputs .result) _ _ _ _ _ (i .with-inputs .ensures .1, i .with-inputs .ensures .2)) in (
       rw (
         t .before .before .before .if1 .left,
         ← t .before .before .find-room .ensures,
         t .if2 .left,
         ← p .before .measure-band .ensures,
-        ← p .banded .ensures .0,
         ← i .before .before .max .ensures,
+        band-anew (a .w) (a .h) (a .analog) (t .before .before .find-room .result .deep) (p .before .measure-band .result) (a .psp) (i .before .before .max .result) (a .picture),
+        ← p .banded .ensures .0,
         ← i .before .anchor-toolbar .ensures,
         ← i .with-inputs .ensures .0,
         ← c .before .aspect .ensures,

@@ -2,6 +2,7 @@ use borrow.Author.Needs.{needs}
 use Rattle.layout.specs.Labels.{analogLabels}
 use Rattle.defaults.specs.Defaults.{analogDefaultOf}
 use Rattle.defaults.specs.DefaultLabels.{analog-formed, with-counts}
+use Rattle.defaults.proofs.Anew.{full-anew}
 use Rattle.defaults.proofs.analog_default.Statement.{statement}
 use Rattle.defaults.proofs.analog_default.Tie as tie
 
@@ -29,7 +30,7 @@ returns c =
     let p = c .before .before .before in
     let a = p .before .before .before .args in
     with-counts analogLabels 2 (analogDefaultOf (a .w) (a .h)) (analog-formed (a .w) (a .h))
-    (rw (← p .before .before .max .ensures, ← p .before .max2 .ensures, ← p .analog-full .ensures .0, ← c .before .before .shrunk .ensures .0, ← c .before .finished .ensures .0) (c .try-band .ensures))
+    (rw (← p .before .before .max .ensures, ← p .before .max2 .ensures, ← full-anew, ← p .analog-full .ensures .0, ← c .before .before .shrunk .ensures .0, ← c .before .finished .ensures .0) (c .try-band .ensures))
 
 pub analog-default-spec : {M : Type 1} → statement M
 analog-default-spec =

@@ -1,6 +1,6 @@
 use borrow.Author.Needs.{needs}
 use native.Mathlib.Omega.{arith}
-use Rattle.defaults.specs.Defaults.{analogFullOf}
+use Rattle.defaults.proofs.Anew.{full-bare}
 use Rattle.defaults.proofs.analog_full.Statement.{statement}
 use Rattle.defaults.proofs.analog_full.Tie as tie
 
@@ -13,21 +13,14 @@ measure-halves-requires c κs = search needs
 half-places-requires : tie.Need-half-places-requires
 half-places-requires c κs = search needs
 
-new-layout-requires : tie.Need-new-layout-requires
-new-layout-requires c κs = search needs
-
-placed-requires : tie.Need-placed-requires
-placed-requires c κs = search needs
-
-with-analog-requires : tie.Need-with-analog-requires
-with-analog-requires c κs = search needs
+analog-controls-requires : tie.Need-analog-controls-requires
+analog-controls-requires c κs = search needs
 
 returns : tie.Need-returns
-unfolding analogFullOf
 returns c =
-    let p = c .before .before .before in
-    let q = p .before .before .before in (
-      rw (c .with-analog .ensures .0, p .placed .ensures .0, ← q .before .before .size-halves .ensures, ← q .before .measure-halves .ensures, ← q .half-places .ensures, ← p .before .new-layout .ensures .0),
+    let q = c .before .before in
+    let a = q .before .before .before .args in (
+      rw (full-bare (a .w) (a .h), ← q .before .before .size-halves .ensures, ← q .before .measure-halves .ensures, ← q .half-places .ensures) (c .analog-controls .ensures .0),
       omega arith,
       omega arith,
     )
@@ -39,7 +32,5 @@ analog-full-spec =
     size-halves-requires
     measure-halves-requires
     half-places-requires
-    new-layout-requires
-    placed-requires
-    with-analog-requires
+    analog-controls-requires
     returns)

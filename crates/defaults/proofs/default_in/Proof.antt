@@ -1,13 +1,14 @@
 use borrow.Author.Needs.{needs}
 use Rattle.layout.specs.Layout.{cutoutList}
 use Rattle.layout.specs.Labels.{standardLabels}
+use Rattle.arranged.specs.Controls.{arranged-finished}
 use Rattle.defaults.specs.Defaults.{defaultInOf}
 use Rattle.defaults.specs.DefaultLabels.{default-formed, with-counts}
 use Rattle.defaults.proofs.default_in.Statement.{statement}
 use Rattle.defaults.proofs.default_in.Tie as tie
 
-arranged-requires : tie.Need-arranged-requires
-arranged-requires c κs = search needs
+docked-requires : tie.Need-docked-requires
+docked-requires c κs = search needs
 
 clear-requires : tie.Need-clear-requires
 clear-requires c κs = search needs
@@ -27,13 +28,13 @@ returns c =
     let p = c .before .before in
     let a = p .before .before .before .args in
     with-counts standardLabels 0 (defaultInOf (a .w) (a .h) (cutoutList (a .cutouts)) (a .picture)) (default-formed (a .w) (a .h) (cutoutList (a .cutouts)) (a .picture))
-    (rw (← p .before .before .arranged .ensures .0, ← p .before .clear .ensures, ← p .try-dock .ensures, ← c .before .try-side .ensures) (c .try-band .ensures))
+    (rw (arranged-finished, ← p .before .before .docked .ensures .0, ← p .before .clear .ensures, ← p .try-dock .ensures, ← c .before .try-side .ensures) (c .try-band .ensures))
 
 pub default-in-spec : {M : Type 1} → statement M
 default-in-spec =
     tie.close
     (tie.spec
-    arranged-requires
+    docked-requires
     clear-requires
     try-dock-requires
     try-side-requires

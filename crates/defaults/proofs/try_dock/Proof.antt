@@ -1,11 +1,12 @@
 use borrow.Author.Needs.{needs}
+use Rattle.arranged.specs.Controls.{arranged-finished}
 use Rattle.defaults.specs.Defaults.{tryDockOf}
 use Rattle.defaults.proofs.try_dock.Statement.{statement}
 use Rattle.defaults.proofs.try_dock.Tie as tie
 
 returns : tie.Need-returns
 unfolding tryDockOf
-returns c = rw (← c .before .before .arranged .ensures .0, ← c .before .clear .ensures, ← c .wider .ensures, c .before .before .before .if1 .taken)
+returns c = rw (arranged-finished, ← c .before .before .docked .ensures .0, ← c .before .clear .ensures, ← c .wider .ensures, c .before .before .before .if1 .taken)
 
 returns-2 : tie.Need-returns-2
 unfolding tryDockOf

@@ -1,11 +1,12 @@
 use borrow.Author.Needs.{needs}
+use Rattle.arranged.specs.Controls.{side-finished}
 use Rattle.defaults.specs.Defaults.{trySideOf}
 use Rattle.defaults.proofs.try_side.Statement.{statement}
 use Rattle.defaults.proofs.try_side.Tie as tie
 
 returns : tie.Need-returns
 unfolding trySideOf
-returns c = rw (← c .before .before .side-rails .ensures .0, ← c .before .clear .ensures, ← c .wider .ensures, c .before .before .before .if1 .taken)
+returns c = rw (side-finished, ← c .before .before .side-controls .ensures .0, ← c .before .clear .ensures, ← c .wider .ensures, c .before .before .before .if1 .taken)
 
 returns-2 : tie.Need-returns-2
 unfolding trySideOf

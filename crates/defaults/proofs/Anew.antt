@@ -1,0 +1,31 @@
+-- The game that `finished` looks for on the whole screen is not looked at where another takes its place, nor is what `Layout::new` gives
+-- but for its labels.
+use mathlib.Core.Path.{_≡_, refl, sym, _∙_}
+use mathlib.Core.List.{[]}
+use lib.Ieee.{Float}
+use Rattle.float.specs.Float.{_⊖_, k0, k16}
+use Rattle.geometry.specs.declared.Rect.{Rect}
+use Rattle.geometry.specs.Rect.{newOf}
+use Rattle.layout.specs.declared.Layout.{Layout}
+use Rattle.layout.specs.Layout.{elementsOf}
+use Rattle.search.specs.Search.{placeGameInAspectOf}
+use Rattle.arranged.specs.Anew.{bareOf, finished-anew}
+use Rattle.arranged.specs.Arranged.{finishedOf}
+use Rattle.arranged.specs.Controls.{anchoredOf}
+use Rattle.defaults.specs.declared.Size.{Size}
+use Rattle.defaults.specs.AnalogControls.{analogControlsOf, added-bare, shrunk-bare}
+use Rattle.defaults.specs.Defaults.{clearOf, newLayoutOf, sizeHalvesOf, measureHalvesOf, halfPlacesOf, analogFullOf, shrunkOf}
+use Rattle.defaults.specs.DefaultLabels.{default-formed}
+
+pub clear-anew : (l : Layout) (w h : Float) (picture : Rect) → clearOf (finishedOf l w h) picture ≡ clearOf (anchoredOf l w h) picture
+unfolding finishedOf placeGameInAspectOf elementsOf
+clear-anew l w h picture = refl
+
+module _ (w h : Float) where
+  pub full-bare : let b = measureHalvesOf w h (sizeHalvesOf w h) in
+      bareOf (analogFullOf w h) ≡ analogControlsOf (halfPlacesOf b) (newOf (b .x) (b .facey) (b .face) (b .face)) (newOf k16 (b .y) (b .stick) (b .stick)) (newOf (w ⊖ k16 ⊖ b .stick) (b .y) (b .stick) (b .stick))
+  unfolding analogFullOf
+  full-bare = added-bare _ _ _ _ (newLayoutOf w h) (default-formed w h [] (newOf k0 k0 w h))
+
+  pub full-anew : (requested full : Size) (v u : Float) → finishedOf (shrunkOf (bareOf (analogFullOf w h)) requested full) v u ≡ finishedOf (shrunkOf (analogFullOf w h) requested full) v u
+  full-anew requested full v u = finished-anew _ _ v u (shrunk-bare requested full _ _ _ _ (analogFullOf w h) full-bare)

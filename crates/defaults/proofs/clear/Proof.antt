@@ -1,0 +1,11 @@
+-- `clear` is `clearOf` of a finished layout.
+use borrow.Author.Needs.{needs}
+use Rattle.defaults.proofs.Anew.{clear-anew}
+use Rattle.defaults.proofs.clear.Statement.{statement}
+use Rattle.defaults.proofs.clear.Tie as tie
+
+returns : tie.Need-returns
+returns c = rw (clear-anew, ← c .before .anchored .ensures .0) (c .place-game-in .ensures)
+
+pub clear-spec : {M : Type 1} → statement M
+clear-spec = tie.close (tie.spec (λ c κs. search needs) (λ c κs. search needs) returns)
