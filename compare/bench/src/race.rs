@@ -40,7 +40,7 @@ pub fn race(name: &str, calls: usize, passes: &mut [Pass]) -> Vec<f64> {
     for (i, (who, _)) in passes.iter().enumerate() {
         let ratios: Vec<f64> = times[i].iter().zip(&times[0]).map(|(t, u)| t / u).collect();
         println!(
-            "{name:<36} {who:<8} {:>9.1} ns  ratio {:.2}, median {:.2} ({:.2}-{:.2})",
+            "{name:<42} {who:<8} {:>9.1} ns  ratio {:.2}, median {:.2} ({:.2}-{:.2})",
             least(i),
             least(i) / least(0),
             quantile(&ratios, 0.5),

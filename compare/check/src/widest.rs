@@ -158,7 +158,7 @@ fn rects(layout: &[u8]) -> Option<(Rect, Vec<Rect>)> {
         return None;
     };
     let length = usize::from(u16::from_be_bytes([high, low]));
-    let rects = |bytes| order::rects(&order::numbers(bytes)).collect::<Vec<_>>();
+    let rects = |bytes| order::rects(bytes).collect::<Vec<_>>();
     Some((rects(game)[0], rects(rest.get(..length)?)))
 }
 

@@ -94,14 +94,14 @@ pub fn read(order: &[u8]) -> Answer<Settings> {
         let preset = &mut settings.preset;
         match tag {
             1 => {
-                let sides = limited(value)?;
+                let sides = limited(numbers(value))?;
                 at_least_0(&sides)?;
-                screen = Some([sides[0], sides[1]]);
+                screen = Some(sides);
             }
             2 => {
-                let numbers = limited(value)?;
+                let numbers @ [x, y, w, h] = limited(numbers(value))?;
                 at_least_0(&numbers[2..])?;
-                settings.picture = rects(&numbers).next();
+                settings.picture = Some(Rect::new(x, y, w, h));
             }
             3 => {
                 must(value[0] < 8, ODD_MARK)?;
@@ -118,12 +118,17 @@ pub fn read(order: &[u8]) -> Answer<Settings> {
                 }
             }
             5 => {
-                let numbers = limited(value)?;
-                preset.game_scale = numbers[0];
-                preset.game_offset = [numbers[1], numbers[2]];
+                let [scale, across, down] = limited(numbers(value))?;
+                preset.game_scale = scale;
+                preset.game_offset = [across, down];
             }
-            6 => settings.cutouts = rects(&limited(value)?).collect(),
-            _ => preset.elements = rects(&numbers(value)).collect(),
+            6 => {
+                settings.cutouts = rects(value).collect();
+                for r in &settings.cutouts {
+                    limited([r.x, r.y, r.w, r.h])?;
+                }
+            }
+            _ => preset.elements = rects(value).collect(),
         }
         (rest, before) = (after, tag);
     }
@@ -131,14 +136,14 @@ pub fn read(order: &[u8]) -> Answer<Settings> {
     Ok(settings)
 }
 
-pub fn numbers(value: &[u8]) -> Vec<f32> {
+/// The numbers of a value, which has four bytes for each.
+fn numbers<const N: usize>(value: &[u8]) -> [f32; N] {
     let (chunks, _) = value.as_chunks();
-    chunks.iter().copied().map(f32::from_be_bytes).collect()
+    std::array::from_fn(|i| f32::from_be_bytes(chunks[i]))
 }
 
-/// Numbers, all of them in the limits.
-fn limited(value: &[u8]) -> Answer<Vec<f32>> {
-    let numbers = numbers(value);
+/// Numbers, if all of them are in the limits.
+fn limited<const N: usize>(numbers: [f32; N]) -> Answer<[f32; N]> {
     must(numbers.iter().all(|n| n.abs() <= 8192.), OFF_THE_SCALE)?;
     Ok(numbers)
 }
@@ -147,9 +152,12 @@ fn at_least_0(numbers: &[f32]) -> Answer<()> {
     must(numbers.iter().all(|n| *n >= 0.), OFF_THE_SCALE)
 }
 
-pub fn rects(numbers: &[f32]) -> impl Iterator<Item = Rect> {
-    let (rects, _) = numbers.as_chunks();
-    rects.iter().map(|&[x, y, w, h]| Rect::new(x, y, w, h))
+pub fn rects(value: &[u8]) -> impl Iterator<Item = Rect> {
+    let (rects, _) = value.as_chunks::<16>();
+    rects.iter().map(|rect| {
+        let [x, y, w, h] = numbers(rect);
+        Rect::new(x, y, w, h)
+    })
 }
 
 /// A field: its tag, its length, its value.
@@ -158,37 +166,49 @@ pub fn field(tag: u8, value: &[u8]) -> Vec<u8> {
     [&[tag], &length.to_be_bytes()[..], value].concat()
 }
 
-fn put_header(bytes: &mut Vec<u8>, tag: u8, length: usize) {
-    bytes.push(tag);
-    bytes.extend((length as u16).to_be_bytes());
+/// Puts bytes at the front of `out`, which is left with those after them.
+fn put<const N: usize>(out: &mut &mut [u8], bytes: [u8; N]) {
+    let (front, rest) = std::mem::take(out).split_first_chunk_mut().expect("room");
+    (*front, *out) = (bytes, rest);
 }
 
-/// A rectangle's bytes, negative zero as plus zero.
-fn put_rect(bytes: &mut Vec<u8>, r: Rect) {
-    let number = |n: f32| if n == 0. { [0; 4] } else { n.to_be_bytes() };
-    bytes.extend([r.x, r.y, r.w, r.h].map(number).as_flattened());
+fn put_head(out: &mut &mut [u8], tag: u8, length: usize) {
+    let [high, low] = (length as u16).to_be_bytes();
+    put(out, [tag, high, low]);
 }
 
-/// A layout's bytes.
-pub fn written(layout: &Layout) -> Vec<u8> {
-    let count = layout.element_count();
-    let mut bytes = Vec::with_capacity(353);
-    put_header(&mut bytes, 1, 16);
-    put_rect(&mut bytes, layout.game);
-    put_header(&mut bytes, 2, 16 * count);
-    (0..count).for_each(|i| put_rect(&mut bytes, layout.element(i)));
-    put_header(&mut bytes, 3, 2 * layout.controls.len());
-    let masks = layout.controls.iter().map(|c| c.mask.to_be_bytes());
-    bytes.extend(masks.flatten());
-    bytes
+/// Negative zero as plus zero.
+fn put_rect(out: &mut &mut [u8], r: Rect) {
+    for n in [r.x, r.y, r.w, r.h] {
+        put(out, if n == 0. { [0; 4] } else { n.to_be_bytes() });
+    }
 }
 
 /// Writes a layout at the start of the lent bytes: how many there are.
 pub fn write(layout: &Layout, out: &mut [u8]) -> Answer<usize> {
-    let bytes = written(layout);
-    let out = out.get_mut(..bytes.len()).ok_or(SHEET_TOO_SMALL)?;
-    out.copy_from_slice(&bytes);
-    Ok(bytes.len())
+    let elements = layout.element_count();
+    let (rects, masks) = (16 * elements, 2 * layout.controls.len());
+    let length = 25 + rects + masks;
+    let out = &mut out.get_mut(..length).ok_or(SHEET_TOO_SMALL)?;
+    put_head(out, 1, 16);
+    put_rect(out, layout.game);
+    put_head(out, 2, rects);
+    for i in 0..elements {
+        put_rect(out, layout.element(i));
+    }
+    put_head(out, 3, masks);
+    for control in &layout.controls {
+        put(out, control.mask.to_be_bytes());
+    }
+    Ok(length)
+}
+
+/// A layout's bytes.
+pub fn written(layout: &Layout) -> Vec<u8> {
+    let mut out = vec![0; 353];
+    let length = write(layout, &mut out).expect("the longest has 353");
+    out.truncate(length);
+    out
 }
 
 /// A function's answer, and the bytes lent to it as it leaves them: each was

@@ -132,7 +132,7 @@ fn arrangement(settings: &Settings) -> &'static str {
             picture::vertical(w, h, beside[0], beside[1], analog, psp),
         ),
     ];
-    let layout = settings.layout();
+    let layout = LayoutData::from(settings.layout());
     let made = candidates.into_iter().find(|(_, candidate)| {
         let controls = |l: &LayoutData| (l.dpad, l.controls.clone(), l.sticks.clone());
         candidate.as_ref().is_some_and(|candidate| {

@@ -43,7 +43,7 @@ fn orders() -> (List, Tally) {
         }
         for _ in 0..3 {
             let at = match &settings {
-                Ok(settings) => touch(r, &settings.layout()),
+                Ok(settings) => touch(r, &settings.layout().into()),
                 Err(_) => [any_number(r), any_number(r)],
             };
             tally.touch(list.touch(at, r.bits() as u16));

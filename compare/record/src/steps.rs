@@ -92,7 +92,7 @@ impl List {
     pub fn touch(&mut self, at: [f32; 2], previous: u16) -> Answer<u16> {
         let answer = order::touch(&self.order, at, previous);
         let layout = order::read(&self.order).map(|settings| settings.layout());
-        let nearest = layout.map(|l| masks::mask_near(&l, at, previous, nearest_hypot));
+        let nearest = layout.map(|l| masks::mask_near(&l.into(), at, previous, nearest_hypot));
         assert_eq!(answer, nearest, "a tie of hypot");
         self.push(Step {
             kind: b'T',
@@ -104,7 +104,8 @@ impl List {
         answer
     }
     pub fn sheet(&mut self) -> String {
-        let text = sheet::film(&self.order);
+        let (bytes, length) = sheet::film_sheet(&self.order);
+        let text = String::from_utf8(bytes[..length].to_vec()).expect("ASCII");
         self.push(Step {
             kind: b'S',
             bytes: text.as_bytes(),
