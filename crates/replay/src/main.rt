@@ -1,6 +1,6 @@
 // Runs the lists in data/, whose README has their form: orders, calls of our functions and the Rust's answers, every byte
-// of which is compared. A case with a name prints `ok NAME` or `WRONG NAME`; a list prints how many calls it has, and
-// whether all of them agree.
+// of which is compared. A case with a name prints `ok NAME` or `WRONG NAME`; a list prints how many calls of each kind it
+// has, and how many are wrong.
 ghost use Prim.Native.Nat.{_<_};
 ghost use Rattle.io.specs.Counts.{Counts};
 use film_sheet::film_sheet;
@@ -46,7 +46,7 @@ fn load(file: i32, head: &[u8; 17], out: &mut [u8]) -> usize
     io::read_full(file, &mut out[..n])
 }
 
-// With the step run, on the last order.
+// Runs a step on the order before it.
 fn ran(t: Tally, head: &[u8; 17], order: &[u8], bytes: &[u8]) -> Tally {
     if head[0] == b'N' {
         tally::say(bytes, t.fault);
