@@ -248,14 +248,14 @@ impl<'a> Case<'a> {
     fn touches(
         &self,
         layout: &Layout,
-        aimed: Option<[f32; 2]>,
+        mut aimed: Option<[f32; 2]>,
         r: &mut Random,
         counts: &mut Counts,
     ) {
         let data = LayoutData::from(layout);
         let lent = lent::layout(&data);
         for what in [What::Touch, What::Mask, What::Mask, What::Mask] {
-            let at = aimed.unwrap_or_else(|| edge_touch(r, layout));
+            let at = aimed.take().unwrap_or_else(|| edge_touch(r, layout));
             let previous = if r.yes() { 0 } else { r.bits() as u16 };
             let [x, y] = at;
             let ours = match what {

@@ -167,6 +167,7 @@ const KINDS: &[(&str, Make)] = &[
     ("at limits", at_limits),
     ("at limits", at_limits),
     ("rails", rails),
+    ("gains", gains),
     ("extreme", extreme),
     ("saved", saved),
     ("cutouts", cutouts),
@@ -336,8 +337,8 @@ fn ordinary(r: &mut Random) -> Parts {
 
 /// Sizes that the Rust tests for.
 const EDGES: &[f32] = &[
-    1., 24., 48., 96., 112., 122., 124., 184., 300., 304., 320., 336., 360., 378., 600., 712.,
-    800., 1080.,
+    1., 24., 48., 96., 112., 122., 124., 184., 300., 304., 320., 336., 360., 368., 378., 600.,
+    712., 800., 1080.,
 ];
 
 /// A number or one next to it, in the limits.
@@ -423,6 +424,26 @@ fn rails(r: &mut Random) -> Parts {
         ]),
         cutouts: Some(cutouts),
         saved: None,
+    }
+}
+
+/// A standard layout in an area that is about as high as the game which one
+/// arrangement leaves clear, so that another gains next to nothing.
+fn gains(r: &mut Random) -> Parts {
+    let screen = r.pick(&[generate::tablet, |r: &mut Random| r.pick(SCREENS)])(r);
+    let [w, h] = screen;
+    let whole = Rect::new(0., 0., w, h);
+    let arranged = access::arranged(w, h, r.yes());
+    let game = access::place_game_in(&arranged, whole, false, 1., [0.5; 2]).game;
+    let more = r.pick(&[-0.01, 0., 0.001, 0.005, 0.0099, 0.01, 0.0101, 0.02]);
+    let bottom = game.y + (game.w + more) * 0.75;
+    Parts {
+        screen,
+        picture: Some(Rect::new(0., 0., w, bottom.clamp(0., LIMIT))),
+        mode: r.pick(&[None, None, Some(4)]),
+        fit: Some(r.pick(&[2, 2, 2, 1])),
+        cutouts: (r.below(4) == 0).then(|| cameras(r, screen)),
+        ..Parts::default()
     }
 }
 
