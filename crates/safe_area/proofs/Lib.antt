@@ -1,1 +1,1 @@
-pub mod Signed
+mod Scale

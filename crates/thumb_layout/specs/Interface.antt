@@ -9,7 +9,7 @@ use lib.ListN.{length, drop}
 use Rattle.geometry.specs.Answer.{Answer, accepted, refused}
 use Rattle.safe_area.specs.Safe.{at, safeContentOf, safeEdgesOf}
 use Rattle.geometry.specs.declared.Rect.{Rect}
-use Rattle.geometry.specs.declared.safe.Edges.{Edges}
+use Rattle.safe_area.specs.declared.Edges.{Edges}
 use Rattle.reader.specs.Order.{must, andThen}
 use Rattle.order.specs.Orders.{layoutOf, touchOf, viewportLayoutOf}
 use Rattle.film_sheet.specs.Film.{filmSheetOf}

@@ -1,4 +1,4 @@
-use Rattle.safe_area.proofs.Signed.{current-on-scale}
+use Rattle.safe_area.proofs.Scale.{current-on-scale}
 use Rattle.safe_area.specs.Safe.{contentOf}
 use borrow.Author.Needs.{needs}
 use Rattle.safe_area.proofs.content.Statement.{statement}

@@ -1,4 +1,4 @@
-use Rattle.safe_area.proofs.Signed.{sizes-and-edges}
+use Rattle.safe_area.proofs.Scale.{sizes-and-edges}
 use Rattle.safe_area.specs.Safe.{safeContentOf}
 use mathlib.Core.Path.{sym, _∙_}
 use borrow.Author.Needs.{needs}

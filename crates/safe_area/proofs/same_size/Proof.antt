@@ -1,7 +1,7 @@
 use borrow.Author.Needs.{needs}
 use borrow.Author.Tests.{eq-eqb, ne-eqb}
 use Rattle.safe_area.specs.Safe.{at, sameSizeOf}
-use Rattle.safe_area.proofs.Signed.{eqZ-back}
+use Rattle.safe_area.proofs.Scale.{eqZ-back}
 use Rattle.safe_area.proofs.same_size.Statement.{statement}
 use Rattle.safe_area.proofs.same_size.Tie as tie
 

@@ -1,4 +1,5 @@
-use Rattle.safe_area.proofs.Signed.{stored, extent-small, Measured, measured, within-at, cast-small, extent-is}
+use Rattle.geometry.proofs.Signed.{stored}
+use Rattle.safe_area.proofs.Scale.{extent-small, Measured, measured, within-at, cast-small, extent-is}
 use borrow.Author.Needs.{needs}
 use Rattle.safe_area.specs.Safe.{at, spanAlongOf}
 use native.Mathlib.Omega.{arith}

@@ -1,26 +1,20 @@
--- Signed integers: the machine reads back what it stored, and document 01's limits keep differences and casts in range.
+-- Document 01's limits keep differences and casts in range, and tests of what is read back are tests of what was stored.
 use mathlib.Core.Path.{_≡_, refl, _∙_}
 use mathlib.Core.Bool.{Bool, true, false, _&&_, cond, and-true, and-eq-true-iff}
 use mathlib.Core.List.{List, [], _∷_}
-use Prim.Native.Nat.{ℕ, zero, suc, _+_, _-_, _^_, _<_, _≤_}
+use Prim.Native.Nat.{ℕ, zero, suc, _+_, _-_, _^_, _≤_}
 use native.Mathlib.Omega.{arith}
 use lib.Dec.{T, ltb, eqb, lt→ltb, le→leb}
 use lib.IntN.{ℤ, pos, negsuc, subℕ, _-ℤ_}
 use lib.Signed.{mag, ltZ}
 use lib.Ieee.{binary32, inFloat}
 use mir.Syntax.{w32}
-use mir.Val.{SFits, toZ, ofZ, hbits}
+use mir.Val.{SFits, ofZ}
 use mir.Facts.{toZ-ofZ}
 use borrow.Author.Needs.{sfits-of}
 use borrow.Author.Tests.{leb-true, eqb-true, eqb-false, eq-eqb, ne-eqb}
+use Rattle.geometry.proofs.Signed.{back}
 use Rattle.safe_area.specs.Safe.{at, eqZ, maxOf, clampOf, withinLimitsOf, onScaleOf, allOnScaleOf, sameSizeOf, currentEdgesOf}
-
--- what is read back from the bits of z
-abbrev pub back : ℤ → ℤ
-back z = toZ w32 (ofZ w32 z)
-
-pub stored : {z y : ℤ} → mag z < 2 ^ hbits w32 → z ≡ y → back z ≡ y
-stored p e = toZ-ofZ (sfits-of p) ∙ e
 
 pub cond-keeps : {A : Type 0} (P : A → Type 0) (t : Bool) {x y : A} → P x → P y → P (cond t x y)
 cond-keeps P true p q = p
