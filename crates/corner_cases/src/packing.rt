@@ -77,7 +77,7 @@ fn fits(dpad: Rect, label: Label, x: f32, y: f32, key: Rect) -> [u32; 5] {
         at: [game; 16],
         count: 0,
     };
-    truth(picture::fits(l, 1000.0, 1000.0, game, holes))
+    truth(fits::fits(l, 1000.0, 1000.0, game, holes))
 }
 
 pub fn fits_cases() {

@@ -6,7 +6,8 @@ use mathlib.Core.Option.{Option, some, none}
 use lib.Ieee.{Float}
 use Rattle.geometry.specs.declared.Rect.{Rect}
 use Rattle.layout.specs.declared.Layout.{Layout}
-use Rattle.picture.specs.Picture.{fitsOf, firstFit}
+use Rattle.fits.specs.Fits.{fitsOf}
+use Rattle.picture.specs.Picture.{firstFit}
 
 module _ (w h : Float) (game : Rect) (holes : List Rect) where
   pub first-fit : (b : Bool) (l : Layout) (candidates : List (Option Layout))

@@ -9,7 +9,8 @@ use Rattle.float.specs.Float.{_⊖_, k96, k124}
 use Rattle.geometry.specs.declared.Rect.{Rect}
 use Rattle.layout.specs.declared.Layout.{Layout}
 use Rattle.numerics.specs.Each.{Each}
-use Rattle.picture.specs.Picture.{minWell, measureStackOf, crampedOf, stackedOf, verticalOf, measureRowOf, rowedOf, horizontalOf, fitsOf, firstFit}
+use Rattle.fits.specs.Fits.{fitsOf}
+use Rattle.picture.specs.Picture.{minWell, measureStackOf, crampedOf, stackedOf, verticalOf, measureRowOf, rowedOf, horizontalOf, firstFit}
 
 -- C holds of the layout, where there is one
 abbrev pub Given : (Layout → Type 0) → Option Layout → Type 0

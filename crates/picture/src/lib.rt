@@ -1,22 +1,22 @@
 // Controls beside or below a picture that keeps its size: input/picture.rs.
 ghost use mathlib.Core.Path.{_≡_};
-ghost use Prim.Native.Nat.{_≤_, _+_};
+ghost use Prim.Native.Nat.{_≤_};
 ghost use mathlib.Core.Bool.{_&&_};
-ghost use lib.ListN.{take};
 ghost use Rattle.arranged.specs.Places.{maybe};
+ghost use Rattle.fits.specs.Fits.{fitsOf};
 ghost use Rattle.layout.specs.Layout.{cutoutList};
-ghost use Rattle.picture.specs.Picture.{diamondOf, auxiliaryOf, arrangeOf, squareOf, measureStackOf, crampedOf, stackedOf, measureRowOf, withXOf, centerKeysOf, rowPlacesOf, rowedOf, inputsOf, separateOf, onScreenOf, fitsOf, verticalOf, horizontalOf, fittedOf, baseOf, controlsOf};
+ghost use Rattle.picture.specs.Picture.{diamondOf, auxiliaryOf, arrangeOf, squareOf, measureStackOf, crampedOf, stackedOf, measureRowOf, withXOf, centerKeysOf, rowPlacesOf, rowedOf, verticalOf, horizontalOf, fittedOf, baseOf, controlsOf};
 use arranged::Faces;
 use arranged::MaybeLayout;
 use arranged::Places;
 use arranged::no_layout;
 use arranged::placed;
+use fits::fits;
 use float::clamp;
 use float::max;
 use float::min;
 use float::pick;
 use geometry::Rect;
-use hypot::hypot;
 use layout::Cutouts;
 use layout::Layout;
 
@@ -350,104 +350,6 @@ pub fn horizontal(base: Layout, w: f32, band: Rect, analog: bool, psp: bool) -> 
     }
     let layout = rowed(base, w, row);
     MaybeLayout { some: true, layout }
-}
-
-// A controller element, and whether it is a face cap.
-pub struct Input {
-    pub bounds: Rect,
-    pub face: bool,
-}
-
-// The first `count` of the array: the d-pad, the controls, the sticks.
-pub struct InputList {
-    pub at: [Input; 15],
-    pub count: usize,
-}
-
-fn inputs(l: Layout) -> InputList
-    requires { ⌜ (l .count ≤ 12) × (l .stickcount ≤ 2) ⌝ }
-    ensures { λ r. ⌜ (take (r .count) (r .at) ≡ inputsOf l) × (r .count ≡ l .count + 1 + l .stickcount) ⌝ }
-{
-    let n = l.count;
-    let controls = l.controls;
-    let sticks = l.sticks;
-    let bounds = l.dpad;
-    let face = false;
-    let mut at = [Input { bounds, face }; 15];
-    for i in 0..n {
-        let c = controls[i];
-        let label = c.label;
-        let bounds = c.bounds;
-        let face = label.is_face();
-        at[i + 1] = Input { bounds, face };
-    }
-    let bounds = sticks[0];
-    at[n + 1] = Input { bounds, face };
-    let bounds = sticks[1];
-    at[n + 2] = Input { bounds, face };
-    InputList {
-        at,
-        count: n + 1 + l.stickcount,
-    }
-}
-
-// Face caps are circles, which stay apart where the corners of their boxes meet.
-fn separate(i: Input, j: Input) -> bool
-    ensures { λ r. ⌜ r ≡ separateOf i j ⌝ }
-{
-    let a = i.bounds;
-    let b = j.bounds;
-    if !a.overlaps(b) {
-        return true;
-    }
-    i.face
-        && (j.face
-            && hypot(
-                a.x + a.w / 2.0 - b.x - b.w / 2.0,
-                a.y + a.h / 2.0 - b.y - b.h / 2.0,
-            )
-                >= (a.w + b.w) / 2.0 + 3.99)
-}
-
-fn on_screen(r: Rect, w: f32, h: f32) -> bool
-    ensures { λ b. ⌜ b ≡ onScreenOf r w h ⌝ }
-{
-    r.x >= 0.0 && (r.y >= 0.0 && (r.x + r.w <= w + 0.01 && r.y + r.h <= h + 0.01))
-}
-
-// Whether the controller's elements lie on the screen, clear of the picture, of the holes and of each other.
-pub fn fits(l: Layout, w: f32, h: f32, game: Rect, holes: Cutouts) -> bool
-    requires { ⌜ (l .count ≤ 12) × (l .stickcount ≤ 2) × (holes .count ≤ 16) ⌝ }
-    ensures { λ r. ⌜ r ≡ fitsOf l w h game (cutoutList holes) ⌝ }
-{
-    let inputs = inputs(l);
-    let at = inputs.at;
-    let n = inputs.count;
-    let hole = holes.at;
-    let m = holes.count;
-    for i in 0..n {
-        let a = at[i];
-        let r = a.bounds;
-        if !on_screen(r, w, h) {
-            return false;
-        }
-        if r.overlaps(game) {
-            return false;
-        }
-        for k in 0..m {
-            let c = hole[k];
-            if r.overlaps(c) {
-                return false;
-            }
-        }
-        for j in i + 1..n {
-            let b = at[j];
-            if !separate(a, b) {
-                return false;
-            }
-        }
-    }
-    true
 }
 
 fn fitting(m: MaybeLayout, w: f32, h: f32, game: Rect, holes: Cutouts) -> bool

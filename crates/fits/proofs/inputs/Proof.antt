@@ -10,10 +10,10 @@ use Rattle.geometry.specs.declared.Rect.{Rect}
 use Rattle.layout.specs.Layout.{anyRect, controlList}
 use Rattle.layout.proofs.Loops.{sized, take-map}
 use Rattle.layout.proofs.Stores.{map-put, stored, two}
-use Rattle.picture.specs.declared.Input.{Input}
-use Rattle.picture.specs.Picture.{input, fromControl, fromStick, inputsOf}
-use Rattle.picture.proofs.inputs.Statement.{statement}
-use Rattle.picture.proofs.inputs.Tie as tie
+use Rattle.fits.specs.declared.Input.{Input}
+use Rattle.fits.specs.Fits.{input, fromControl, fromStick, inputsOf}
+use Rattle.fits.proofs.inputs.Statement.{statement}
+use Rattle.fits.proofs.inputs.Tie as tie
 
 abbrev Inv-loop : tie.InvT-loop
 Inv-loop l n controls sticks face at₀ i₀ at i = (i ≤ n) × (length at ≡ 15) × (take (i + 1) at ≡ input (l .dpad) false ∷ map fromControl (take i controls))

@@ -8,11 +8,11 @@ use lib.ListN.{take, drop, length}
 use Rattle.geometry.specs.Rect.{overlapsOf}
 use Rattle.layout.specs.Lists.{anyOf, allOf}
 use Rattle.layout.proofs.Loops.{sized, next-of, none-left, any-hit, any-miss, any-end, all-miss, all-hit, all-end}
-use Rattle.picture.specs.Picture.{separateOf, freeOf}
-use Rattle.picture.proofs.Free.{Left, free-is, not-free, not-separate, next-free, all-free}
+use Rattle.fits.specs.Fits.{separateOf, freeOf}
+use Rattle.fits.proofs.Free.{Left, free-is, not-free, not-separate, next-free, all-free}
 use borrow.Author.Tests.{not-true, not-false}
-use Rattle.picture.proofs.fits.Statement.{statement}
-use Rattle.picture.proofs.fits.Tie as tie
+use Rattle.fits.proofs.fits.Statement.{statement}
+use Rattle.fits.proofs.fits.Tie as tie
 
 abbrev Inv-loop2 : tie.InvT-loop2
 Inv-loop2 w h game at n hole m i a r k₀ k = (k ≤ m) × (anyOf (overlapsOf r) (drop k (take m hole)) ≡ anyOf (overlapsOf r) (take m hole))

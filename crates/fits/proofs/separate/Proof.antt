@@ -1,7 +1,7 @@
 use borrow.Author.Needs.{needs}
-use Rattle.picture.specs.Picture.{separateOf}
-use Rattle.picture.proofs.separate.Statement.{statement}
-use Rattle.picture.proofs.separate.Tie as tie
+use Rattle.fits.specs.Fits.{separateOf}
+use Rattle.fits.proofs.separate.Statement.{statement}
+use Rattle.fits.proofs.separate.Tie as tie
 
 returns : tie.Need-returns
 unfolding separateOf

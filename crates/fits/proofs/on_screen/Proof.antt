@@ -1,6 +1,6 @@
-use Rattle.picture.specs.Picture.{onScreenOf}
-use Rattle.picture.proofs.on_screen.Statement.{statement}
-use Rattle.picture.proofs.on_screen.Tie as tie
+use Rattle.fits.specs.Fits.{onScreenOf}
+use Rattle.fits.proofs.on_screen.Statement.{statement}
+use Rattle.fits.proofs.on_screen.Tie as tie
 
 returns : tie.Need-returns
 unfolding onScreenOf

@@ -10,8 +10,8 @@ use Rattle.geometry.specs.Rect.{overlapsOf}
 use Rattle.layout.specs.declared.Layout.{Layout}
 use Rattle.layout.specs.Lists.{anyOf, allOf}
 use Rattle.layout.proofs.Loops.{next-of, none-left}
-use Rattle.picture.specs.declared.Input.{Input}
-use Rattle.picture.specs.Picture.{inputsOf, onScreenOf, freeOf, separateOf, allFree, fitsOf}
+use Rattle.fits.specs.declared.Input.{Input}
+use Rattle.fits.specs.Fits.{inputsOf, onScreenOf, freeOf, separateOf, allFree, fitsOf}
 
 module _ (w h : Float) (game : Rect) (holes : List Rect) where
   -- an input by its three tests
