@@ -13,9 +13,10 @@ use Rattle.layout.specs.Layout.{anyRect, anyControl, controlList, stickList}
 use Rattle.layout.specs.Lists.{flatMap}
 use Rattle.search.specs.Bounded.{Bounded, BoundedGame}
 use Rattle.writer.specs.Bytes.{stored}
-use Rattle.sheet.specs.Sheet.{Line, lineOf, controlLine, toolbarLines, stickLines, linesOf, lineText, linesText, headText, film, refusal, sheetText, refusedText, layoutSheetOf, refusedSheetOf, gameName, dpadName, pauseName, playName, speedName, muteName, leftName, rightName, zeros, pageOf, Put}
+use Rattle.lines.specs.Line.{Line, lineOf, lineText, headText, Put}
+use Rattle.sheet.specs.Sheet.{controlLine, toolbarLines, stickLines, linesOf, linesText, film, refusal, sheetText, refusedText, layoutSheetOf, refusedSheetOf, gameName, dpadName, pauseName, playName, speedName, muteName, leftName, rightName, zeros, pageOf}
 use Rattle.sheet.specs.SheetLaws.{film-fits, refused-fits, line-count, lines-fit, sheet-fits}
-use Rattle.sheet.proofs.Puts.{after}
+use Rattle.lines.proofs.Puts.{after}
 
 lines-append : (xs ys : List Line) → linesText (xs ++ ys) ≡ linesText xs ++ linesText ys
 unfolding flatMap

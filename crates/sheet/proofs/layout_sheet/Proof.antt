@@ -1,4 +1,4 @@
-use Rattle.sheet.proofs.Puts.{after, same}
+use Rattle.lines.proofs.Puts.{after, same}
 use lib.ListN.{length, length-map}
 use Rattle.layout.proofs.Loops.{sized}
 use native.Mathlib.Omega.{arith}

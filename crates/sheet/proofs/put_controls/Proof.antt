@@ -4,13 +4,14 @@ use Rattle.layout.specs.Layout.{anyControl}
 use Rattle.numerics.specs.Rects.{Element}
 use Rattle.numerics.specs.Lists.{each-at}
 use Rattle.sheet.specs.SheetLaws.{element-printable}
-use Rattle.sheet.proofs.Puts.{none, same}
+use Rattle.lines.proofs.Puts.{none, same}
 use Rattle.sheet.proofs.Lines.{control-next, control-room}
 use Rattle.layout.proofs.Loops.{sized}
 use Rattle.layout.specs.Lists.{flatMap}
 use lib.ListN.{length, take}
 use mathlib.Core.List.{map}
-use Rattle.sheet.specs.Sheet.{Put, linesText, controlLine}
+use Rattle.lines.specs.Line.{Put}
+use Rattle.sheet.specs.Sheet.{linesText, controlLine}
 use borrow.Author.Needs.{needs}
 use native.Mathlib.Omega.{arith}
 use Prim.Native.Nat.{_-_, _≤_}

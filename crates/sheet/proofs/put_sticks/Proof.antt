@@ -5,7 +5,7 @@ use Rattle.layout.proofs.Loops.{sized}
 use Rattle.layout.specs.Layout.{anyRect}
 use Rattle.numerics.specs.Rects.{Element}
 use Rattle.sheet.specs.SheetLaws.{element-printable}
-use Rattle.sheet.proofs.Puts.{none, after}
+use Rattle.lines.proofs.Puts.{none, after}
 use Rattle.numerics.specs.Lists.{each-at}
 use Rattle.sheet.proofs.Lines.{no-stick, one-stick, two-sticks, first-room}
 use borrow.Author.Needs.{needs}

@@ -1,6 +1,6 @@
 use native.Mathlib.Omega.{arith}
 use Rattle.sheet.specs.SheetLaws.{element-printable}
-use Rattle.sheet.proofs.Puts.{after}
+use Rattle.lines.proofs.Puts.{after}
 use Rattle.sheet.proofs.Lines.{toolbar-text, length-toolbar}
 use borrow.Author.Needs.{needs}
 use Rattle.sheet.proofs.put_toolbar.Statement.{statement}

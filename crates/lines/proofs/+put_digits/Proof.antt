@@ -1,17 +1,17 @@
-use Rattle.sheet.specs.SheetLaws.{length-more, digits-few}
+use Rattle.lines.specs.LineLaws.{length-more, digits-few}
 use mathlib.Core.Path.{ap}
 use lib.ListN.{length}
-use Rattle.sheet.proofs.Puts.{digit, digit-after}
+use Rattle.lines.proofs.Puts.{digit, digit-after}
 use borrow.Author.Needs.{needs}
 use native.Mathlib.Omega.{arith}
 use Prim.Native.Nat.{_<_, ℕ}
 use borrow.Fn.Kinds.{In}
 use borrow.Fn.PlainCycle.{Measures, is, falls, and}
-use Rattle.sheet.proofs.put_digits.Reads as put-digits
-use Rattle.sheet.proofs.put_digits.Kinds as put-digits-kinds
-use Rattle.sheet.proofs.+put_digits.Lts-put_digits as put-digits-lts
-use Rattle.sheet.proofs.+put_digits.{statement}
-use Rattle.sheet.proofs.+put_digits.Tie.{close}
+use Rattle.lines.proofs.put_digits.Reads as put-digits
+use Rattle.lines.proofs.put_digits.Kinds as put-digits-kinds
+use Rattle.lines.proofs.+put_digits.Lts-put_digits as put-digits-lts
+use Rattle.lines.proofs.+put_digits.{statement}
+use Rattle.lines.proofs.+put_digits.Tie.{close}
 
 abbrev μ-put-digits : Measures 1 put-digits-kinds.ps ℕ
 μ-put-digits κs a = a .1 .1 .0

@@ -1,10 +1,10 @@
 use denote.Ref.{now}
-use Rattle.sheet.specs.Sheet.{lineText, lineOf}
-use Rattle.sheet.specs.SheetLaws.{length-parts}
-use Rattle.sheet.proofs.Puts.{one, after, same}
+use Rattle.lines.specs.Line.{lineText, lineOf}
+use Rattle.lines.specs.LineLaws.{length-parts}
+use Rattle.lines.proofs.Puts.{one, after, same}
 use native.Mathlib.Omega.{arith}
-use Rattle.sheet.proofs.put_line.Statement.{statement}
-use Rattle.sheet.proofs.put_line.Tie as tie
+use Rattle.lines.proofs.put_line.Statement.{statement}
+use Rattle.lines.proofs.put_line.Tie as tie
 
 put-text-requires : tie.Need-put-text-requires
 put-text-requires c κs = omega (arith, length-parts (now (c .before .before .before .args .name)) (c .before .before .before .args .r))

@@ -1,11 +1,11 @@
 use lib.ListN.{length-set, length}
 use mathlib.Core.Path.{ap}
-use Rattle.sheet.proofs.Numbers.{minus, plus}
-use Rattle.sheet.proofs.Puts.{one, after, same}
+use Rattle.lines.proofs.Numbers.{minus, plus}
+use Rattle.lines.proofs.Puts.{one, after, same}
 use native.Mathlib.Omega.{arith}
 use borrow.Author.Needs.{needs}
-use Rattle.sheet.proofs.put_number.Statement.{statement}
-use Rattle.sheet.proofs.put_number.Tie as tie
+use Rattle.lines.proofs.put_number.Statement.{statement}
+use Rattle.lines.proofs.put_number.Tie as tie
 
 slice-write-out : tie.Need-slice-write-out
 slice-write-out c =

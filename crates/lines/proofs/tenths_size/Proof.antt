@@ -1,9 +1,9 @@
 use Prim.Native.Nat.{_/_, _%_, _+_}
-use Rattle.sheet.proofs.Patterns.{power, room, size-low, size-shifted}
+use Rattle.lines.proofs.Patterns.{power, room, size-low, size-shifted}
 use native.Mathlib.Omega.{arith}
 use borrow.Author.Needs.{needs}
-use Rattle.sheet.proofs.tenths_size.Statement.{statement}
-use Rattle.sheet.proofs.tenths_size.Tie as tie
+use Rattle.lines.proofs.tenths_size.Statement.{statement}
+use Rattle.lines.proofs.tenths_size.Tie as tie
 
 returns : tie.Need-returns
 returns c = size-low _ (c .if1 .taken)

@@ -8,8 +8,8 @@ use lib.ListN.{length, take, getD, set, length-append}
 use lib.Seq.{take-suc, take-length}
 use Rattle.writer.specs.Bytes.{stored}
 use Rattle.writer.proofs.Stores.{then, length-stored}
-use Rattle.sheet.specs.Sheet.{Put, digitsOf}
-use Rattle.sheet.specs.SheetLaws.{digits-few, digits-more}
+use Rattle.lines.specs.Line.{Put, digitsOf}
+use Rattle.lines.specs.LineLaws.{digits-few, digits-more}
 
 pub none : (l : List ℕ) (at : ℕ) → Put l at [] l at
 unfolding stored

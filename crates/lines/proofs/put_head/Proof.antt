@@ -1,10 +1,10 @@
 use denote.Ref.{now}
-use Rattle.sheet.specs.Sheet.{headText}
-use Rattle.sheet.specs.SheetLaws.{length-head}
-use Rattle.sheet.proofs.Puts.{one, after, same}
+use Rattle.lines.specs.Line.{headText}
+use Rattle.lines.specs.LineLaws.{length-head}
+use Rattle.lines.proofs.Puts.{one, after, same}
 use native.Mathlib.Omega.{arith}
-use Rattle.sheet.proofs.put_head.Statement.{statement}
-use Rattle.sheet.proofs.put_head.Tie as tie
+use Rattle.lines.proofs.put_head.Statement.{statement}
+use Rattle.lines.proofs.put_head.Tie as tie
 
 put-text-requires : tie.Need-put-text-requires
 put-text-requires c κs = omega (arith, length-head (now (c .before .before .before .args .word)) (c .before .before .before .args .n))

@@ -13,8 +13,8 @@ use mir.Syntax.{w32}
 use mir.Val.{SFits}
 use Rattle.geometry.proofs.Signed.{back, stored}
 use Rattle.numerics.specs.Value.{AtMost}
-use Rattle.sheet.specs.Sheet.{tenthsOf, numberText, digitsOf, most, mostTenths}
-use Rattle.sheet.specs.SheetLaws.{mag-signed, tenths-most}
+use Rattle.lines.specs.Line.{tenthsOf, numberText, digitsOf, most, mostTenths}
+use Rattle.lines.specs.LineLaws.{mag-signed, tenths-most}
 
 pub kept : (z : ℤ) → mag z < 2147483648 → back z ≡ z
 kept z h = stored h refl

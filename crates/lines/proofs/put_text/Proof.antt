@@ -2,13 +2,13 @@ use native.Mathlib.Nat.{add-zero}
 use denote.Ref.{now}
 use lib.ListN.{length-set, length, take}
 use mathlib.Core.Path.{refl, _∙_, _≡_}
-use Rattle.sheet.specs.Sheet.{Put}
-use Rattle.sheet.proofs.Puts.{none, text-next, text-whole}
+use Rattle.lines.specs.Line.{Put}
+use Rattle.lines.proofs.Puts.{none, text-next, text-whole}
 use borrow.Author.Needs.{needs}
 use native.Mathlib.Omega.{arith}
 use Prim.Native.Nat.{_+_, _-_, _≤_}
-use Rattle.sheet.proofs.put_text.Statement.{statement}
-use Rattle.sheet.proofs.put_text.Tie as tie
+use Rattle.lines.proofs.put_text.Statement.{statement}
+use Rattle.lines.proofs.put_text.Tie as tie
 
 abbrev Inv-loop : tie.InvT-loop
 Inv-loop out₀ at text i₀ i-end out i = (i ≤ length text) × (length out ≡ length out₀) × Put out₀ at (take i text) out (at + i)

@@ -15,8 +15,8 @@ use lib.Ieee.Fits.{down-pos}
 use lib.Pow.{pow-pos, pow-mono, pow-add, shl-lt, shl-exact, shl-shr, shr-shr, ones-lt}
 use Rattle.numerics.specs.Bounds.{eps-pos, most-magnitude}
 use Rattle.numerics.specs.Value.{magnitude, sign, Whole, eps, AtMost}
-use Rattle.sheet.specs.Sheet.{most, tenthsOf, tenthsSizeOf}
-use Rattle.sheet.specs.SheetLaws.{tenths-is, size-most}
+use Rattle.lines.specs.Line.{most, tenthsOf, tenthsSizeOf}
+use Rattle.lines.specs.LineLaws.{tenths-is, size-most}
 
 -- ---- shifts
 cut : (a k less : ℕ) → 1 ≤ a → less ≤ 1 → (a * 2 ^ k - less) / 2 ^ k ≡ a - less

@@ -1,12 +1,12 @@
-use Rattle.sheet.proofs.Numbers.{kept-tenths}
+use Rattle.lines.proofs.Numbers.{kept-tenths}
 use lib.ListN.{length-set}
-use Rattle.sheet.specs.Sheet.{fieldText}
-use Rattle.sheet.specs.SheetLaws.{tenths-most}
-use Rattle.sheet.proofs.Puts.{one, after, same}
+use Rattle.lines.specs.Line.{fieldText}
+use Rattle.lines.specs.LineLaws.{tenths-most}
+use Rattle.lines.proofs.Puts.{one, after, same}
 use native.Mathlib.Omega.{arith}
 use borrow.Author.Needs.{needs}
-use Rattle.sheet.proofs.put_field.Statement.{statement}
-use Rattle.sheet.proofs.put_field.Tie as tie
+use Rattle.lines.proofs.put_field.Statement.{statement}
+use Rattle.lines.proofs.put_field.Tie as tie
 
 slice-write-out : tie.Need-slice-write-out
 unfolding fieldText

@@ -1,11 +1,11 @@
-use Rattle.sheet.proofs.Patterns.{not-nan, exponent, size-is, tenths-plus, tenths-minus}
-use Rattle.sheet.proofs.Numbers.{kept, negated}
+use Rattle.lines.proofs.Patterns.{not-nan, exponent, size-is, tenths-plus, tenths-minus}
+use Rattle.lines.proofs.Numbers.{kept, negated}
 use Prim.Native.Nat.{ℕ}
 use mathlib.Core.Path.{sym, ap, _∙_}
 use lib.IntN.{pos, negℤ}
 use borrow.Author.Needs.{needs, sfits-of}
-use Rattle.sheet.proofs.tenths.Statement.{statement}
-use Rattle.sheet.proofs.tenths.Tie as tie
+use Rattle.lines.proofs.tenths.Statement.{statement}
+use Rattle.lines.proofs.tenths.Tie as tie
 
 float-to-bits-n : tie.Need-float-to-bits-n
 float-to-bits-n c = not-nan _ (c .pre .whole)

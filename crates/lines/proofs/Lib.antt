@@ -1,0 +1,3 @@
+mod Patterns
+pub mod Puts
+mod Numbers
