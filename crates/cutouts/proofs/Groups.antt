@@ -6,20 +6,27 @@ use Prim.Native.Nat.{ℕ, zero, suc, _+_, _-_, _<_, _≤_}
 use native.Mathlib.Omega.{arith}
 use borrow.Author.Tests.{lt-ltb, ltb-true}
 use lib.Dec.{ltb}
+use lib.Ieee.{Float}
 use lib.ListN.{length, take, drop, getD, set, length-append, take-append-drop}
 use lib.Seq.{getD-take, length-take-le, take-all, take-set-lt}
 use Rattle.geometry.specs.declared.Rect.{Rect}
+use Rattle.geometry.specs.Rect.{overlapsOf}
 use Rattle.layout.specs.Elements.{countFrom, range}
 use Rattle.layout.specs.declared.Control.{Control}
 use Rattle.layout.specs.declared.Layout.{Layout}
 use Rattle.layout.specs.Actions.{actionElementsOf}
 use Rattle.layout.specs.Label.{isFaceOf}
 use Rattle.layout.specs.Layout.{anyRect, anyControl, controlList}
-use Rattle.layout.specs.Lists.{allOf, filterMap, enumerateFrom}
+use Rattle.layout.specs.Lists.{allOf, anyOf, filterMap, enumerateFrom}
 use Rattle.layout.proofs.Filters.{one-more}
 use Rattle.layout.proofs.Loops.{filterMap-append}
-use Rattle.cutouts.specs.Cutouts.{belowAll}
+use Rattle.cutouts.specs.Cutouts.{settleOf, belowAll}
 use Rattle.cutouts.specs.CutoutLaws.{both}
+
+-- an element on no cutout stays
+pub missed : (w h : Float) (holes at : List Rect) (n i : ℕ) → i < n → anyOf (overlapsOf (getD at i anyRect)) holes ≡ false → settleOf w h holes (take n at) (i ∷ []) ≡ take n at
+unfolding settleOf anyOf
+missed w h holes at n i k e = rw (getD-take n at i anyRect k, e)
 
 -- ---- indices below n
 below-at : (n : ℕ) (g : List ℕ) (k : ℕ) → belowAll n g ≡ true → k < length g → getD g k 0 < n

@@ -5,7 +5,9 @@ ghost use mathlib.Core.List.{[], _∷_};
 ghost use Prim.Native.Nat.{_+_, _<_, _≤_};
 ghost use lib.ListN.{length, take};
 ghost use Rattle.layout.specs.Actions.{actionElementsOf};
+ghost use Rattle.geometry.specs.Rect.{overlapsOf};
 ghost use Rattle.layout.specs.Layout.{cutoutList, elementCountOf, elementList};
+ghost use Rattle.layout.specs.Lists.{anyOf};
 ghost use Rattle.cutouts.specs.Cutouts.{hasAreaOf, withAreaOf, inGroupOf, membersOf, othersOf, hitsOf, shiftByOf, shiftOf, settleOf, avoidOf, avoidCutoutsOf, groupList, belowAll};
 use geometry::Rect;
 use layout::Control;
@@ -161,7 +163,22 @@ fn single(i: usize) -> Group
     }
 }
 
-// The faces as one group, then every other element: later groups see the earlier ones moved.
+// A cutout overlaps the rectangle.
+fn hit(r: Rect, holes: Cutouts) -> bool
+    requires { ⌜ holes .count ≤ 16 ⌝ }
+    ensures { λ b. ⌜ b ≡ anyOf (overlapsOf r) (cutoutList holes) ⌝ }
+{
+    let n = holes.count;
+    for k in 0..n {
+        if r.overlaps(holes.at[k]) {
+            return true;
+        }
+    }
+    false
+}
+
+// The faces as one group, then every other element: later groups see the earlier ones moved. Most elements lie on no cutout
+// and are left before the arrays are handed on.
 fn avoid(w: f32, h: f32, holes: Cutouts, faces: Group, elements: Elements) -> Elements
     requires { ⌜ ((elements .count ≤ 19) × ((faces .count ≤ 4) × (holes .count ≤ 16))) × (belowAll (elements .count) (groupList faces) ≡ true) ⌝ }
     ensures { λ r. ⌜ (elementList r ≡ avoidOf w h (cutoutList holes) (groupList faces) (elementList elements)) × (r .count ≡ elements .count) ⌝ }
@@ -170,6 +187,9 @@ fn avoid(w: f32, h: f32, holes: Cutouts, faces: Group, elements: Elements) -> El
     let mut out = settle(w, h, holes, elements, faces);
     for i in 0..count {
         if in_group(faces, i) {
+            continue;
+        }
+        if !hit(out.at[i], holes) {
             continue;
         }
         out = settle(w, h, holes, out, single(i));

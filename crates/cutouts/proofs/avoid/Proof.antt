@@ -1,7 +1,7 @@
 use Rattle.geometry.specs.declared.Rect.{Rect}
 use Prim.Native.Nat.{ℕ, _+_, _-_, _<_, _≤_}
 use mathlib.Core.List.{List, [], _∷_, foldl}
-use Rattle.cutouts.proofs.Groups.{range-whole, below-one, range-at, below-range, fold-more}
+use Rattle.cutouts.proofs.Groups.{missed, range-whole, below-one, range-at, below-range, fold-more}
 use Rattle.layout.proofs.Filters.{one-more, no-more}
 use Rattle.layout.specs.Elements.{range}
 use mathlib.Core.Path.{refl, sym, ap, ap₂, _∙_, _≡_}
@@ -12,6 +12,7 @@ use Rattle.layout.proofs.Loops.{sized}
 use Rattle.layout.specs.Layout.{elementList, cutoutList}
 use Rattle.layout.specs.Lists.{filterMap}
 use mathlib.Core.Bool.{not}
+use borrow.Author.Tests.{not-true}
 use borrow.Author.Needs.{needs}
 use native.Mathlib.Omega.{arith}
 use Rattle.cutouts.proofs.avoid.Statement.{statement}
@@ -45,15 +46,14 @@ loop-again c =
     let h : l .i < s .args .elements .count = c .before .before .loop-test .taken in
     ((omega arith, l .inv .0 .1), l .inv .1 ∙ ap (foldl (settleOf (s .args .w) (s .args .h) (cutoutList (s .args .holes))) (elementList (c .before .before .before .before .settle .result))) (sym (no-more (λ i. not (inGroupOf (groupList (s .args .faces)) i)) (λ (i : ℕ). i ∷ []) (range 0 (s .args .elements .count)) (l .i) 0 (below-range (s .args .elements .count) (l .i) h) {flag = not (c .before .in-group .result)} (rw (range-at (s .args .elements .count) (l .i) h, c .before .in-group .ensures)) (rw (c .if1 .taken)))))
 
-single-requires : tie.Need-single-requires Inv-loop μ-loop
-single-requires c κs = search needs
+mul-hit : tie.Need-mul-hit Inv-loop μ-loop
+mul-hit c = omega arith
 
-settle-requires-2 : tie.Need-settle-requires-2 Inv-loop μ-loop
-settle-requires-2 c κs =
-    let s = c .before .before .before .before .before .before in
-    let l = c .before .before .before .before .loop in
-    let h : l .i < s .args .elements .count = c .before .before .before .loop-test .taken in
-    ((omega arith, (omega arith, omega arith)), below-one (l .out .count) (l .i) _ (omega arith) (c .single .ensures .0))
+element-copy-out-hit : tie.Need-element-copy-out-hit Inv-loop μ-loop
+element-copy-out-hit c = omega arith
+
+hit-requires : tie.Need-hit-requires Inv-loop μ-loop
+hit-requires c κs = search needs
 
 add-i-2 : tie.Need-add-i-2 Inv-loop μ-loop
 add-i-2 c = omega arith
@@ -63,12 +63,40 @@ loop-less-2 c = omega arith
 
 loop-again-2 : tie.Need-loop-again-2 Inv-loop μ-loop
 loop-again-2 c =
-    let s = c .before .before .before .before .before .before .before in
-    let l = c .before .before .before .before .before .loop in
-    let h : l .i < s .args .elements .count = c .before .before .before .before .loop-test .taken in (
+    let s = c .before .before .before .before .before .before .before .before in
+    let l = c .before .before .before .before .before .before .loop in
+    let h : l .i < s .args .elements .count = c .before .before .before .before .before .loop-test .taken in
+    let n : l .i < l .out .count = omega arith in (
+      (omega arith, l .inv .0 .1),
+      fold-more (settleOf (s .args .w) (s .args .h) (cutoutList (s .args .holes))) (elementList (c .before .before .before .before .before .before .before .settle .result)) (elementList (l .out)) (elementList (l .out)) (filterMap (λ i. not (inGroupOf (groupList (s .args .faces)) i)) (λ (i : ℕ). i ∷ []) (take (l .i) (range 0 (s .args .elements .count)))) (filterMap (λ i. not (inGroupOf (groupList (s .args .faces)) i)) (λ (i : ℕ). i ∷ []) (take (l .i + 1) (range 0 (s .args .elements .count)))) (l .i ∷ []) (l .inv .1)
+          (one-more (λ i. not (inGroupOf (groupList (s .args .faces)) i)) (λ (i : ℕ). i ∷ []) (range 0 (s .args .elements .count)) (l .i) 0 (below-range (s .args .elements .count) (l .i) h) {flag = not (c .before .before .before .before .in-group .result)} (rw (range-at (s .args .elements .count) (l .i) h, c .before .before .before .before .in-group .ensures)) (rw (c .before .before .before .if1 .left)) ∙ rw (range-at (s .args .elements .count) (l .i) h))
+          (sym (missed (s .args .w) (s .args .h) (cutoutList (s .args .holes)) (l .out .at) (l .out .count) (l .i) n (sym (c .before .hit .ensures) ∙ not-true _ (c .if2 .taken)))),
+    )
+
+single-requires : tie.Need-single-requires Inv-loop μ-loop
+single-requires c κs = search needs
+
+settle-requires-2 : tie.Need-settle-requires-2 Inv-loop μ-loop
+settle-requires-2 c κs =
+    let s = c .before .before .before .before .before .before .before .before .before in
+    let l = c .before .before .before .before .before .before .before .loop in
+    let h : l .i < s .args .elements .count = c .before .before .before .before .before .before .loop-test .taken in
+    ((omega arith, (omega arith, omega arith)), below-one (l .out .count) (l .i) _ (omega arith) (c .single .ensures .0))
+
+add-i-3 : tie.Need-add-i-3 Inv-loop μ-loop
+add-i-3 c = omega arith
+
+loop-less-3 : tie.Need-loop-less-3 Inv-loop μ-loop
+loop-less-3 c = omega arith
+
+loop-again-3 : tie.Need-loop-again-3 Inv-loop μ-loop
+loop-again-3 c =
+    let s = c .before .before .before .before .before .before .before .before .before .before in
+    let l = c .before .before .before .before .before .before .before .before .loop in
+    let h : l .i < s .args .elements .count = c .before .before .before .before .before .before .before .loop-test .taken in (
       (omega arith, c .settle2 .ensures .1 ∙ l .inv .0 .1),
-      fold-more (settleOf (s .args .w) (s .args .h) (cutoutList (s .args .holes))) (elementList (c .before .before .before .before .before .before .settle .result)) (elementList (l .out)) (elementList (c .settle2 .result)) (filterMap (λ i. not (inGroupOf (groupList (s .args .faces)) i)) (λ (i : ℕ). i ∷ []) (take (l .i) (range 0 (s .args .elements .count)))) (filterMap (λ i. not (inGroupOf (groupList (s .args .faces)) i)) (λ (i : ℕ). i ∷ []) (take (l .i + 1) (range 0 (s .args .elements .count)))) (l .i ∷ []) (l .inv .1)
-          (one-more (λ i. not (inGroupOf (groupList (s .args .faces)) i)) (λ (i : ℕ). i ∷ []) (range 0 (s .args .elements .count)) (l .i) 0 (below-range (s .args .elements .count) (l .i) h) {flag = not (c .before .before .before .in-group .result)} (rw (range-at (s .args .elements .count) (l .i) h, c .before .before .before .in-group .ensures)) (rw (c .before .before .if1 .left)) ∙ rw (range-at (s .args .elements .count) (l .i) h))
+      fold-more (settleOf (s .args .w) (s .args .h) (cutoutList (s .args .holes))) (elementList (c .before .before .before .before .before .before .before .before .before .settle .result)) (elementList (l .out)) (elementList (c .settle2 .result)) (filterMap (λ i. not (inGroupOf (groupList (s .args .faces)) i)) (λ (i : ℕ). i ∷ []) (take (l .i) (range 0 (s .args .elements .count)))) (filterMap (λ i. not (inGroupOf (groupList (s .args .faces)) i)) (λ (i : ℕ). i ∷ []) (take (l .i + 1) (range 0 (s .args .elements .count)))) (l .i ∷ []) (l .inv .1)
+          (one-more (λ i. not (inGroupOf (groupList (s .args .faces)) i)) (λ (i : ℕ). i ∷ []) (range 0 (s .args .elements .count)) (l .i) 0 (below-range (s .args .elements .count) (l .i) h) {flag = not (c .before .before .before .before .before .before .in-group .result)} (rw (range-at (s .args .elements .count) (l .i) h, c .before .before .before .before .before .before .in-group .ensures)) (rw (c .before .before .before .before .before .if1 .left)) ∙ rw (range-at (s .args .elements .count) (l .i) h))
           (rw (c .before .single .ensures .0) at (c .settle2 .ensures .0)),
     )
 
@@ -93,9 +121,15 @@ avoid-spec =
     add-i
     loop-less
     loop-again
-    single-requires
-    settle-requires-2
+    mul-hit
+    element-copy-out-hit
+    hit-requires
     add-i-2
     loop-less-2
     loop-again-2
+    single-requires
+    settle-requires-2
+    add-i-3
+    loop-less-3
+    loop-again-3
     returns)
