@@ -52,7 +52,7 @@ fn classes(r: &mut Random) -> BTreeMap<String, Vec<Case>> {
         if cases.len() < ORDERS {
             cases.push(Case {
                 order: order.bytes,
-                touch: generate::touch(r, &settings.layout()),
+                touch: generate::touch(r, &settings.layout().into()),
                 previous: if r.yes() { 0 } else { r.bits() as u16 },
             });
             full += usize::from(cases.len() == ORDERS);
