@@ -244,7 +244,7 @@ impl<'a> Case<'a> {
         }
     }
 
-    /// One touch by the order, and three on its layout.
+    /// Four touches on its layout, of which now and then one is by the order.
     fn touches(
         &self,
         layout: &Layout,
@@ -254,7 +254,9 @@ impl<'a> Case<'a> {
     ) {
         let data = LayoutData::from(layout);
         let lent = lent::layout(&data);
-        for what in [What::Touch, What::Mask, What::Mask, What::Mask] {
+        let by_order = aimed.is_some() || r.below(4) == 0;
+        let first = if by_order { What::Touch } else { What::Mask };
+        for what in [first, What::Mask, What::Mask, What::Mask] {
             let at = aimed.take().unwrap_or_else(|| edge_touch(r, layout));
             let previous = if r.yes() { 0 } else { r.bits() as u16 };
             let [x, y] = at;
