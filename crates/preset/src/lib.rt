@@ -3,13 +3,16 @@ ghost use mathlib.Core.Path.{_≡_};
 ghost use mathlib.Core.Bool.{true, _||_};
 ghost use mathlib.Core.List.{map};
 ghost use Prim.Native.Nat.{_≤_};
-ghost use lib.Dec.{T};
 ghost use lib.ListN.{take};
+ghost use Rattle.float.specs.Float.{k0};
 ghost use Rattle.layout.specs.Elements.{replaceFirst};
 ghost use Rattle.layout.specs.Layout.{cutoutList, elementList};
+ghost use Rattle.toolbar.specs.Toolbar.{anchorToolbarOf};
+ghost use Rattle.arranged.specs.Blank.{blankOf};
 ghost use Rattle.settings.specs.Settings.{savedList};
-ghost use Rattle.preset.specs.Preset.{startOf, belowToolbarOf, largestOf, aroundOf, railsWinOf, tryRailsOf, besideOf, isFiniteOf, usableOf, onScreenOf, restoreOf, restoredOf, withSavedOf, firstOf, areaOf, arrangementOf, settledOf, isMaximum, maximumOf, freeOf, hasSticks, rowAllowedOf, laidOutOf, layoutInOf, layoutWithCutoutsOf, viewportLayoutOf, partOf, captureOf};
+ghost use Rattle.preset.specs.Preset.{startOf, reusableTop, belowToolbarOf, largestOf, aroundOf, railsWinOf, tryRailsOf, besideOf, isFiniteOf, usableOf, onScreenOf, restoreOf, restoredOf, withSavedOf, firstOf, areaOf, arrangementOf, settledOf, isMaximum, maximumOf, freeOf, hasSticks, rowAllowedOf, laidOutOf, layoutInOf, layoutWithCutoutsOf, viewportLayoutOf, partOf, captureOf};
 ghost use Rattle.preset.specs.PresetLabels.{OfMode};
+use arranged::blank;
 use band::aspect;
 use band::controller_band;
 use camera_rails::analog_camera_rails;
@@ -85,26 +88,6 @@ fn largest(area: Rect, aspect: f32) -> Rect
         w: fitted.w,
         h: fitted.h,
     }
-}
-
-fn around(
-    layout: Layout,
-    w: f32,
-    h: f32,
-    picture: Rect,
-    cutouts: Cutouts,
-    analog: bool,
-    psp: bool,
-) -> Layout
-    requires { ⌜ cutouts .count ≤ 16 ⌝ }
-    ensures { λ r. ⌜ r ≡ aroundOf layout w h picture (cutoutList cutouts) analog psp ⌝ }
-{
-    let game = largest(picture, aspect(psp));
-    let candidate = picture::controls(w, h, game, analog, psp, cutouts);
-    if candidate.some {
-        return candidate.layout;
-    }
-    layout
 }
 
 // Wider by more than 0.01, or as wide to 0.01 beside a wider stick.
@@ -246,36 +229,61 @@ fn first(
     layout
 }
 
-fn area(maximum: bool, first: Layout, picture: Rect) -> Rect
-    ensures { λ r. ⌜ r ≡ areaOf maximum first picture ⌝ }
+// The toolbar's keys lie the same over every layout.
+fn area(maximum: bool, w: f32, h: f32, cutouts: Cutouts, picture: Rect) -> Rect
+    requires { ⌜ cutouts .count ≤ 16 ⌝ }
+    ensures { λ r. ⌜ r ≡ areaOf maximum (anchorToolbarOf blankOf w h (reusableTop picture) k0 (cutoutList cutouts)) picture ⌝ }
 {
     if maximum {
-        return below_toolbar(first, picture);
+        let bar = anchor_toolbar(blank(), w, h, max(-picture.y, 0.0), 0.0, cutouts);
+        return below_toolbar(bar, picture);
     }
     picture
+}
+
+// The controls about the picture, else the layout at first, which is not made where there are such controls.
+fn around(
+    psp: bool,
+    analog: bool,
+    w: f32,
+    h: f32,
+    cutouts: Cutouts,
+    picture: Rect,
+    area: Rect,
+) -> Layout
+    requires { ⌜ cutouts .count ≤ 16 ⌝ }
+    ensures { λ r. ⌜ r ≡ aroundOf (firstOf psp analog true w h (cutoutList cutouts) picture) w h area (cutoutList cutouts) (analog || psp) psp ⌝ }
+{
+    let game = largest(area, aspect(psp));
+    let candidate = picture::controls(w, h, game, analog | psp, psp, cutouts);
+    if candidate.some {
+        return candidate.layout;
+    }
+    first(psp, analog, true, w, h, cutouts, picture)
 }
 
 fn arrangement(
     maximum: bool,
     free: bool,
-    first: Layout,
+    psp: bool,
+    analog: bool,
     w: f32,
     h: f32,
-    area: Rect,
     cutouts: Cutouts,
-    analog: bool,
-    psp: bool,
+    picture: Rect,
+    area: Rect,
 ) -> Layout
-    requires { ⌜ (cutouts .count ≤ 16) × ((T psp → T analog) × OfMode analog psp first) ⌝ }
-    ensures { λ r. ⌜ (r ≡ arrangementOf maximum free first w h area (cutoutList cutouts) analog psp) × OfMode analog psp r ⌝ }
+    requires { ⌜ cutouts .count ≤ 16 ⌝ }
+    ensures { λ r. ⌜ (r ≡ arrangementOf maximum free (firstOf psp analog maximum w h (cutoutList cutouts) picture) w h area (cutoutList cutouts) (analog || psp) psp) × OfMode (analog || psp) psp r ⌝ }
 {
     if !free {
-        return first;
+        return first(psp, analog, maximum, w, h, cutouts, picture);
     }
     if maximum {
-        return around(first, w, h, area, cutouts, analog, psp);
+        return around(psp, analog, w, h, cutouts, picture, area);
     }
-    beside(first, w, h, area, cutouts, analog, psp)
+    let layout = first(psp, analog, false, w, h, cutouts, picture);
+    beside(layout, w, h, area, cutouts, analog | psp, psp)
 }
 
 // The elements where they stay: the saved ones at their places, all clear of cutouts, the toolbar anchored.
@@ -335,9 +343,8 @@ fn laid_out(p: Preset, w: f32, h: f32, cutouts: Cutouts, picture: Rect) -> Layou
     let sticks = p.analog | psp;
     let maximum = is_maximum(p.picture_fit());
     let free = free(p);
-    let start = first(psp, p.analog, maximum, w, h, cutouts, picture);
-    let bounds = area(maximum, start, picture);
-    let layout = arrangement(maximum, free, start, w, h, bounds, cutouts, sticks, psp);
+    let bounds = area(maximum, w, h, cutouts, picture);
+    let layout = arrangement(maximum, free, psp, p.analog, w, h, cutouts, picture, bounds);
     let saved = p.elements;
     let elements = settled(layout, w, h, picture, cutouts, saved, p.count, sticks, psp);
     let shape = aspect(psp);

@@ -1,15 +1,27 @@
+use native.Mathlib.Omega.{arith}
 use borrow.Author.Needs.{needs}
 use Rattle.preset.specs.Preset.{areaOf}
 use Rattle.preset.proofs.area.Statement.{statement}
 use Rattle.preset.proofs.area.Tie as tie
 
+anchor-toolbar-requires : tie.Need-anchor-toolbar-requires
+anchor-toolbar-requires c κs = let b = c .before .before .blank .ensures in (search needs, rw b (omega arith), rw b (omega arith))
+
 returns : tie.Need-returns
 unfolding areaOf
-returns c = rw (← c .below-toolbar .ensures, c .before .if1 .taken)
+returns c = rw (← c .before .before .before .before .blank .ensures, ← c .before .before .max .ensures, ← c .before .anchor-toolbar .ensures, c .before .before .before .before .before .if1 .taken) (c .below-toolbar .ensures)
 
 returns-2 : tie.Need-returns-2
 unfolding areaOf
 returns-2 c = rw (c .if1 .left)
 
 pub area-spec : {M : Type 1} → statement M
-area-spec = tie.close (tie.spec (λ c κs. search needs) returns returns-2)
+area-spec =
+    tie.close
+    (tie.spec
+    (λ c κs. search needs)
+    (λ c κs. search needs)
+    anchor-toolbar-requires
+    (λ c κs. search needs)
+    returns
+    returns-2)

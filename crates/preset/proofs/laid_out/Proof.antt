@@ -1,5 +1,6 @@
 use Rattle.layout.specs.Layout.{cutoutList}
-use Rattle.preset.specs.PresetLabels.{Few, few, place-mode, stick-mode}
+use Rattle.preset.proofs.Keys.{same-area}
+use Rattle.preset.specs.PresetLabels.{Few, few, place-mode}
 use Rattle.preset.specs.Preset.{hasSticks, laidOutOf}
 use borrow.Author.Needs.{needs}
 use Rattle.preset.proofs.laid_out.Statement.{statement}
@@ -14,37 +15,38 @@ is-maximum-requires c κs = search needs
 free-requires : tie.Need-free-requires
 free-requires c κs = search needs
 
-first-requires : tie.Need-first-requires
-first-requires c κs = search needs
-
 area-requires : tie.Need-area-requires
 area-requires c κs = search needs
 
 arrangement-requires : tie.Need-arrangement-requires
-arrangement-requires c κs = let p = c .before .before .before .before .before .before .args .p in (c .before .before .before .before .before .before .pre .1, (stick-mode (p .analog) (p .psp), c .before .first .ensures .1))
+arrangement-requires c κs = search needs
 
 settled-requires : tie.Need-settled-requires
-settled-requires c κs = (c .before .before .before .before .before .before .before .before .pre .1, (c .before .before .before .before .before .before .before .before .pre .0, c .before .arrangement .ensures .1))
+settled-requires c κs = (c .before .before .before .before .before .before .before .pre .1, (c .before .before .before .before .before .before .before .pre .0, c .before .arrangement .ensures .1))
 
 aspect-requires : tie.Need-aspect-requires
 aspect-requires c κs = search needs
 
 place-game-in-aspect-requires : tie.Need-place-game-in-aspect-requires
-place-game-in-aspect-requires c κs = let p = c .before .before .before .before .before .before .before .before .before .before .before .args .p in let n = few (hasSticks p) (p .psp) (c .before .before .settled .result) (c .before .before .settled .ensures .1) in (n .count, n .stickcount)
+place-game-in-aspect-requires c κs = let p = c .before .before .before .before .before .before .before .before .before .before .args .p in let n = few (hasSticks p) (p .psp) (c .before .before .settled .result) (c .before .before .settled .ensures .1) in (n .count, n .stickcount)
 
 row-allowed-requires : tie.Need-row-allowed-requires
-row-allowed-requires c κs = (c .before .before .before .before .before .before .before .before .before .before .before .before .pre .0, c .before .before .before .before .before .before .before .before .before .before .before .before .pre .1)
+row-allowed-requires c κs = (c .before .before .before .before .before .before .before .before .before .before .before .pre .0, c .before .before .before .before .before .before .before .before .before .before .before .pre .1)
 
 fit-landscape-controls-requires : tie.Need-fit-landscape-controls-requires
-fit-landscape-controls-requires c κs = let p = c .before .before .before .before .before .before .before .before .before .before .before .before .before .before .args .p in let n : Few (c .before .before .place-game-in-aspect .result) = rw (c .before .before .place-game-in-aspect .ensures) (few (hasSticks p) (p .psp) _ (place-mode (hasSticks p) (p .psp) (c .before .before .before .before .before .settled .result) (c .before .before .before .before .before .settled .ensures .1) (c .before .before .before .before .before .before .before .before .before .before .before .before .before .before .args .w) (c .before .before .before .before .before .before .before .before .before .before .before .before .before .before .args .h) (cutoutList (c .before .before .before .before .before .before .before .before .before .before .before .before .before .before .args .cutouts)) _ _ _ _ _)) in (n .count, n .stickcount)
+fit-landscape-controls-requires c κs = let p = c .before .before .before .before .before .before .before .before .before .before .before .before .before .args .p in let n : Few (c .before .before .place-game-in-aspect .result) = rw (c .before .before .place-game-in-aspect .ensures) (few (hasSticks p) (p .psp) _ (place-mode (hasSticks p) (p .psp) (c .before .before .before .before .before .settled .result) (c .before .before .before .before .before .settled .ensures .1) (c .before .before .before .before .before .before .before .before .before .before .before .before .before .args .w) (c .before .before .before .before .before .before .before .before .before .before .before .before .before .args .h) (cutoutList (c .before .before .before .before .before .before .before .before .before .before .before .before .before .args .cutouts)) _ _ _ _ _)) in (n .count, n .stickcount)
 
 returns : tie.Need-returns
 unfolding laidOutOf
-returns c = rw (← c .before .before .before .before .before .before .before .before .before .before .before .free .ensures, ← c .before .before .before .before .before .before .before .before .before .before .before .before .before .picture-fit .ensures, ← c .before .before .before .before .before .before .before .before .before .before .before .before .is-maximum .ensures, ← c .before .before .before .before .before .before .before .before .before .before .first .ensures .0, ← c .before .before .before .before .before .before .before .before .before .area .ensures, ← c .before .before .before .before .before .before .before .before .arrangement .ensures .0, ← c .before .before .before .before .before .before .settled .ensures .0, ← c .before .before .before .before .before .aspect .ensures, ← c .before .before .before .place-game-in-aspect .ensures, ← c .before .before .row-allowed .ensures, c .before .if1 .taken) (c .fit-landscape-controls .ensures)
+returns c =
+    let a = c .before .before .before .before .before .before .before .before .before .before .before .before .before .before .args in
+    rw (← c .before .before .before .before .before .before .before .before .before .before .free .ensures, ← c .before .before .before .before .before .before .before .before .before .before .before .before .picture-fit .ensures, ← c .before .before .before .before .before .before .before .before .before .before .before .is-maximum .ensures, same-area (a .w) (a .h) (cutoutList (a .cutouts)) (a .picture) (a .p .psp) (a .p .analog) (c .before .before .before .before .before .before .before .before .before .before .before .is-maximum .result), ← c .before .before .before .before .before .before .before .before .before .area .ensures, ← c .before .before .before .before .before .before .before .before .arrangement .ensures .0, ← c .before .before .before .before .before .before .settled .ensures .0, ← c .before .before .before .before .before .aspect .ensures, ← c .before .before .before .place-game-in-aspect .ensures, ← c .before .before .row-allowed .ensures, c .before .if1 .taken) (c .fit-landscape-controls .ensures)
 
 returns-2 : tie.Need-returns-2
 unfolding laidOutOf
-returns-2 c = rw (← c .before .before .before .before .before .before .before .before .before .before .free .ensures, ← c .before .before .before .before .before .before .before .before .before .before .before .before .picture-fit .ensures, ← c .before .before .before .before .before .before .before .before .before .before .before .is-maximum .ensures, ← c .before .before .before .before .before .before .before .before .before .first .ensures .0, ← c .before .before .before .before .before .before .before .before .area .ensures, ← c .before .before .before .before .before .before .before .arrangement .ensures .0, ← c .before .before .before .before .before .settled .ensures .0, ← c .before .before .before .before .aspect .ensures, ← c .before .before .place-game-in-aspect .ensures, ← c .before .row-allowed .ensures, c .if1 .left)
+returns-2 c =
+    let a = c .before .before .before .before .before .before .before .before .before .before .before .before .before .args in
+    rw (← c .before .before .before .before .before .before .before .before .before .free .ensures, ← c .before .before .before .before .before .before .before .before .before .before .before .picture-fit .ensures, ← c .before .before .before .before .before .before .before .before .before .before .is-maximum .ensures, same-area (a .w) (a .h) (cutoutList (a .cutouts)) (a .picture) (a .p .psp) (a .p .analog) (c .before .before .before .before .before .before .before .before .before .before .is-maximum .result), ← c .before .before .before .before .before .before .before .before .area .ensures, ← c .before .before .before .before .before .before .before .arrangement .ensures .0, ← c .before .before .before .before .before .settled .ensures .0, ← c .before .before .before .before .aspect .ensures, ← c .before .before .place-game-in-aspect .ensures, ← c .before .row-allowed .ensures, c .if1 .left)
 
 pub laid-out-spec : {M : Type 1} → statement M
 laid-out-spec =
@@ -53,7 +55,6 @@ laid-out-spec =
     picture-fit-requires
     is-maximum-requires
     free-requires
-    first-requires
     area-requires
     arrangement-requires
     settled-requires

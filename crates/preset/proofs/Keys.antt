@@ -1,0 +1,21 @@
+-- The toolbar's keys, and so the area below them, do not depend on the layout.
+use mathlib.Core.Path.{_≡_, refl}
+use mathlib.Core.Bool.{Bool, true, false}
+use mathlib.Core.List.{List}
+use lib.Ieee.{Float, lt, ofBits}
+use Rattle.float.specs.Float.{k0}
+use Rattle.geometry.specs.declared.Rect.{Rect}
+use Rattle.layout.specs.declared.Layout.{Layout}
+use Rattle.toolbar.specs.Toolbar.{avoidedOf, anchorToolbarOf}
+use Rattle.arranged.specs.Blank.{blankOf}
+use Rattle.preset.specs.Preset.{reusableTop, startOf, belowToolbarOf, firstOf, areaOf}
+
+module _ (w h : Float) (cutouts : List Rect) (picture : Rect) where
+  same-below : (l m : Layout) (top : Float) → belowToolbarOf (anchorToolbarOf l w h top k0 cutouts) picture ≡ belowToolbarOf (anchorToolbarOf m w h top k0 cutouts) picture
+  unfolding belowToolbarOf anchorToolbarOf avoidedOf lt ofBits
+  same-below l m top = refl
+
+  pub same-area : (psp analog maximum : Bool) → areaOf maximum (firstOf psp analog maximum w h cutouts picture) picture ≡ areaOf maximum (anchorToolbarOf blankOf w h (reusableTop picture) k0 cutouts) picture
+  unfolding areaOf firstOf
+  same-area psp analog true = same-below (startOf psp analog w h cutouts picture) blankOf (reusableTop picture)
+  same-area psp analog false = refl
