@@ -6,8 +6,8 @@
 #include <stdlib.h>
 #include <string.h>
 
-/* No byte past these decides an order: fields without fault take less than 1,000, and the value of a faulty one at most 65,535. */
-enum { MOST = 1 << 17 };
+/* No byte past these changes what an order says: `first-bytes` in crates/film_sheet/specs/FirstBytes.antt. */
+enum { MOST = 70000 };
 
 static const char *const words[] = {
     "", "cut off", "out of turn", "bad length", "no screen", "odd mark", "off the scale", "overfull", "sheet too small"};

@@ -73,7 +73,7 @@ int32_t tl_film(const uint8_t *order, size_t order_len, uint8_t *sheet, size_t s
    Answers: 0. Or -3 if n is not 8, then -6 if a number is outside -8,192 to 8,192, then -8 if area_len is below 4. */
 int32_t tl_safe_content(const int32_t *numbers, size_t n, float *area, size_t area_len);
 
-/* The edges that decoration, navigation and a camera leave free.
+/* The edges of decoration, navigation and a camera merged: at each side the widest.
    numbers: twelve: left, top, right, bottom of decoration, of navigation, of the camera.
    local_side_camera: 0, or anything else for a camera at a side that is an obstacle of its own; then it has no edge left and right.
    edges: left, top, right, bottom are written to the first four; later ones stay.

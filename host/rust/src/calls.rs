@@ -113,9 +113,9 @@ pub fn safe_content(
     Ok(Rect { x, y, w, h })
 }
 
-/// The edges (left, top, right, bottom) that decoration, navigation and a
-/// camera leave free. A local side camera is an obstacle of its own and has no
-/// edge left and right. Each number is in -8,192 to 8,192.
+/// The edges (left, top, right, bottom) of decoration, navigation and a camera
+/// merged: at each side the widest. A local side camera is an obstacle of its
+/// own and has no edge left and right. Each number is in -8,192 to 8,192.
 pub fn safe_edges(
     decoration: [i32; 4],
     navigation: [i32; 4],
