@@ -1,4 +1,4 @@
 //! Safe wrappers over the functions that the library of probe/build exports.
-//! The only unsafe code of the workspace is here.
+//! The unsafe code of the workspace is here, and in `stack.rs` of bench.
 pub mod host;
 pub mod probe;
