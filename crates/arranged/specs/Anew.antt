@@ -1,5 +1,5 @@
 -- Layouts that have the same controls, d-pad and sticks are the same once the toolbar and the game are put in place.
-use mathlib.Core.Path.{_≡_, refl, ap, _∙_}
+use mathlib.Core.Path.{_≡_, refl}
 use mathlib.Core.Bool.{Bool}
 use mathlib.Core.List.{List, []}
 use lib.Ieee.{Float, lt, ofBits}

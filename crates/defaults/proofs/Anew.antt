@@ -1,6 +1,6 @@
 -- The game that `finished` looks for on the whole screen is not looked at where another takes its place, nor is what `Layout::new` gives
 -- but for its labels.
-use mathlib.Core.Path.{_≡_, refl, sym, _∙_}
+use mathlib.Core.Path.{_≡_, refl}
 use mathlib.Core.List.{[]}
 use lib.Ieee.{Float}
 use Rattle.float.specs.Float.{_⊖_, k0, k16}
