@@ -2,7 +2,7 @@
 ghost use mathlib.Core.Path.{_≡_};
 ghost use mathlib.Core.Bool.{true};
 ghost use mathlib.Core.List.{[], _∷_};
-ghost use Prim.Native.Nat.{_+_, _<_, _≤_};
+ghost use Prim.Native.Nat.{_+_, _≤_};
 ghost use lib.ListN.{length, take};
 ghost use Rattle.layout.specs.Actions.{actionElementsOf};
 ghost use Rattle.geometry.specs.Rect.{overlapsOf};
@@ -10,7 +10,6 @@ ghost use Rattle.layout.specs.Layout.{cutoutList, elementCountOf, elementList};
 ghost use Rattle.layout.specs.Lists.{anyOf};
 ghost use Rattle.cutouts.specs.Cutouts.{hasAreaOf, withAreaOf, inGroupOf, membersOf, othersOf, hitsOf, shiftByOf, shiftOf, settleOf, avoidOf, avoidCutoutsOf, groupList, belowAll};
 use geometry::Rect;
-use layout::Control;
 use layout::Cutouts;
 use layout::Elements;
 use layout::Layout;

@@ -1,11 +1,10 @@
 // `Layout::new`, `default_in`, `analog_default` and `psp` of input.rs: the layouts before a user changes them.
 ghost use mathlib.Core.Path.{_≡_};
-ghost use mathlib.Core.List.{map, []};
+ghost use mathlib.Core.List.{map};
 ghost use Prim.Native.Nat.{_≤_};
 ghost use Rattle.layout.specs.Layout.{cutoutList, elementList};
 ghost use Rattle.arranged.specs.Anew.{bareOf};
 ghost use Rattle.arranged.specs.Arranged.{finishedOf};
-ghost use Rattle.arranged.specs.Places.{maybe};
 ghost use Rattle.defaults.specs.AnalogControls.{analogControlsOf};
 ghost use Rattle.defaults.specs.Defaults.{widerOf, clearOf, tryDockOf, trySideOf, tryBandOf, defaultInOf, defaultWithCutoutsOf, newLayoutOf, sizeHalvesOf, measureHalvesOf, halfPlacesOf, analogFullOf, scaledRectOf, shrunkOf, analogDefaultOf, pspOf};
 use arranged::Faces;

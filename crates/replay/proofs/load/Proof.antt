@@ -1,4 +1,3 @@
-use native.Mathlib.Omega.{arith}
 use borrow.Author.Needs.{needs}
 use Rattle.replay.proofs.Counting.{counts}
 use Rattle.replay.proofs.load.Statement.{statement}
