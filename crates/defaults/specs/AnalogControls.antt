@@ -13,7 +13,7 @@ use Rattle.layout.specs.declared.Control.{Control}
 use Rattle.layout.specs.declared.Label.{Label}
 use Rattle.layout.specs.declared.Label.the-variants.{L3, R3}
 use Rattle.layout.specs.declared.Layout.{Layout}
-use Rattle.layout.specs.Layout.{withGame, withDpad, withSticks, elementsOf}
+use Rattle.layout.specs.Layout.{withGame, withDpad, elementsOf}
 use Rattle.layout.specs.Elements.{setElementsOf}
 use Rattle.layout.specs.Labels.{standardLabels, analogLabels}
 use Rattle.layout.specs.Lists.{mapFirst}
@@ -69,17 +69,6 @@ module _ (p : Places) (dpad left right : Rect) (l : Layout) where
       let e : all ≡ map (controlAt p) standardLabels ++ (a ∷ b ∷ []) = rw (← take-all (l .count + 2) all whole, take-two (l .count) cs a b (omega arith), first-placed standardLabels 0 f) in
       let two : l .count + 2 ≡ 12 = omega arith in
       rw (e, two)
-
-  -- an analog layout
-  pub placed-bare : Formed analogLabels 2 l → bareOf (withSticks (withDpad (placedOf l p) dpad) (left ∷ right ∷ [])) ≡ analogControlsOf p dpad left right
-  unfolding placedOf
-  placed-bare f =
-      let n = f .0 .1 in
-      let m = f .1 .0 in
-      let cs = mapFirst (moved p) (l .count) (l .controls) in
-      let k = length-mapFirst (moved p) (l .count) (l .controls) in
-      let e : cs ≡ map (controlAt p) analogLabels = rw (← take-all (l .count) cs (omega arith), first-placed analogLabels 2 f) in
-      rw (e, n, f .0 .2)
 
 module _ (requested full : Size) where
   -- scaling keeps such controls apart from toolbar and game

@@ -1,14 +1,14 @@
 -- Loops over the first n elements of an array, as the definitions of Lists and folds.
 use mathlib.Core.Path.{_≡_, refl, ap, sym, _∙_}
 use mathlib.Core.Bool.{Bool, true, false, cond}
-use mathlib.Core.List.{List, [], _∷_, _++_, map, foldl, foldl-append, append-assoc, append-nil}
+use mathlib.Core.List.{List, [], _∷_, _++_, map, foldl, foldl-append, append-nil}
 use Prim.Native.Nat.{ℕ, zero, suc, _+_, _-_, _<_, _≤_}
 use native.Mathlib.Numerals.{add-one}
 use native.Mathlib.Omega.{arith}
 use lib.ListN.{length, take, drop, getD, set, length-map, drop-of-length-le}
 use lib.Seq.{take-suc, take-suc-set, drop-cons, getD-take, length-take-le}
 use borrow.Author.Needs.{length-unmapped}
-use Rattle.layout.specs.Lists.{anyOf, allOf, mapFirst, flatMap, filterMap}
+use Rattle.layout.specs.Lists.{anyOf, allOf, mapFirst, filterMap}
 
 -- the length of an array of structs, as owning it tells
 pub length-mapped : (X Y : Type 0) (f : X → Y) (l : List X) (n : ℕ) → length (map f l) ≡ n → length l ≡ n
@@ -87,12 +87,6 @@ module _ {A : Type 0} where
   all-end p l k g e = rw e at g
 
 -- ---- loops that fill an array
-module _ {A B : Type 0} where
-  -- s is what was gathered before x
-  pub flat-step : (s s' k : List B) (f : A → List B) (l t : List A) (x : A) → s ++ flatMap f l ≡ k → l ≡ x ∷ t → s' ≡ s ++ f x → s' ++ flatMap f t ≡ k
-  unfolding flatMap
-  flat-step s s' k f l t x g e p = rw (p, append-assoc) (rw e at g)
-
 module _ {A B : Type 0} (p : A → Bool) (f : A → B) where
   pub filterMap-append : (l m : List A) → filterMap p f (l ++ m) ≡ filterMap p f l ++ filterMap p f m
   filterMap-append [] m = refl

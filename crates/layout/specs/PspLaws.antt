@@ -7,11 +7,11 @@ use lib.ListN.{length, drop}
 use lib.Seq.{take-at, length-take-le}
 use Rattle.layout.specs.declared.Control.{Control}
 use Rattle.layout.specs.declared.Layout.{Layout}
-use Rattle.layout.specs.Label.{idOf, maskOf, onPspOf}
+use Rattle.layout.specs.Label.{onPspOf}
 use Rattle.layout.specs.Layout.{controlList}
 use Rattle.layout.specs.Lists.{retain}
 use Rattle.layout.specs.ListLaws.{map-retain, retain-fewer}
-use Rattle.layout.specs.Labels.{labelsOf, analogLabels, pspLabels}
+use Rattle.layout.specs.Labels.{labelsOf}
 use Rattle.layout.specs.Psp.{onPsp, pspInputsOf}
 
 module _ (l : Layout) where
@@ -21,11 +21,6 @@ module _ (l : Layout) where
 
   pub psp-labels : labelsOf (pspInputsOf l) ≡ retain onPspOf (labelsOf l)
   psp-labels = ap (map (λ (c : Control). c .label)) psp-controls ∙ map-retain (λ (c : Control). c .label) onPspOf (controlList l)
-
-  -- L2, R2, L3 and R3 go
-  pub psp-of-analog : labelsOf l ≡ analogLabels → labelsOf (pspInputsOf l) ≡ pspLabels
-  unfolding onPspOf maskOf idOf
-  psp-of-analog e = psp-labels ∙ ap (retain onPspOf) e
 
   pub psp-fewer : l .count ≤ length (l .controls) → pspInputsOf l .count ≤ l .count
   unfolding pspInputsOf
