@@ -5,9 +5,8 @@ use mathlib.Core.List.{List, _++_}
 use Prim.Native.Nat.{ℕ, _<_, _≤_}
 use native.Mathlib.Omega.{arith}
 use lib.Dec.{leb}
-use lib.Ieee.{Float, lt}
+use lib.Ieee.{Float}
 use lib.ListN.{length, drop}
-use Rattle.float.specs.Float.{k0}
 use Rattle.geometry.specs.Answer.{Answer, accepted, refused}
 use Rattle.layout.specs.declared.Layout.{Layout}
 use Rattle.layout.specs.Layout.{cutoutList}
@@ -17,17 +16,16 @@ use Rattle.settings.specs.declared.Preset.{Preset}
 use Rattle.settings.specs.declared.Settings.{Settings}
 use Rattle.settings.specs.Settings.{topsInLimitsOf}
 use Rattle.band.specs.BandLabels.{bandLabels, bandSticks}
-use Rattle.defaults.specs.DefaultCases.{either}
 use Rattle.reader.specs.Accepted.{accepted-order, refused-order, order-f32}
 use Rattle.reader.specs.Order.{must, andThen, readOrderOf}
 use Rattle.writer.specs.Bytes.{layoutBytes, writeLayoutOf, outputOf}
 use Rattle.writer.specs.Length.{lengthFor, length-layout}
 use Rattle.written.specs.Written.{LayoutIsF32}
 use Rattle.written.specs.WidestWritten.{widest-written}
-use Rattle.preset.specs.Preset as Preset
 use Rattle.preset.specs.Preset.{hasSticks}
 use Rattle.preset.specs.Demand.{WidestFor}
-use Rattle.preset.specs.PresetLabels.{OfMode, Few, few, anchor-mode, layout-mode}
+use Rattle.preset.specs.PresetLabels as PresetLabels
+use Rattle.preset.specs.PresetLabels.{OfMode, Few, few, layout-mode}
 use Rattle.preset.specs.PresetWidest.{layout-widest}
 use Rattle.order.specs.Orders.{settingsLayoutOf, orderLayout, writtenAnswer, writtenOutput, layoutOf, layoutOutputOf, touchOf, settingsViewportOf, orderViewport, viewportLayoutOf, viewportOutputOf}
 use Rattle.order.specs.Demands.{WidestWritten}
@@ -38,12 +36,8 @@ unfolding settingsLayoutOf
 settings-mode s = layout-mode _ _ _ _ _
 
 pub viewport-mode : (s : Settings) (reusable covered : Float) → OfMode (hasSticks (s .preset)) (s .preset .psp) (settingsViewportOf s reusable covered)
-unfolding settingsViewportOf Preset.viewportLayoutOf
-viewport-mode s reusable covered =
-    let cutouts = cutoutList (s .cutouts) in
-    let p = s .preset in
-    let anchored = anchor-mode (hasSticks p) (p .psp) _ (layout-mode p (s .w) (s .h) cutouts (s .picture)) (s .w) (s .h) cutouts reusable k0 in
-    either (OfMode (hasSticks p) (p .psp)) (lt k0 covered) (anchor-mode (hasSticks p) (p .psp) _ anchored (s .w) (s .h) cutouts reusable covered) anchored
+unfolding settingsViewportOf
+viewport-mode s reusable covered = PresetLabels.viewport-mode (s .preset) (s .w) (s .h) (cutoutList (s .cutouts)) (s .picture) reusable covered
 
 pub settings-few : (s : Settings) → Few (settingsLayoutOf s)
 settings-few s = few (hasSticks (s .preset)) (s .preset .psp) _ (settings-mode s)
