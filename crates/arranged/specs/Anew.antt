@@ -13,7 +13,7 @@ use Rattle.search.specs.Search.{placeGameInAspectOf}
 use Rattle.toolbar.specs.Toolbar.{avoidedOf, withToolbar, anchorToolbarOf}
 use Rattle.arranged.specs.Arranged.{finishedOf}
 
--- the layout without toolbar and game
+-- the layout without toolbar and game, also in contracts
 abbrev pub bareOf : Layout → Layout
 bareOf l = withGame (withToolbar l emptyRect emptyRect emptyRect emptyRect) emptyRect
 

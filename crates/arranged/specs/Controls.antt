@@ -1,5 +1,5 @@
--- The controls of `arranged` and `side_rails`, before the toolbar and the game are put in place: a caller that puts them in
--- place anew needs no more.
+-- The controls of `arranged` and `side_rails`, before the toolbar and the game are put in place: a caller that puts these in
+-- place anew needs no more. Definitions that contracts use, and laws: finished, the controls are `arranged` and `side_rails`.
 use mathlib.Core.Path.{_≡_, refl}
 use mathlib.Core.Bool.{Bool, true, false, cond}
 use mathlib.Core.List.{List, [], foldl}

@@ -113,6 +113,7 @@ module _ (w h : Float) where
     pub length-after : length after ≡ length (elementsOf l)
     length-after = each-length (Settled w h) (elementsOf l) _ each-after
 
+    -- of the layout, for the reader: no proof cites this law and the next
     pub avoid-cutouts-kept : Kept l (avoidCutoutsOf l w h cutouts)
     unfolding avoidCutoutsOf
     avoid-cutouts-kept = go (eqb (length (withAreaOf cutouts)) 0)

@@ -1,5 +1,5 @@
--- The game that `finished` looks for on the whole screen is not looked at where another takes its place, nor is what `Layout::new` gives
--- but for its labels.
+-- What is computed and then replaced does not matter: the game that `finished` places on the whole screen, where another takes its place,
+-- and of `Layout::new` all but the labels.
 use mathlib.Core.Path.{_≡_, refl}
 use mathlib.Core.List.{[]}
 use lib.Ieee.{Float}

@@ -1,4 +1,4 @@
--- The controls of an analog layout are known by their labels and places alone.
+-- The controls of an analog layout are known by their labels and places alone: `analogControlsOf`, which contracts use, and laws.
 use mathlib.Core.Path.{_≡_, refl, ap, subst⁻¹, _∙_}
 use mathlib.Core.Bool.{Bool, true, false, cond, _||_}
 use mathlib.Core.List.{List, [], _∷_, _++_, map, zipWith}
@@ -27,9 +27,11 @@ use Rattle.defaults.specs.declared.Size.{Size}
 use Rattle.defaults.specs.Defaults.{scaledRectOf, shrunkOf}
 use Rattle.defaults.specs.DefaultLabels.{Formed, length-mapFirst, take-mapFirst, take-two}
 
+-- the control with a label, at its place
 abbrev pub controlAt : Places → Label → Control
 controlAt p label = control (atOf p label) label
 
+-- the controls at their places, a d-pad and two sticks, without toolbar and game
 abbrev pub analogControlsOf : Places → Rect → Rect → Rect → Layout
 analogControlsOf p dpad left right =
     record {
@@ -71,7 +73,7 @@ module _ (p : Places) (dpad left right : Rect) (l : Layout) where
       rw (e, two)
 
 module _ (requested full : Size) where
-  -- scaling keeps such controls apart from toolbar and game
+  -- toolbar and game do not matter to the scaled controls
   shrunk-dressed : (p : Places) (dpad left right game pause playback speed mute : Rect)
       → let bare = analogControlsOf p dpad left right in
       bareOf (shrunkOf bare requested full) ≡ bareOf (shrunkOf (withGame (withToolbar bare playback speed mute pause) game) requested full)

@@ -74,7 +74,7 @@ rowOf l w h = measureRowOf w h (l .dpad .w) (getD (l .sticks) 0 anyRect .w)
 abbrev pub withRowOf : Layout → Float → Float → Rect → Float → Layout
 withRowOf l w h picture aspect = placeGameInAspectOf (rowedOf l (rowOf l w h)) picture false k1 middle aspect
 
--- The Rust changes the layout, and where its game is no wider then, by more than 0.01, it puts the elements and the game back: that is the
+-- The Rust changes the layout and, unless its game is then wider by more than 0.01, puts the elements and the game back: that is the
 -- layout from before.
 unfoldable pub fitLandscapeControlsOf : Layout → Float → Float → Rect → Float → Layout
 fitLandscapeControlsOf l w h picture aspect =

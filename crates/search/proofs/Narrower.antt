@@ -15,7 +15,7 @@ use Rattle.layout.specs.Layout.{anyRect}
 use Rattle.layout.proofs.Loops.{next-of, none-left}
 use Rattle.search.specs.Search.{bottomOf, rightOf, narrowOf, narrowSideOf, betterOf}
 
--- f makes no width that is below b greater than b
+-- f leaves a width that is below b below b
 abbrev pub Narrows : (Float → Rect → Float) → Float → Type 0
 Narrows f b = (width : Float) (r : Rect) → T (lt width b) → T (lt (f width r) b)
 

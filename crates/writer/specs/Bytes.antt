@@ -34,10 +34,11 @@ rectBytes r = numberBytes (r .x) ++ (numberBytes (r .y) ++ (numberBytes (r .w) +
 unfoldable pub maskBytes : Control → List ℕ
 maskBytes c = shortBytes (maskOf (c .label))
 
--- a field: tag, length, value
+-- the tag and the length of a field
 unfoldable pub headBytes : ℕ → ℕ → List ℕ
 headBytes tag n = tag ∷ shortBytes n
 
+-- a field: tag, length, value
 abbrev pub fieldBytes : ℕ → List ℕ → List ℕ
 fieldBytes tag value = headBytes tag (length value) ++ value
 
