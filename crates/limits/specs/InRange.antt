@@ -1,8 +1,8 @@
 -- Settings whose numbers are in range, as arrangements and the search want them. Definitions only.
 use mathlib.Core.Path.{_≡_}
 use mathlib.Core.Bool.{true}
-use lib.Ieee.{eq, neg}
-use Rattle.float.specs.Float.{k0, k1}
+use lib.Ieee.{eq}
+use Rattle.float.specs.Float.{k1}
 use Rattle.float.specs.MinMax.{maxOf}
 use Rattle.layout.specs.Layout.{cutoutList}
 use Rattle.numerics.specs.Value.{Whole}
@@ -18,9 +18,6 @@ pub record InRange (s : Settings) : Type 0 where
   pub raised-w : In (maxOf (s .w) k1) (at 1) (at 8192)
   pub raised-h : In (maxOf (s .h) k1) (at 1) (at 8192)
   pub area : Area (s .picture)
-  pub area-h : In (s .picture .h) (at 0) (at 8192)
-  -- the height above the picture that the toolbar may use
-  pub reusable-top : In (maxOf (neg (s .picture .y)) k0) (at 0) (at 8192)
   pub cutouts : Each Element (cutoutList (s .cutouts))
   pub scale : Whole (s .preset .scale)
   pub offset-x : Whole (s .preset .offset .x)
