@@ -3,12 +3,13 @@ use mathlib.Core.Path.{_≡_, refl}
 use mathlib.Core.Bool.{true, false, cond}
 use Prim.Native.Nat.{ℕ, zero, suc, _+_, _*_, _^_, _<_}
 use lib.Dec.{T, eqb, eqb→eq}
-use lib.Pow.{pow-pos, pow-lt}
+use lib.Pow.{pow-lt}
 use native.Mathlib.Nat.{mul-pos}
 use native.Mathlib.Omega.{arith}
 use borrow.Author.Tests.{lt-ltb, le-ltb, ne-eqb}
 use lib.IntN.{ℤ, pos, negsuc}
 use lib.Ieee.{Float, nan, inf, fin, binary32, up, down, lt, eq, neg, fits, ofBits}
+use lib.Ieee.Fits.{up-pos}
 use Rattle.float.specs.Float.{k0}
 use Rattle.float.specs.MinMax.{absOf}
 
@@ -18,10 +19,6 @@ up-zero k h = omega (arith, eqb→eq (2 ^ suc k * 1) 1 h, pow-lt {i = 0} {j = su
 
 down-zero : (k : ℕ) → T (eqb (1 * 2 ^ suc k) 1) → ⊥
 down-zero k h = omega (arith, eqb→eq (1 * 2 ^ suc k) 1 h, pow-lt {i = 0} {j = suc k} (omega arith))
-
-up-pos : (e : ℤ) → 0 < up e
-up-pos (pos k) = pow-pos k
-up-pos (negsuc k) = omega arith
 
 above : (m : ℕ) (e : ℤ) → 0 < suc m * up e * 1
 above m e = omega (arith, mul-pos {m = suc m} {n = up e} (omega arith) (up-pos e))

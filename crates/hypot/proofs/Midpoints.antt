@@ -3,6 +3,7 @@ use mathlib.Core.Path.{_≡_, refl, sym, ap, _∙_, subst}
 use mathlib.Core.Logic.{inl, inr}
 use Prim.Native.Nat.{ℕ, suc, _+_, _-_, _*_, _/_, _%_, _^_, _≤_, _<_, zero-le}
 use native.Mathlib.Nat.{le-of-lt, le-of-eq, eq-or-lt-of-le, lt-of-lt-of-le, lt-of-le-of-lt, le-add-right, not-le-of-lt, mul-pos, mul-mul-mul-comm, lt-of-mul-lt-mul-right}
+use native.Mathlib.Numerals.{lt-add-one}
 use native.Mathlib.Omega.{arith}
 use mathlib.Core.Bool.{Bool, true, false, _&&_, _||_, true≢false}
 use lib.Dec.{T, ltb, eqb, leb, ltb→lt, eqb→eq}
@@ -185,11 +186,8 @@ module _ (g : ℕ) (least : 8388608 ≤ g) (most : g < 2139095040) where
   midpoint-square =
       let m = midpointOf (7516192768 + g) in
       let a = (value (g + 1) + value g) * 2 ^ 924 in
-      let p = positive-of-value m a (2 ^ 1074) midpoint-value (mul-pos (lt-of-le-of-lt zero-le (lt-of-lt-of-le (value-lt (step g)) (le-add-right (value (g + 1)) (value g)))) (pow-pos 924)) in
+      let p = positive-of-value m a (2 ^ 1074) midpoint-value (mul-pos (lt-of-le-of-lt zero-le (lt-of-lt-of-le (value-lt (lt-add-one g)) (le-add-right (value (g + 1)) (value g)))) (pow-pos 924)) in
       mul-at binary64 m m a (2 ^ 1074) a (2 ^ 1074) p p (pow-pos 1074) (pow-pos 1074) midpoint-value midpoint-value
-    where
-      step : (g : ℕ) → g < g + 1
-      step g = omega arith
 
   -- the root is above the midpoint, or below it
   over : (n : ℕ) → T (lt (squareOf (midpointOf (7516192768 + g))) (round binary64 false n (L * L))) → mid (g + 1) g < 4 * n

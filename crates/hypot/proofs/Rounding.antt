@@ -3,7 +3,7 @@ use mathlib.Core.Path.{_≡_, refl, sym, ap, _∙_, subst}
 use mathlib.Core.Logic.{_⊎_, inl, inr}
 use Prim.Native.Nat.{ℕ, _+_, _*_, _%_, _^_, _≤_, _<_, Ordering, Ordering·lt, Ordering·eq, Ordering·gt}
 use native.Mathlib.Nat.{le-trans, le-of-eq, le-of-lt, lt-of-lt-of-le, lt-of-le-of-lt, le-refl, lt-irrefl, le-antisymm, eq-or-lt-of-le, add-comm, add-assoc, add-le-add, add-lt-add-of-lt-of-le}
-use native.Mathlib.Numerals.{add-one}
+use native.Mathlib.Numerals.{add-one, add-one-le, lt-add-one}
 use native.Mathlib.Omega.{arith}
 use lib.Ieee.{nearest}
 use Rattle.hypot.specs.Pattern.{value}
@@ -26,9 +26,6 @@ mid-same p = double (value p)
     double : (x : ℕ) → (x + x) * (x + x) ≡ 4 * (x * x)
     double x = omega arith
 
-next-le : {p q : ℕ} → p < q → p + 1 ≤ q
-next-le h = omega arith
-
 four-le : {a b : ℕ} → a ≤ b → 4 * a ≤ 4 * b
 four-le h = omega arith
 
@@ -38,7 +35,7 @@ four-lt h = omega arith
 -- ---- by the neighbours of g
 module _ (n g : ℕ) where
   made : ((p : ℕ) → p < g → mid p g ≤ 4 * n) → 4 * n ≤ mid (g + 1) g → ((p : ℕ) → (value p ≡ value g → ⊥) → mid p g ≡ 4 * n → g % 2 ≡ 0) → Nearest n g
-  made lo hi tie = record { below = λ p h. lo p (pattern-lt h); above = λ p h. le-trans hi (mid-le g (next-le (pattern-lt h))); tie = tie }
+  made lo hi tie = record { below = λ p h. lo p (pattern-lt h); above = λ p h. le-trans hi (mid-le g (add-one-le (pattern-lt h))); tie = tie }
 
   strict : ((p : ℕ) → p < g → mid p g < 4 * n) → 4 * n < mid (g + 1) g → Nearest n g
   strict lo hi = made (λ p h. le-of-lt (lo p h)) (le-of-lt hi) (λ p d e. absurd (none p d e (lt-or-ge p g)))
@@ -47,7 +44,7 @@ module _ (n g : ℕ) where
       none p d e (inl h) = lt-irrefl (4 * n) (subst (λ (x : ℕ). x < 4 * n) e (lo p h))
       none p d e (inr h) = elim (eq-or-lt-of-le h) [
         | inl s ↦ d (ap value (sym s))
-        | inr s ↦ lt-irrefl (4 * n) (subst (λ (x : ℕ). 4 * n < x) e (lt-of-lt-of-le hi (mid-le g (next-le s))))
+        | inr s ↦ lt-irrefl (4 * n) (subst (λ (x : ℕ). 4 * n < x) e (lt-of-lt-of-le hi (mid-le g (add-one-le s))))
       ]
 
   -- the root is not below g, or is below it
@@ -131,11 +128,8 @@ not-less n r s a b h =
     let even-r : r % 2 ≡ 0 = a .tie s (λ (x : value s ≡ value r). d (sym x)) (mid-swap s r ∙ e) in
     let even-s : s % 2 ≡ 0 = b .tie r d e in
     let skips : r + 1 < s = omega arith in
-    let after : 4 * n ≤ mid (r + 1) r = a .above (r + 1) (value-lt (step r)) in
+    let after : 4 * n ≤ mid (r + 1) r = a .above (r + 1) (value-lt (lt-add-one r)) in
     lt-irrefl (4 * n) (lt-of-le-of-lt after (lt-of-lt-of-le (mid-lt r skips) (le-of-eq (mid-swap s r ∙ e))))
-  where
-    step : (r : ℕ) → r < r + 1
-    step r = omega arith
 
 pub unique : (n r s : ℕ) → Nearest n r → Nearest n s → r ≡ s
 unique n r s a b = elim (lt-or-ge r s) [

@@ -2,7 +2,7 @@
 -- Each operation widens a range by 1/256 at most; `in-more` rounds one off.
 use mathlib.Core.Path.{_≡_, sym, ap, _∙_, subst}
 use Prim.Native.Nat.{ℕ, zero, suc, _+_, _-_, _*_, _/_, _^_, _≤_, _<_, min, max}
-use native.Mathlib.Nat.{min-eq-left, min-eq-right, max-eq-left, max-eq-right, le-of-lt, mul-zero, mul-add, sub-add-cancel, le-trans, le-of-eq, mul-le-mul-left, mul-le-mul-right, le-of-mul-le-mul-right}
+use native.Mathlib.Nat.{min-eq-left, min-eq-right, min-le-left, min-le-right, max-eq-left, max-eq-right, le-max-left, le-max-right, le-of-lt, mul-zero, mul-add, sub-add-cancel, le-trans, le-of-eq, mul-le-mul-left, mul-le-mul-right, le-of-mul-le-mul-right}
 use native.Mathlib.Omega.{arith}
 use mathlib.Core.Bool.{Bool, true, false, not, _&&_, cond}
 use mathlib.Core.Logic.{_⊎_, inl, inr}
@@ -139,30 +139,18 @@ raw : (x y : Float) → Le 1 x y → posPart x + negPart y ≤ posPart y + negPa
 unfolding P N
 raw x y h = omega arith
 
-min-lo : (a b : ℕ) → min a b ≤ a
-min-lo a b = omega arith
-
-min-lo' : (a b : ℕ) → min a b ≤ b
-min-lo' a b = omega arith
-
-max-hi : (a b : ℕ) → a ≤ max a b
-max-hi a b = omega arith
-
-max-hi' : (a b : ℕ) → b ≤ max a b
-max-hi' a b = omega arith
-
 pub min-in : {x y : Float} {a b a' b' : ℕ} → In x a b → In y a' b' → In (minOf x y) (min a a') (min b b')
 min-in {x} {y} {a} {b} {a'} {b'} i j =
-    let k = mul-le-mul-left eps (min-lo a a') in
-    let l = mul-le-mul-left eps (min-lo' a a') in
+    let k = mul-le-mul-left eps (min-le-left a a') in
+    let l = mul-le-mul-left eps (min-le-right a a') in
     min-ind 1 x y (i .whole) (j .whole) (λ z. In z (min a a') (min b b'))
     (λ h. record { whole = i .whole; lo = omega (arith, i .lo, k); hi = nat-min-ind b b' (λ m. posPart x + eps * limit ≤ negPart x + eps * m) (i .hi) (omega (arith, raw x y h, j .hi)) })
     (λ h. record { whole = j .whole; lo = omega (arith, j .lo, l); hi = nat-min-ind b b' (λ m. posPart y + eps * limit ≤ negPart y + eps * m) (omega (arith, raw y x h, i .hi)) (j .hi) })
 
 pub max-in : {x y : Float} {a b a' b' : ℕ} → In x a b → In y a' b' → In (maxOf x y) (max a a') (max b b')
 max-in {x} {y} {a} {b} {a'} {b'} i j =
-    let k = mul-le-mul-left eps (max-hi b b') in
-    let l = mul-le-mul-left eps (max-hi' b b') in
+    let k = mul-le-mul-left eps (le-max-left b b') in
+    let l = mul-le-mul-left eps (le-max-right b b') in
     max-ind 1 x y (i .whole) (j .whole) (λ z. In z (max a a') (max b b'))
     (λ h. record { whole = i .whole; hi = omega (arith, i .hi, k); lo = nat-max-ind a a' (λ m. eps * m + negPart x ≤ posPart x + eps * limit) (i .lo) (omega (arith, raw y x h, j .lo)) })
     (λ h. record { whole = j .whole; hi = omega (arith, j .hi, l); lo = nat-max-ind a a' (λ m. eps * m + negPart y ≤ posPart y + eps * limit) (omega (arith, raw x y h, i .lo)) (j .lo) })
@@ -210,19 +198,19 @@ clash false t n = t
 -- a value that is no NaN, finite or not, is brought into the range; a b of the lower end, a' b' of the upper
 pub clamp-any-in : (x : Float) {l h : Float} {a b a' b' : ℕ} → T (not (isNan x)) → T (fits binary32 x) → In l a b → In h a' b' → In (clampOf x l h) (min a a') (max b b')
 clamp-any-in x {l} {h} {a} {b} {a'} {b'} n f i j =
-    clamp-ind x l h (λ z. In z (min a a') (max b b')) (in-le _ _ i (min-lo a a') (max-hi b b')) (in-le _ _ j (min-lo' a a') (max-hi' b b')) (own x n f)
+    clamp-ind x l h (λ z. In z (min a a') (max b b')) (in-le _ _ i (min-le-left a a') (le-max-left b b')) (in-le _ _ j (min-le-right a a') (le-max-right b b')) (own x n f)
   where
     own : (x : Float) → T (not (isNan x)) → T (fits binary32 x) → T (not (lt x l)) → T (not (lt h x)) → In x (min a a') (max b b')
     own nan n f s t = absurd (unfold isNan in n)
     own (inf true) n f s t = absurd (clash (lt (inf true) l) (inf-low l (i .whole)) s)
     own (inf false) n f s t = absurd (clash (lt h (inf false)) (inf-high h (j .whole)) t)
-    own (fin g m e) n f s t = in-le _ _ (between {x = fin g m e} (fits-whole (fin g m e) tt f) i j s t) (min-lo a a') (max-hi' b b')
+    own (fin g m e) n f s t = in-le _ _ (between {x = fin g m e} (fits-whole (fin g m e) tt f) i j s t) (min-le-left a a') (le-max-right b b')
 
 -- a finite value
 pub clamp-whole-in : (x : Float) {l h : Float} {a b a' b' : ℕ} → Whole x → In l a b → In h a' b' → In (clampOf x l h) (min a a') (max b b')
 clamp-whole-in x {l} {h} {a} {b} {a'} {b'} p i j =
-    clamp-ind x l h (λ z. In z (min a a') (max b b')) (in-le _ _ i (min-lo a a') (max-hi b b')) (in-le _ _ j (min-lo' a a') (max-hi' b b'))
-    (λ s t. in-le _ _ (between p i j s t) (min-lo a a') (max-hi' b b'))
+    clamp-ind x l h (λ z. In z (min a a') (max b b')) (in-le _ _ i (min-le-left a a') (le-max-left b b')) (in-le _ _ j (min-le-right a a') (le-max-right b b'))
+    (λ s t. in-le _ _ (between p i j s t) (min-le-left a a') (le-max-right b b'))
 
 pub clamp-in : {x l h : Float} {c e a b a' b' : ℕ} → In x c e → In l a b → In h a' b' → In (clampOf x l h) (min a a') (max b b')
 clamp-in {x} u i j = clamp-whole-in x (u .whole) i j
@@ -233,8 +221,8 @@ literal {x} {a} {b} p s t = record { whole = p; lo = leb→le (eps * a + negPart
 
 -- a choice
 pub cond-in : {x y : Float} {a b a' b' : ℕ} (t : Bool) → In x a b → In y a' b' → In (cond t x y) (min a a') (max b b')
-cond-in {a = a} {b = b} {a' = a'} {b' = b'} true i j = in-le _ _ i (min-lo a a') (max-hi b b')
-cond-in {a = a} {b = b} {a' = a'} {b' = b'} false i j = in-le _ _ j (min-lo' a a') (max-hi' b b')
+cond-in {a = a} {b = b} {a' = a'} {b' = b'} true i j = in-le _ _ i (min-le-left a a') (le-max-left b b')
+cond-in {a = a} {b = b} {a' = a'} {b' = b'} false i j = in-le _ _ j (min-le-right a a') (le-max-right b b')
 
 -- from -n / 256 to n / 256
 abbrev pub small : ℕ → ℕ → ℕ → Bool
