@@ -197,7 +197,7 @@ fn nearer(best: Faces, c: Control, x: f32, y: f32, outside: bool, previous: u16)
     best
 }
 
-// Neither the picture nor the d-pad holds the touch, as is so in free space.
+// Neither the picture nor the d-pad holds the touch. Free space lies outside both.
 fn outside(l: Layout, x: f32, y: f32) -> bool
     ensures { λ r. ⌜ r ≡ (not (containsOf (l .game) x y) && not (containsOf (l .dpad) x y)) ⌝ }
 {
