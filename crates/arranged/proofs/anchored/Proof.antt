@@ -1,4 +1,3 @@
--- `anchored` is `anchoredOf`.
 use mathlib.Core.Path.{refl}
 use borrow.Author.Needs.{needs}
 use Rattle.toolbar.specs.Toolbar.{anchorToolbarOf}

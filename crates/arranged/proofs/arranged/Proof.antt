@@ -1,4 +1,3 @@
--- `arranged` is `arrangedOf`.
 use native.Mathlib.Omega.{arith}
 use borrow.Author.Needs.{needs}
 use Rattle.arranged.specs.Controls.{arranged-finished}

@@ -1,4 +1,3 @@
--- `composed` is `composedOf`.
 use mathlib.Core.Path.{refl}
 use borrow.Author.Needs.{needs}
 use Rattle.arranged.specs.Arranged.{composedOf}

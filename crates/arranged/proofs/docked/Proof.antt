@@ -1,4 +1,3 @@
--- `docked` is `dockedOf`.
 use native.Mathlib.Omega.{arith}
 use borrow.Author.Needs.{needs}
 use Rattle.arranged.specs.Controls.{dockedOf}

@@ -1,4 +1,3 @@
--- `finished` is `finishedOf`.
 use mathlib.Core.Path.{_≡_}
 use borrow.Author.Needs.{needs}
 use Rattle.arranged.specs.Arranged.{finishedOf}

@@ -1,4 +1,3 @@
--- `measure_rails` is `measureRailsOf`.
 use borrow.Author.Needs.{needs}
 use Rattle.arranged.specs.Arranged.{measureRailsOf}
 use Rattle.arranged.proofs.measure_rails.Statement.{statement}

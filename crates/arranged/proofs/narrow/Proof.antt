@@ -1,4 +1,3 @@
--- `narrow` is `narrowOf`.
 use borrow.Author.Needs.{needs}
 use Rattle.arranged.specs.Arranged.{narrowOf}
 use Rattle.arranged.proofs.narrow.Statement.{statement}

@@ -1,4 +1,3 @@
--- `narrowed` is the fold of `narrowOf`.
 use borrow.Author.Needs.{needs}
 use mathlib.Core.Path.{refl, _≡_}
 use mathlib.Core.List.{foldl}

@@ -1,4 +1,3 @@
--- `no_layout` is none.
 use mathlib.Core.Path.{refl}
 use borrow.Author.Needs.{needs}
 use Rattle.arranged.proofs.no_layout.Statement.{statement}

@@ -1,4 +1,3 @@
--- `place_all` is `mapFirst` of `moved`.
 use borrow.Author.Needs.{needs}
 use mathlib.Core.Path.{ap, _≡_}
 use lib.ListN.{length, length-set, getD}

@@ -1,4 +1,3 @@
--- `place_dock` is `placeDockOf`.
 use Rattle.arranged.specs.Arranged.{placeDockOf}
 use Rattle.arranged.proofs.place_dock.Statement.{statement}
 use Rattle.arranged.proofs.place_dock.Tie as tie

@@ -1,4 +1,3 @@
--- `place_faces` is `placeFacesOf`.
 use mathlib.Core.Path.{refl}
 use Rattle.arranged.specs.Places.{placeFacesOf}
 use Rattle.arranged.proofs.place_faces.Statement.{statement}

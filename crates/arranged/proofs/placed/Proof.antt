@@ -1,4 +1,3 @@
--- `placed` is `placedOf`.
 use mathlib.Core.Path.{refl}
 use borrow.Author.Needs.{needs}
 use Rattle.arranged.specs.Places.{placedOf}

@@ -1,4 +1,3 @@
--- `rail_places` is `railPlacesOf`.
 use borrow.Author.Needs.{needs}
 use Rattle.arranged.specs.Arranged.{railPlacesOf}
 use Rattle.arranged.proofs.rail_places.Statement.{statement}

@@ -1,4 +1,3 @@
--- `railed` is `railControlsOf`.
 use native.Mathlib.Omega.{arith}
 use borrow.Author.Needs.{needs}
 use Rattle.arranged.specs.Controls.{railControlsOf}

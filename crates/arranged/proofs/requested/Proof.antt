@@ -1,4 +1,3 @@
--- `requested` is `requestedOf`.
 use borrow.Author.Needs.{needs}
 use Rattle.arranged.specs.Arranged.{requestedOf}
 use Rattle.arranged.proofs.requested.Statement.{statement}

@@ -1,4 +1,3 @@
--- `side_controls` is `sideControlsOf`.
 use borrow.Author.Needs.{needs}
 use Rattle.arranged.specs.Controls.{sideControlsOf}
 use Rattle.arranged.proofs.side_controls.Statement.{statement}

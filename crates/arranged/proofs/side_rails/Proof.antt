@@ -1,4 +1,3 @@
--- `side_rails` is `sideRailsOf`.
 use native.Mathlib.Omega.{arith}
 use borrow.Author.Needs.{needs}
 use Rattle.arranged.specs.Controls.{side-finished}

@@ -1,4 +1,3 @@
--- `size_wells` is `sizeWellsOf`.
 use borrow.Author.Needs.{needs}
 use Rattle.arranged.specs.Arranged.{sizeWellsOf}
 use Rattle.arranged.proofs.size_wells.Statement.{statement}

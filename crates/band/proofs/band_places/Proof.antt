@@ -1,4 +1,3 @@
--- `band_places` is `bandPlacesOf`.
 use borrow.Author.Needs.{needs}
 use Rattle.band.proofs.band_places.Statement.{statement}
 use Rattle.band.proofs.band_places.Tie as tie

@@ -1,4 +1,3 @@
--- `banded` is `bandedFrom` of the controls of `arranged`.
 use native.Mathlib.Omega.{arith}
 use borrow.Author.Needs.{needs}
 use Rattle.band.proofs.banded.Statement.{statement}

@@ -1,4 +1,3 @@
--- `controller_band` is `controllerBandOf`.
 use native.Mathlib.Omega.{arith}
 use borrow.Author.Needs.{needs}
 use Rattle.band.specs.Band.{controllerBandOf}

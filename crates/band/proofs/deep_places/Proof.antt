@@ -1,4 +1,3 @@
--- `deep_places` is `deepPlacesOf`.
 use mathlib.Core.Path.{refl}
 use Rattle.band.specs.Band.{deepPlacesOf}
 use Rattle.band.proofs.deep_places.Statement.{statement}

@@ -1,4 +1,3 @@
--- `find_room` is `findRoomOf`.
 use borrow.Author.Needs.{needs}
 use Rattle.band.specs.Band.{findRoomOf}
 use Rattle.band.proofs.find_room.Statement.{statement}

@@ -1,4 +1,3 @@
--- `measure_band` is `measureBandOf`.
 use borrow.Author.Needs.{needs}
 use Rattle.band.specs.Band.{measureBandOf}
 use Rattle.band.proofs.measure_band.Statement.{statement}

@@ -1,4 +1,3 @@
--- `plain_places` is `plainPlacesOf`.
 use mathlib.Core.Path.{refl}
 use Rattle.band.specs.Band.{plainPlacesOf}
 use Rattle.band.proofs.plain_places.Statement.{statement}

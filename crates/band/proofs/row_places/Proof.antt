@@ -1,4 +1,3 @@
--- `row_places` is `rowPlacesOf`.
 use mathlib.Core.Path.{refl}
 use Rattle.band.specs.Band.{rowPlacesOf}
 use Rattle.band.proofs.row_places.Statement.{statement}

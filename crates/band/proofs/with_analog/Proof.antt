@@ -1,4 +1,3 @@
--- `with_analog` is `withAnalogOf`.
 use mathlib.Core.Path.{refl}
 use Rattle.band.specs.Band.{withAnalogOf}
 use borrow.Author.Needs.{needs}

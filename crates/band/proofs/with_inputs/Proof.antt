@@ -1,4 +1,3 @@
--- `with_inputs` is `pspInputsOf` for a psp.
 use mathlib.Core.Path.{_≡_}
 use lib.ListN.{length}
 use borrow.Author.Needs.{needs}

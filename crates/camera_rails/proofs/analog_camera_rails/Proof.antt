@@ -1,4 +1,3 @@
--- `analog_camera_rails` is `analogCameraRailsOf`.
 use borrow.Author.Needs.{needs}
 use native.Mathlib.Omega.{arith}
 use mathlib.Core.Path.{_≡_}

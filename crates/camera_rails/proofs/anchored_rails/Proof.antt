@@ -1,4 +1,3 @@
--- `anchored_rails` is `anchoredRailsOf`.
 use borrow.Author.Needs.{needs}
 use Rattle.band.proofs.Counts.{Counted, anchor-counts}
 use Rattle.camera_rails.specs.CameraRails.{anchoredRailsOf}

@@ -1,4 +1,3 @@
--- `camera_railed` is `cameraRailedOf`.
 use borrow.Author.Needs.{needs}
 use native.Mathlib.Omega.{arith}
 use Rattle.camera_rails.specs.CameraRails.{cameraRailedOf}

@@ -1,4 +1,3 @@
--- `camera_top` is `cameraTopOf`.
 use borrow.Author.Needs.{needs}
 use native.Mathlib.Omega.{arith}
 use mathlib.Core.Path.{_≡_, refl, _∙_}

@@ -1,4 +1,3 @@
--- `hits` is `hitsOf`.
 use borrow.Author.Needs.{needs}
 use native.Mathlib.Omega.{arith}
 use mathlib.Core.Path.{_≡_, refl}

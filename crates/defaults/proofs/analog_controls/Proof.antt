@@ -1,4 +1,3 @@
--- `analog_controls` is `analogControlsOf`.
 use mathlib.Core.Path.{refl}
 use Rattle.arranged.specs.Places.{atOf}
 use Rattle.defaults.proofs.analog_controls.Statement.{statement}

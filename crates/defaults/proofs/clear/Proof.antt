@@ -1,4 +1,3 @@
--- `clear` is `clearOf` of a finished layout.
 use borrow.Author.Needs.{needs}
 use Rattle.defaults.proofs.Anew.{clear-anew}
 use Rattle.defaults.proofs.clear.Statement.{statement}

@@ -1,4 +1,3 @@
--- `below_root` meets its contract.
 use native.Mathlib.Omega.{arith}
 use mathlib.Core.Path.{sym, ap, _∙_}
 use Prim.Native.Nat.{_+_, _-_, ℕ, _*_}

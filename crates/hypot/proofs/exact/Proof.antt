@@ -1,4 +1,3 @@
--- `exact` meets its contract.
 use mathlib.Core.Path.{sym, _∙_, subst}
 use native.Mathlib.Omega.{arith}
 use lib.Dec.{T}

@@ -1,4 +1,3 @@
--- `midpoint` meets its contract.
 use borrow.Author.Needs.{needs}
 use lib.Ieee.{binary64}
 use native.Mathlib.Omega.{arith}

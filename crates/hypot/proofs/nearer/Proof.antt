@@ -1,4 +1,3 @@
--- `nearer` meets its contract.
 use mathlib.Core.Path.{_≡_, sym, ap, _∙_}
 use borrow.Author.Needs.{needs}
 use native.Mathlib.Numerals.{add-one}

@@ -1,4 +1,3 @@
--- `packed` meets its contract.
 use mathlib.Core.Path.{sym, ap}
 use Prim.Native.Nat.{_+_, _*_}
 use borrow.Author.Needs.{needs}

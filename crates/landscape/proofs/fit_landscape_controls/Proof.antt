@@ -1,4 +1,3 @@
--- `fit_landscape_controls` is `fitLandscapeControlsOf`.
 use borrow.Author.Needs.{needs}
 use Rattle.landscape.specs.Landscape.{fitLandscapeControlsOf}
 use Rattle.landscape.proofs.fit_landscape_controls.Statement.{statement}

@@ -1,4 +1,3 @@
--- `measure_row` is `measureRowOf`.
 use mathlib.Core.Path.{refl}
 use Rattle.landscape.specs.Landscape.{measureRowOf}
 use Rattle.landscape.proofs.measure_row.Statement.{statement}

@@ -1,4 +1,3 @@
--- `place` is `placeOf`.
 use borrow.Author.Needs.{needs}
 use Rattle.landscape.specs.Landscape.{placeOf}
 use Rattle.landscape.proofs.place.Statement.{statement}

@@ -1,4 +1,3 @@
--- `row_controls` is `mapFirst` of `inRow`.
 use borrow.Author.Needs.{needs}
 use mathlib.Core.Path.{ap, _≡_}
 use lib.ListN.{length, length-set, getD}

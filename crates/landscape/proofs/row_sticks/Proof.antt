@@ -1,4 +1,3 @@
--- `row_sticks` is `rowSticksOf`.
 use borrow.Author.Tests.{le-ltb, lt-ltb}
 use borrow.Author.Needs.{needs}
 use Rattle.landscape.specs.Landscape.{rowSticksOf}

@@ -1,4 +1,3 @@
--- `rowed` is `rowedOf`.
 use mathlib.Core.Path.{refl}
 use borrow.Author.Needs.{needs}
 use Rattle.landscape.specs.Landscape.{rowedOf}

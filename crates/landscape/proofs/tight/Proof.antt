@@ -1,4 +1,3 @@
--- `tight` is `tightOf`.
 use Rattle.landscape.specs.Landscape.{tightOf}
 use Rattle.landscape.proofs.tight.Statement.{statement}
 use Rattle.landscape.proofs.tight.Tie as tie

@@ -1,4 +1,3 @@
--- `clear_picture_aspect` is `clearPictureAspectOf`.
 use borrow.Author.Needs.{needs}
 use Rattle.search.specs.Search.{clearPictureAspectOf}
 use Rattle.search.proofs.clear_picture_aspect.Statement.{statement}

@@ -1,4 +1,3 @@
--- `game` is `gameOf`.
 use mathlib.Core.Logic.{⊎-elim}
 use Rattle.search.proofs.Steps.{game-is}
 use borrow.Author.Needs.{needs}

@@ -1,4 +1,3 @@
--- `narrow` is `narrowOf`.
 use borrow.Author.Needs.{needs}
 use Rattle.search.specs.Search.{narrowOf}
 use Rattle.search.proofs.narrow.Statement.{statement}

@@ -1,4 +1,3 @@
--- `narrow_side` is `narrowSideOf`.
 use mathlib.Core.Logic.{⊎-elim}
 use borrow.Author.Needs.{needs}
 use Rattle.search.specs.Search.{narrowSideOf}

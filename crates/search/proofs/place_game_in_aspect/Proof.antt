@@ -1,4 +1,3 @@
--- `place_game_in_aspect` is `placeGameInAspectOf`.
 use borrow.Author.Needs.{needs}
 use Rattle.search.specs.Search.{placeGameInAspectOf}
 use Rattle.search.proofs.place_game_in_aspect.Statement.{statement}

@@ -1,4 +1,3 @@
--- `within` is `withinOf`.
 use Rattle.search.specs.Search.{withinOf}
 use Rattle.search.proofs.within.Statement.{statement}
 use Rattle.search.proofs.within.Tie as tie

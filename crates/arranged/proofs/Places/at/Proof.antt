@@ -1,4 +1,3 @@
--- `Places::at` is `atOf`.
 use borrow.Author.Needs.{needs}
 use Rattle.arranged.specs.Places.{atOf}
 use Rattle.arranged.proofs.Places.at.Statement.{statement}
