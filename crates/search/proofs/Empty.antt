@@ -1,4 +1,4 @@
--- Demand 3 refuses a layout that has an empty game every time: not even one area without elements allows it.
+-- Demand 3 refuses a layout that has an empty game every time: in an area without elements an empty game is not the widest.
 use mathlib.Core.Path.{refl}
 use mathlib.Core.Logic.{inl}
 use mathlib.Core.List.{[]}
