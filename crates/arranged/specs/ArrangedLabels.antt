@@ -1,12 +1,13 @@
 -- The labels and counts of `arranged` and `side_rails`.
 use mathlib.Core.Path.{_≡_, refl, ap₂, _∙_}
-use mathlib.Core.Bool.{Bool, true, false, cond}
+use mathlib.Core.Bool.{Bool, false}
 use mathlib.Core.List.{List, [], _∷_, map, foldl}
 use Prim.Native.Nat.{ℕ, zero, suc}
 use lib.Ieee.{Float, lt}
 use lib.ListN.{length, take}
 use Rattle.float.specs.Float.{k122}
 use Rattle.geometry.specs.declared.Rect.{Rect}
+use Rattle.geometry.specs.Choice.{either}
 use Rattle.layout.specs.declared.Control.{Control}
 use Rattle.layout.specs.declared.Label.{Label}
 use Rattle.layout.specs.declared.Layout.{Layout}
@@ -21,10 +22,6 @@ use Rattle.arranged.specs.Arranged.{finishedOf, composedOf, arrangedOf, 
 -- a layout of these labels, and of so many sticks
 abbrev pub Inputs : List Label → ℕ → Layout → Type 0
 Inputs labels sticks l = (labelsOf l ≡ labels) × (l .count ≡ length labels) × (l .stickcount ≡ sticks)
-
-pub either-inputs : (labels : List Label) (sticks : ℕ) (b : Bool) (l m : Layout) → Inputs labels sticks l → Inputs labels sticks m → Inputs labels sticks (cond b l m)
-either-inputs labels sticks true l m p q = p
-either-inputs labels sticks false l m p q = q
 
 module _ (g : Control → Control) (same : (c : Control) → g c .label ≡ c .label) where
   pub labels-mapFirst : (k n : ℕ) (cs : List Control) → map (λ (c : Control). c .label) (take k (mapFirst g n cs)) ≡ map (λ (c : Control). c .label) (take k cs)
@@ -61,4 +58,4 @@ module _ (w h : Float) where
   side-rails-inputs pictureHeight cutouts =
       let requested = requestedOf w h pictureHeight in
       let cluster = foldl (narrowOf w h requested) requested cutouts in
-      either-inputs standardLabels 0 (lt cluster k122) (arrangedOf w h false) (railedOf w h cluster) (arranged-inputs false) (railed-inputs cluster)
+      either (Inputs standardLabels 0) (lt cluster k122) {x = arrangedOf w h false} {y = railedOf w h cluster} (arranged-inputs false) (railed-inputs cluster)

@@ -9,6 +9,7 @@ use lib.Ieee.{Float}
 use lib.ListN.{length}
 use Prim.Native.Nat.{ℕ, _≤_}
 use Rattle.geometry.specs.declared.Rect.{Rect}
+use Rattle.geometry.specs.Choice.{either}
 use Rattle.layout.specs.declared.Label.{Label}
 use Rattle.layout.specs.declared.Layout.{Layout}
 use Rattle.layout.specs.Actions.{actionElementsOf}
@@ -20,7 +21,6 @@ use Rattle.toolbar.specs.Toolbar.{anchorToolbarOf}
 use Rattle.arranged.specs.ArrangedLabels.{Inputs, placed-inputs}
 use Rattle.band.specs.BandLabels.{bandLabels, bandSticks, with-inputs}
 use Rattle.defaults.specs.Defaults.{analogDefaultOf}
-use Rattle.defaults.specs.DefaultCases.{either}
 use Rattle.defaults.specs.DefaultLabels.{Formed, placed-arrays, psp-arrays, set-elements-formed, analog-formed}
 use Rattle.cutouts.specs.Cutouts.{withAreaOf, avoidCutoutsOf}
 use Rattle.cutouts.specs.CutoutLaws.{length-after, face-count}

@@ -9,6 +9,7 @@ use lib.Ieee.{Float, lt}
 use Rattle.float.specs.Float.{_⊖_, _⊗_, _⊘_, k0, k1, k2, k3, k4, k48, k122, k184, k272, k480}
 use Rattle.float.specs.MinMax.{minOf}
 use Rattle.geometry.specs.declared.Rect.{Rect}
+use Rattle.geometry.specs.Choice.{either}
 use Rattle.layout.specs.declared.Layout.{Layout}
 use Rattle.layout.specs.Lists.{filterMap}
 use Rattle.numerics.specs.Value.{P, N, E}
@@ -28,7 +29,6 @@ use Rattle.toolbar.specs.ToolbarRanges.{uncovered-in, anchor-in}
 use Rattle.arranged.specs.Arranged.{middle}
 use Rattle.arranged.specs.PlaceRanges.{coordinate, cap-in, step-in, faces-in, PlacesIn, controls-placed}
 use Rattle.band.specs.Band.{aspectOf}
-use Rattle.defaults.specs.DefaultCases.{either}
 use Rattle.defaults.specs.DefaultRanges.{analog-in}
 use Rattle.cutouts.specs.Cutouts.{avoidCutoutsOf}
 use Rattle.cutouts.specs.CutoutRanges.{avoid-bounded}

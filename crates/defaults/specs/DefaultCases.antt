@@ -1,24 +1,21 @@
 -- What holds of each arrangement holds of the default layout that is chosen among them.
 use mathlib.Core.Path.{_≡_, refl}
-use mathlib.Core.Bool.{Bool, true, false, cond, _&&_}
+use mathlib.Core.Bool.{Bool, true, false, _&&_}
 use mathlib.Core.List.{List}
 use mathlib.Core.Option.{Option, some, none}
 use lib.Ieee.{Float, lt, le}
 use Rattle.float.specs.Float.{_⊕_, _⊖_, _⊗_, _⊘_, k0·01, k1·35, k2, k8, k16, k160, k304}
 use Rattle.geometry.specs.declared.Rect.{Rect}
+use Rattle.geometry.specs.Choice.{either}
 use Rattle.layout.specs.declared.Layout.{Layout}
 use Rattle.arranged.specs.Arranged.{arrangedOf, sideRailsOf}
 use Rattle.band.specs.Band.{controllerBandOf}
 use Rattle.defaults.specs.Defaults.{widerOf, widerIf, clearOf, tryDockOf, trySideOf, tryBandOf, defaultInOf}
 
 module _ (C : Layout → Type 0) where
-  pub either : (b : Bool) {l m : Layout} → C l → C m → C (cond b l m)
-  either true p q = p
-  either false p q = q
-
   wider-case : {l m : Layout} → C l → C m → C (widerOf l m)
   unfolding widerOf
-  wider-case {l} {m} p q = either (lt (l .game .w ⊕ k0·01) (m .game .w)) q p
+  wider-case {l} {m} p q = either C (lt (l .game .w ⊕ k0·01) (m .game .w)) q p
 
   pub band-case : {l : Layout} (w h : Float) (analog : Bool) (picture : Rect) → C l → ((band : Layout) → controllerBandOf w h analog false picture ≡ some band → C band) → C (tryBandOf l w h analog picture)
   unfolding tryBandOf
@@ -34,5 +31,5 @@ module _ (C : Layout → Type 0) where
     unfolding defaultInOf tryDockOf trySideOf
     default-case p q r =
         let rails = clearOf (arrangedOf w h false) picture in
-        let docked = either (le k160 (rails .dpad .w) && le (k2 ⊗ ((rails .dpad .w ⊖ k8) ⊘ k2) ⊕ k16) (w ⊖ k2 ⊗ (k16 ⊕ rails .dpad .w))) (wider-case (p false) (p true)) (p false) in
-        band-case w h false picture (either (lt (h ⊗ k1·35) w && le k304 h) (wider-case docked q) docked) r
+        let docked = either C (le k160 (rails .dpad .w) && le (k2 ⊗ ((rails .dpad .w ⊖ k8) ⊘ k2) ⊕ k16) (w ⊖ k2 ⊗ (k16 ⊕ rails .dpad .w))) (wider-case (p false) (p true)) (p false) in
+        band-case w h false picture (either C (lt (h ⊗ k1·35) w && le k304 h) (wider-case docked q) docked) r

@@ -13,6 +13,7 @@ use Rattle.float.specs.Float.{_⊗_, k0, k1, k1·35, k122, k360, k600, k800}
 use Rattle.float.specs.MinMax.{maxOf}
 use Rattle.geometry.specs.declared.Rect.{Rect}
 use Rattle.geometry.specs.Rect.{newOf}
+use Rattle.geometry.specs.Choice.{either}
 use Rattle.layout.specs.declared.Control.{Control}
 use Rattle.layout.specs.declared.Label.{Label}
 use Rattle.layout.specs.declared.Label.the-variants.{L3, R3}
@@ -38,7 +39,7 @@ use Rattle.band.specs.Band.{aspectOf, findRoomOf, measureBandOf, bandedOf, with
 use Rattle.band.specs.BandLabels.{bandLabels, bandSticks, psp-inputs, given, band-inputs}
 use Rattle.defaults.specs.declared.Size.{Size}
 use Rattle.defaults.specs.Defaults.{clearOf, defaultInOf, newLayoutOf, analogFullOf, size, scaledRectOf, shrunkOf, analogDefaultOf, pspOf}
-use Rattle.defaults.specs.DefaultCases.{either, band-case, default-case}
+use Rattle.defaults.specs.DefaultCases.{band-case, default-case}
 
 -- arrays of 12 controls and 2 sticks
 abbrev pub Arrays : Layout → Type 0

@@ -11,6 +11,7 @@ use Rattle.float.specs.Float.{_⊗_, _⊘_, k0, k1, k1·35, k3, k4, k360}
 use Rattle.float.specs.MinMax.{maxOf}
 use Rattle.geometry.specs.declared.Rect.{Rect}
 use Rattle.geometry.specs.Rect.{newOf}
+use Rattle.geometry.specs.Choice.{either}
 use Rattle.layout.specs.declared.Layout.{Layout}
 use Rattle.numerics.specs.Value.{eps, limit}
 use Rattle.numerics.specs.Rects.{Element, maxArea, Area, OnScreen, Key, margin}
@@ -31,7 +32,7 @@ use Rattle.defaults.specs.declared.Size.{Size}
 use Rattle.defaults.specs.declared.Sizes.{Sizes}
 use Rattle.defaults.specs.declared.Halves.{Halves}
 use Rattle.defaults.specs.Defaults.{defaultInOf, sizeHalvesOf, measureHalvesOf, halfPlacesOf, analogFullOf, size, scaledRectOf, shrunkOf, analogDefaultOf, pspOf}
-use Rattle.defaults.specs.DefaultCases.{either, band-case, default-case}
+use Rattle.defaults.specs.DefaultCases.{band-case, default-case}
 use Rattle.defaults.specs.DefaultLabels.{full-formed}
 
 pub default-in : {w h : Float} (cutouts : List Rect) {picture : Rect} → In w (at 0) (at 8192) → In h (at 0) (at 8192) → Each Element cutouts → Area picture → In (picture .h) (at 0) (at 8192)

@@ -1,2 +1,3 @@
 pub mod Rect
 pub mod Answer
+pub mod Choice

@@ -8,11 +8,11 @@ use lib.Ieee.{Float, le}
 use lib.ListN.{length, set, length-set}
 use Rattle.float.specs.Float.{_⊕_, _⊗_, k0·01, k1·35}
 use Rattle.geometry.specs.declared.Rect.{Rect}
+use Rattle.geometry.specs.Choice.{either}
 use Rattle.layout.specs.declared.Label.{Label}
 use Rattle.layout.specs.declared.Layout.{Layout}
 use Rattle.search.specs.Search.{placeGameInAspectOf}
 use Rattle.arranged.specs.ArrangedLabels.{labels-mapFirst}
-use Rattle.defaults.specs.DefaultCases.{either}
 use Rattle.defaults.specs.DefaultLabels.{Formed, length-mapFirst}
 use Rattle.landscape.specs.declared.Row.{Row}
 use Rattle.landscape.specs.Landscape.{tightOf, inRow, rowSticksOf, rowedOf, rowOf, withRowOf, fitLandscapeControlsOf}

@@ -9,6 +9,7 @@ use Rattle.float.specs.Float.{_⊕_, _⊖_, _⊗_, _⊘_, k0}
 use Rattle.float.specs.MinMax.{minOf, maxOf}
 use Rattle.geometry.specs.declared.Rect.{Rect}
 use Rattle.geometry.specs.Rect.{emptyRect}
+use Rattle.geometry.specs.Choice.{either}
 use Rattle.layout.specs.declared.Layout.{Layout}
 use Rattle.numerics.specs.Value.{Whole, AtMost, P, N, E, Le}
 use Rattle.numerics.specs.Rects.{maxArea, Area, Key}
@@ -42,10 +43,6 @@ record PictureIn (g : Rect) : Type 0 where
   pub w : In (g .w) (at 0) end
   pub h : In (g .h) (minus 1) end
 
-either-picture : (b : Bool) {f g : Rect} → PictureIn f → PictureIn g → PictureIn (cond b f g)
-either-picture true p q = p
-either-picture false p q = q
-
 no-picture : PictureIn emptyRect
 no-picture = record { x = in-more (minus 4097) (at 4097) i0 tt tt; y = i0; w = in-more (at 0) end i0 tt tt; h = in-more (minus 1) end i0 tt tt }
 
@@ -60,7 +57,7 @@ over-aspect false i = in-more (minus 1) end (div-in i f4/3 tt) tt tt
 module _ (psp : Bool) {w h : Float} (W : In w (at 0) (at 8192)) (H : In h (at 0) end) where
   better-in : {x width : Float} → In x (minus 4097) (at 4097) → In width (at 0) end → PictureIn (betterOf emptyRect x k0 width (aspectOf psp))
   unfolding betterOf
-  better-in {width = width} x i = either-picture (lt k0 width || (eq width k0 && lt k0 k0)) (record { x = x; y = i0; w = i; h = over-aspect psp i }) no-picture
+  better-in {width = width} x i = either PictureIn (lt k0 width || (eq width k0 && lt k0 k0)) (record { x = x; y = i0; w = i; h = over-aspect psp i }) no-picture
 
   -- the height gives a width too
   width-in : {x : Float} → In x (minus 1) end → In (maxOf (minOf x ((h ⊖ k0) ⊗ aspectOf psp)) k0) (at 0) end
@@ -70,17 +67,17 @@ module _ (psp : Bool) {w h : Float} (W : In w (at 0) (at 8192)) (H : In h (at 0)
   unfolding centeredOf tryAt widthAt
   centered-in =
       let wide = width-in (in-more (minus 1) end W tt tt) in
-      either-picture (withinOf k0 h) (better-in (in-more (minus 4097) (at 4097) (div-in (sub-in W wide tt) f2 tt) tt tt) wide) no-picture
+      either PictureIn (withinOf k0 h) (better-in (in-more (minus 4097) (at 4097) (div-in (sub-in W wide tt) f2 tt) tt tt) wide) no-picture
 
   side-in : PictureIn (sideOf w h [] (aspectOf psp))
   unfolding sideOf tryColumn trySideAt sideWidthAt
   side-in =
       let wide = width-in (in-more (minus 1) end (sub-in W i0 tt) tt tt) in
-      either-picture (withinOf k0 w) (either-picture (withinOf k0 h) (better-in (in-more (minus 4097) (at 4097) i0 tt tt) wide) no-picture) no-picture
+      either PictureIn (withinOf k0 w) (either PictureIn (withinOf k0 h) (better-in (in-more (minus 4097) (at 4097) i0 tt tt) wide) no-picture) no-picture
 
   clear-in : PictureIn (clearPictureAspectOf w h [] (aspectOf psp))
   unfolding clearPictureAspectOf
-  clear-in = either-picture (lt k0 (centeredOf w h [] (aspectOf psp) .w)) centered-in side-in
+  clear-in = either PictureIn (lt k0 (centeredOf w h [] (aspectOf psp) .w)) centered-in side-in
 
 -- ---- an area without elements: it may begin at the picture's lower edge
 pub record Lowered (b : Rect) : Type 0 where

@@ -12,6 +12,7 @@ use lib.ListN.{length}
 use Rattle.float.specs.Float.{k0, k1}
 use Rattle.float.specs.MinMax.{absOf}
 use Rattle.geometry.specs.declared.Rect.{Rect}
+use Rattle.geometry.specs.Choice.{either}
 use Rattle.layout.specs.declared.Layout.{Layout}
 use Rattle.layout.specs.Layout.{elementsOf}
 use Rattle.layout.specs.ElementLaws.{length-elements}
@@ -33,7 +34,6 @@ use Rattle.toolbar.specs.ToolbarRanges.{avoided-in, uncovered-in, anchor-in}
 use Rattle.arranged.specs.Arranged.{middle}
 use Rattle.band.specs.Band.{aspectOf}
 use Rattle.band.specs.BandRanges.{band-in}
-use Rattle.defaults.specs.DefaultCases.{either}
 use Rattle.defaults.specs.DefaultLabels.{band-formed}
 use Rattle.defaults.specs.DefaultRanges.{default-in, analog-in, psp-default-in}
 use Rattle.cutouts.specs.Cutouts.{avoidCutoutsOf}
@@ -233,4 +233,4 @@ module _ (p : Preset) {w h : Float} (W : In w (at 0) (at 8192)) (H : In h (at 0)
 
   pub viewport-game-bounded : (reusable covered : Float) → Whole (p .scale) → Whole (p .offset .x) → Whole (p .offset .y) → BoundedGame (viewportLayoutOf p w h picture reusable covered cutouts .game)
   unfolding viewportLayoutOf anchorToolbarOf
-  viewport-game-bounded reusable covered scale across down = let G = game-bounded scale across down in either (λ m. BoundedGame (m .game)) (lt k0 covered) G G
+  viewport-game-bounded reusable covered scale across down = let G = game-bounded scale across down in either (λ (m : Layout). BoundedGame (m .game)) (lt k0 covered) G G

@@ -1,6 +1,6 @@
 -- An accepted order gives settings in document 01's limits, each number of which is a value of binary32; a refused one has a number from 1 to 7.
 use mathlib.Core.Path.{_≡_, refl, _∙_}
-use mathlib.Core.Bool.{Bool, true, false, _&&_, _||_, cond}
+use mathlib.Core.Bool.{Bool, true, false, _&&_, _||_}
 use mathlib.Core.List.{List, [], _∷_, _++_}
 use Prim.Native.Nat.{ℕ, zero, suc, _+_, _-_, _*_, _/_, _<_, _≤_}
 use native.Mathlib.Omega.{arith}
@@ -14,6 +14,7 @@ use Rattle.float.specs.Float.{k0, k1}
 use Rattle.float.specs.MinMax.{maxOf}
 use Rattle.geometry.specs.declared.Rect.{Rect}
 use Rattle.geometry.specs.Answer.{Answer, accepted, refused}
+use Rattle.geometry.specs.Choice.{either}
 use Rattle.geometry.specs.Rect.{newOf, emptyRect}
 use Rattle.layout.specs.declared.Cutouts.{Cutouts}
 use Rattle.layout.specs.Layout.{cutoutList}
@@ -127,10 +128,6 @@ module _ (Screen : Float → Float → Type 0) (Picture : Rect → Type 0) (Plac
   parts bytes = order-holds P each start bytes
 
 -- ---- limits
-either : {A : Type 0} (P : A → Type 0) (b : Bool) {x y : A} → P x → P y → P (cond b x y)
-either P true p q = p
-either P false p q = q
-
 zero-in-limits : inLimitsOf least k0 ≡ true
 unfolding inLimitsOf le lt eq neg ofBits
 zero-in-limits = refl

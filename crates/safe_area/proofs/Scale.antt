@@ -1,6 +1,6 @@
 -- Document 01's limits keep differences and casts in range, and tests of what is read back are tests of what was stored.
 use mathlib.Core.Path.{_≡_, refl, _∙_}
-use mathlib.Core.Bool.{Bool, true, false, _&&_, cond, and-true, and-eq-true-iff}
+use mathlib.Core.Bool.{Bool, true, false, _&&_, and-true, and-eq-true-iff}
 use mathlib.Core.List.{List, [], _∷_}
 use Prim.Native.Nat.{ℕ, zero, suc, _+_, _-_, _^_, _≤_}
 use native.Mathlib.Omega.{arith}
@@ -13,12 +13,9 @@ use mir.Val.{SFits, ofZ}
 use mir.Facts.{toZ-ofZ}
 use borrow.Author.Needs.{sfits-of}
 use borrow.Author.Tests.{leb-true, eqb-true, eqb-false, eq-eqb, ne-eqb}
+use Rattle.geometry.specs.Choice.{either}
 use Rattle.geometry.proofs.Signed.{back}
 use Rattle.safe_area.specs.Safe.{at, eqZ, maxOf, clampOf, withinLimitsOf, onScaleOf, allOnScaleOf, sameSizeOf, currentEdgesOf}
-
-pub cond-keeps : {A : Type 0} (P : A → Type 0) (t : Bool) {x y : A} → P x → P y → P (cond t x y)
-cond-keeps P true p q = p
-cond-keeps P false p q = q
 
 -- ---- tests
 pub ltZ-back : {a b : ℤ} {t : Bool} → SFits w32 a → SFits w32 b → ltZ (back a) (back b) ≡ t → ltZ a b ≡ t
@@ -52,7 +49,7 @@ within-at (x ∷ xs) zero h = and-eq-true-iff (withinLimitsOf x) (onScaleOf xs) 
 within-at (x ∷ xs) (suc i) h = within-at xs i (and-eq-true-iff (withinLimitsOf x) (onScaleOf xs) .0 h .1)
 
 mag-subℕ : (a b : ℕ) → mag (subℕ a b) ≤ a + b
-mag-subℕ a b = cond-keeps (λ z. mag z ≤ a + b) (ltb a b) (omega arith) (omega arith)
+mag-subℕ a b = either (λ z. mag z ≤ a + b) (ltb a b) (omega arith) (omega arith)
 
 pub mag-sub : (a b : ℤ) → mag (a -ℤ b) ≤ mag a + mag b + 2
 mag-sub (pos a) (pos zero) = omega arith
@@ -75,7 +72,7 @@ cast-small z h = rw (back-small z h) (in-float z h)
 
 max-mag : (k : ℕ) (a b : ℤ) → mag a ≤ k → mag b ≤ k → mag (maxOf a b) ≤ k
 unfolding maxOf
-max-mag k a b p q = cond-keeps (λ z. mag z ≤ k) (ltZ a b) q p
+max-mag k a b p q = either (λ z. mag z ≤ k) (ltZ a b) q p
 
 -- ---- a span: its start, the differences up to its extent, and the extent
 pub record Measured (whole near far start end : ℤ) : Type 0 where
@@ -98,7 +95,7 @@ module _ {whole near far least start end : ℤ} where
       let l : least ≡ maxOf whole (pos 0) = el ∙ rw bw in
       let hl : mag least ≤ 8192 = rw l (max-mag 8192 whole (pos 0) hw (omega arith)) in
       let s : start ≡ clampOf near (pos 0) least = es ∙ rw (back-small near (omega arith), back-small least (omega arith)) in
-      let hs : mag start ≤ 8192 = rw s (cond-keeps (λ z. mag z ≤ 8192) (ltZ near (pos 0)) (omega arith) (cond-keeps (λ z. mag z ≤ 8192) (ltZ least near) hl hn)) in
+      let hs : mag start ≤ 8192 = rw s (either (λ z. mag z ≤ 8192) (ltZ near (pos 0)) (omega arith) (either (λ z. mag z ≤ 8192) (ltZ least near) hl hn)) in
       let e : end ≡ maxOf far (pos 0) = ee ∙ rw (back-small far (omega arith)) in
       let he : mag end ≤ 8192 = rw e (max-mag 8192 far (pos 0) hf (omega arith)) in
       let bs = back-small start (omega arith) in
@@ -130,4 +127,4 @@ sizes-and-edges a b c h =
 
 pub current-on-scale : (size inset edges : List ℤ) {current : List ℤ} → current ≡ currentEdgesOf size inset edges → onScaleOf edges ≡ true → onScaleOf current ≡ true
 unfolding currentEdgesOf onScaleOf withinLimitsOf
-current-on-scale size inset edges e h = rw e (cond-keeps (λ xs. onScaleOf xs ≡ true) (sameSizeOf size inset) h refl)
+current-on-scale size inset edges e h = rw e (either (λ xs. onScaleOf xs ≡ true) (sameSizeOf size inset) h refl)

@@ -11,6 +11,7 @@ use Rattle.float.specs.Float.{_⊕_, _⊘_, k0·01}
 use Rattle.float.proofs.Order.{lt-trans, lt-irrefl, lt-not-eq, min-below}
 use Rattle.geometry.specs.declared.Rect.{Rect}
 use Rattle.geometry.specs.Rect.{newOf}
+use Rattle.geometry.specs.Choice.{either}
 use Rattle.layout.specs.Layout.{anyRect}
 use Rattle.layout.proofs.Loops.{next-of, none-left}
 use Rattle.search.specs.Search.{bottomOf, rightOf, narrowOf, narrowSideOf, betterOf}
@@ -19,17 +20,13 @@ use Rattle.search.specs.Search.{bottomOf, rightOf, narrowOf, narrowSideO
 abbrev pub Narrows : (Float → Rect → Float) → Float → Type 0
 Narrows f b = (width : Float) (r : Rect) → T (lt width b) → T (lt (f width r) b)
 
-either : (t : Bool) (a c b : Float) → T (lt a b) → T (lt c b) → T (lt (cond t a c) b)
-either true a c b p q = p
-either false a c b p q = q
-
 pub narrow-below : (center aspect y b : Float) → Narrows (narrowOf center aspect y) b
 unfolding narrowOf
-narrow-below center aspect y b width r p = either (le (bottomOf r) (y ⊕ k0·01)) _ _ b p (min-below width _ b p)
+narrow-below center aspect y b width r p = either (λ v. T (lt v b)) (le (bottomOf r) (y ⊕ k0·01)) p (min-below width _ b p)
 
 pub narrow-side-below : (aspect x y b : Float) → Narrows (narrowSideOf aspect x y) b
 unfolding narrowSideOf
-narrow-side-below aspect x y b width r p = either (le (rightOf r) (x ⊕ k0·01) || le (bottomOf r) (y ⊕ k0·01)) _ _ b p (min-below width _ b p)
+narrow-side-below aspect x y b width r p = either (λ v. T (lt v b)) (le (rightOf r) (x ⊕ k0·01) || le (bottomOf r) (y ⊕ k0·01)) p (min-below width _ b p)
 
 fold-below : (f : Float → Rect → Float) (b : Float) → Narrows f b → (rest : List Rect) (width : Float) → T (lt width b) → T (lt (foldl f width rest) b)
 fold-below f b keeps [] width p = p
