@@ -1,5 +1,5 @@
 -- `mask_near` of input.rs: the mask of a touch, by the three sources of its bits. Definitions only.
-use mathlib.Core.Bool.{Bool, false, cond, not, _&&_, _||_}
+use mathlib.Core.Bool.{Bool, cond, not, _&&_, _||_}
 use mathlib.Core.List.{List, foldl}
 use Prim.Native.Nat.{ℕ, _^_}
 use lib.Bits.{bitAnd, bitOr}
@@ -83,12 +83,12 @@ nearerOf x y free previous best c =
     let mask = maskOf (c .label) in
     let distance = distanceOf (c .bounds) x y (not (eqb (bitAnd previous mask) 0)) in
     cond (isFaceOf (c .label) && (reachedOf (c .bounds) x y free && lt distance (best .closest)))
-    (record { mask = mask; inside = containsOf (c .bounds) x y; closest = distance })
+    (record { mask = mask; closest = distance })
     best
 
 -- no button, at an infinite distance
 abbrev pub noFace : Face
-noFace = record { mask = 0; inside = false; closest = ofBits binary32 0x7f800000 }
+noFace = record { mask = 0; closest = ofBits binary32 0x7f800000 }
 
 unfoldable pub nearest : Float → Float → Bool → ℕ → List Control → Face
 nearest x y free previous controls = foldl (nearerOf x y free previous) noFace controls

@@ -18,8 +18,6 @@ const SQRT_2: f32 = 1.41421356237309504880;
 pub struct Face {
     // Its bit, or 0 where there is none.
     pub mask: u16,
-    // Its box holds the touch, not only its margin.
-    pub inside: bool,
     pub closest: f32,
 }
 
@@ -179,13 +177,10 @@ fn nearer(best: Faces, c: Control, x: f32, y: f32, outside: bool, previous: u16)
         let mask = label.mask();
         let inside = r.contains(x, y);
         let closest = distance(r, x, y, previous & mask != 0);
-        let face = Face {
-            mask,
-            inside,
-            closest,
-        };
+        let face = Face { mask, closest };
         let free = closer(best.free, face);
         let taken = best.taken;
+        // Its box holds the touch, not only its margin.
         if inside {
             return Faces {
                 free,
@@ -230,7 +225,6 @@ pub fn mask_near(l: Layout, x: f32, y: f32, previous: u16) -> u16
     let controls = l.controls;
     let none = Face {
         mask: 0,
-        inside: false,
         closest: f32::from_bits(0x7f80_0000),
     };
     let mut others: u16 = 0;

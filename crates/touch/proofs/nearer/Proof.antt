@@ -41,11 +41,11 @@ module _ (x y : Float) (previous : ℕ) (best : Face) (c : Control) (free : Bool
       go false t b face e = refl
 
   -- and at one that is
-  turn : {t k : Bool} {m : ℕ} {d : Float} {r : Face} → t ≡ near x y c free → t ≡ true → m ≡ maskOf (c .label) → k ≡ containsOf (c .bounds) x y
-      → d ≡ distanceOf (c .bounds) x y (not (eqb (bitAnd previous m) 0)) → r ≡ cond (lt d (best .closest)) (record { mask = m; inside = k; closest = d }) best
+  turn : {t : Bool} {m : ℕ} {d : Float} {r : Face} → t ≡ near x y c free → t ≡ true → m ≡ maskOf (c .label)
+      → d ≡ distanceOf (c .bounds) x y (not (eqb (bitAnd previous m) 0)) → r ≡ cond (lt d (best .closest)) (record { mask = m; closest = d }) best
       → r ≡ nearerOf x y free previous best c
   unfolding nearerOf
-  turn p q m k d e = go (isFaceOf (c .label)) (reachedOf (c .bounds) x y free) _ _ (sym p ∙ q) (rw (d, m, k) at e)
+  turn p q m d e = go (isFaceOf (c .label)) (reachedOf (c .bounds) x y free) _ _ (sym p ∙ q) (rw (d, m) at e)
     where
       go : (f t b : Bool) (face : Face) {r : Face} → (f && t) ≡ true → r ≡ cond b face best → r ≡ cond (f && (t && b)) face best
       go true true b face e q = q
@@ -60,8 +60,8 @@ returns c =
     let t = i .before .face-reached .ensures in
     let k = d .before .contains .ensures in
     let m = d .before .before .mask .ensures in (
-      turn (s .x) (s .y) (s .previous) (s .best .free) (s .c) (s .outside) t (i .if1 .taken) m k (d .distance .ensures) (c .before .before .before .closer .ensures),
-      turn (s .x) (s .y) (s .previous) (s .best .taken) (s .c) false (bare (s .x) (s .y) (s .c) (s .outside) t k) (rw (i .if1 .taken, c .before .if2 .taken)) m k (d .distance .ensures) (c .closer2 .ensures),
+      turn (s .x) (s .y) (s .previous) (s .best .free) (s .c) (s .outside) t (i .if1 .taken) m (d .distance .ensures) (c .before .before .before .closer .ensures),
+      turn (s .x) (s .y) (s .previous) (s .best .taken) (s .c) false (bare (s .x) (s .y) (s .c) (s .outside) t k) (rw (i .if1 .taken, c .before .if2 .taken)) m (d .distance .ensures) (c .closer2 .ensures),
     )
 
 returns-2 : tie.Need-returns-2
@@ -71,7 +71,7 @@ returns-2 c =
     let s = i .before .before .args in
     let t = i .before .face-reached .ensures in
     let k = d .before .contains .ensures in (
-      turn (s .x) (s .y) (s .previous) (s .best .free) (s .c) (s .outside) t (i .if1 .taken) (d .before .before .mask .ensures) k (d .distance .ensures) (c .before .before .closer .ensures),
+      turn (s .x) (s .y) (s .previous) (s .best .free) (s .c) (s .outside) t (i .if1 .taken) (d .before .before .mask .ensures) (d .distance .ensures) (c .before .before .closer .ensures),
       far (s .x) (s .y) (s .previous) (s .best .taken) (s .c) false (bare (s .x) (s .y) (s .c) (s .outside) t k) (rw (i .if1 .taken, c .if2 .left)),
     )
 
