@@ -94,11 +94,14 @@ composedOf w wells dock =
       stickcount = 0;
     }
 
-unfoldable pub arrangedOf : Float → Float → Bool → Layout
-arrangedOf w h compact =
+-- the layout before the toolbar and the game are put in place
+unfoldable pub dockedOf : Float → Float → Bool → Layout
+dockedOf w h compact =
     let wells = sizeWellsOf w h compact in
-    let dock = placeDockOf compact w h wells (maxOf (w ⊘ k2 ⊖ k196) k16) (minOf (w ⊘ k2 ⊕ k100) (w ⊖ k112)) in
-    finishedOf (composedOf w wells dock) w h
+    composedOf w wells (placeDockOf compact w h wells (maxOf (w ⊘ k2 ⊖ k196) k16) (minOf (w ⊘ k2 ⊕ k100) (w ⊖ k112)))
+
+unfoldable pub arrangedOf : Float → Float → Bool → Layout
+arrangedOf w h compact = finishedOf (dockedOf w h compact) w h
 
 -- ---- `side_rails`: the wells in rails beside a picture of full height
 

@@ -17,7 +17,7 @@ use Rattle.search.specs.Search.{placeGameInAspectOf}
 use Rattle.toolbar.specs.Toolbar.{anchorToolbarOf}
 use Rattle.arranged.specs.declared.Places.{Places}
 use Rattle.arranged.specs.Places.{moved, placedOf}
-use Rattle.arranged.specs.Arranged.{finishedOf, composedOf, arrangedOf, railedOf, requestedOf, narrowOf, sideRailsOf}
+use Rattle.arranged.specs.Arranged.{finishedOf, composedOf, dockedOf, arrangedOf, railedOf, requestedOf, narrowOf, sideRailsOf}
 
 -- a layout of these labels, and of so many sticks
 abbrev pub Inputs : List Label → ℕ → Layout → Type 0
@@ -46,7 +46,7 @@ finished-counts l w h = (refl, refl)
 
 module _ (w h : Float) where
   pub arranged-inputs : (compact : Bool) → Inputs standardLabels 0 (arrangedOf w h compact)
-  unfolding arrangedOf composedOf
+  unfolding arrangedOf dockedOf composedOf
   arranged-inputs compact = finished-inputs standardLabels 0 _ w h (refl, refl, refl)
 
   railed-inputs : (cluster : Float) → Inputs standardLabels 0 (railedOf w h cluster)

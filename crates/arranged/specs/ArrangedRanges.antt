@@ -3,8 +3,7 @@ use mathlib.Core.Bool.{Bool, true, false, cond, not, _||_}
 use mathlib.Core.List.{List, [], foldl}
 use lib.Dec.{T}
 use lib.Ieee.{Float, lt}
-use Rattle.float.specs.Float.{_⊕_, _⊖_, _⊘_, k0, k1, k2, k3, k4, k16, k100, k112, k122, k196}
-use Rattle.float.specs.MinMax.{minOf, maxOf}
+use Rattle.float.specs.Float.{_⊖_, _⊘_, k0, k1, k3, k4, k16, k122}
 use Rattle.geometry.specs.declared.Rect.{Rect}
 use Rattle.geometry.specs.Rect.{newOf, emptyRect, overlapsOf}
 use Rattle.layout.specs.declared.Layout.{Layout}
@@ -23,7 +22,7 @@ use Rattle.toolbar.specs.ToolbarRanges.{uncovered-in, anchor-in}
 use Rattle.arranged.specs.declared.Wells.{Wells}
 use Rattle.arranged.specs.declared.Dock.{Dock}
 use Rattle.arranged.specs.declared.Rails.{Rails}
-use Rattle.arranged.specs.Arranged.{middle, finishedOf, sizeWellsOf, placeDockOf, composedOf, arrangedOf, measureRailsOf, railPlacesOf, railedOf, requestedOf, narrowOf, sideRailsOf}
+use Rattle.arranged.specs.Arranged.{middle, finishedOf, sizeWellsOf, placeDockOf, composedOf, dockedOf, arrangedOf, measureRailsOf, railPlacesOf, railedOf, requestedOf, narrowOf, sideRailsOf}
 use Rattle.arranged.specs.PlaceRanges.{Coordinate, coordinate, cap-in, step-in, faces-in, PlacesIn, controls-placed}
 
 pub finished-in : {C D : Rect → Type 0} (l : Layout) {w h : Float} → In w (at 0) (at 8192) → In h (at 0) (at 8192) → Every C D l → Every C (Key margin) (finishedOf l w h)
@@ -104,13 +103,13 @@ composed-in W K D =
     }
 
 pub arranged-in : {w h : Float} (compact : Bool) → In w (at 0) (at 8192) → In h (at 0) (at 8192) → Arranged (arrangedOf w h compact)
-unfolding arrangedOf
+unfolding arrangedOf dockedOf
 arranged-in {w} {h} compact W H =
     let half = div-in W f2 tt in
     let wells = wells-in compact W H in
     let select = coordinate (max-in (sub-in half i196 tt) i16) tt in
     let start = coordinate (min-in (add-in half i100 tt) (sub-in W i112 tt)) tt in
-    finished-in (composedOf w (sizeWellsOf w h compact) (placeDockOf compact w h (sizeWellsOf w h compact) (maxOf (w ⊘ k2 ⊖ k196) k16) (minOf (w ⊘ k2 ⊕ k100) (w ⊖ k112)))) W H
+    finished-in (dockedOf w h compact) W H
     (composed-in W wells (dock-in compact W H wells select start))
 
 -- ---- `side_rails`

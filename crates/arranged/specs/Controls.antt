@@ -1,11 +1,10 @@
--- The controls of `arranged` and `side_rails`, before the toolbar and the game are put in place: a caller that puts these in
+-- The controls of `side_rails`, as `dockedOf` has those of `arranged`, before the toolbar and the game are put in place: a caller that puts these in
 -- place anew needs no more. Definitions that contracts use, and laws: finished, the controls are `arranged` and `side_rails`.
 use mathlib.Core.Path.{_≡_, refl}
 use mathlib.Core.Bool.{Bool, true, false, cond}
 use mathlib.Core.List.{List, [], foldl}
 use lib.Ieee.{Float, lt}
-use Rattle.float.specs.Float.{_⊕_, _⊖_, _⊘_, k0, k2, k16, k100, k112, k122, k196}
-use Rattle.float.specs.MinMax.{minOf, maxOf}
+use Rattle.float.specs.Float.{k0, k16, k122}
 use Rattle.geometry.specs.declared.Rect.{Rect}
 use Rattle.geometry.specs.Rect.{newOf}
 use Rattle.layout.specs.declared.Layout.{Layout}
@@ -15,15 +14,10 @@ use Rattle.toolbar.specs.Toolbar.{anchorToolbarOf}
 use Rattle.arranged.specs.declared.Places.{Places}
 use Rattle.arranged.specs.Places.{placedOf}
 use Rattle.arranged.specs.Anew.{bareOf, finished-anew}
-use Rattle.arranged.specs.Arranged.{finishedOf, sizeWellsOf, placeDockOf, composedOf, arrangedOf, measureRailsOf, railPlacesOf, railedOf, requestedOf, narrowOf, sideRailsOf}
+use Rattle.arranged.specs.Arranged.{finishedOf, dockedOf, arrangedOf, measureRailsOf, railPlacesOf, railedOf, requestedOf, narrowOf, sideRailsOf}
 
 abbrev pub anchoredOf : Layout → Float → Float → Layout
 anchoredOf l w h = anchorToolbarOf l w h k0 k0 []
-
-unfoldable pub dockedOf : Float → Float → Bool → Layout
-dockedOf w h compact =
-    let wells = sizeWellsOf w h compact in
-    composedOf w wells (placeDockOf compact w h wells (maxOf (w ⊘ k2 ⊖ k196) k16) (minOf (w ⊘ k2 ⊕ k100) (w ⊖ k112)))
 
 unfoldable pub railControlsOf : Float → Float → Float → Layout
 railControlsOf w h cluster =
@@ -37,7 +31,7 @@ sideControlsOf w h pictureHeight cutouts =
     cond (lt cluster k122) (dockedOf w h false) (railControlsOf w h cluster)
 
 pub arranged-finished : (w h : Float) (compact : Bool) → arrangedOf w h compact ≡ finishedOf (dockedOf w h compact) w h
-unfolding arrangedOf dockedOf
+unfolding arrangedOf
 arranged-finished w h compact = refl
 
 -- what was finished before, with its controls and its d-pad moved

@@ -21,7 +21,7 @@ use Rattle.layout.specs.PspLaws.{psp-controls, psp-labels}
 use Rattle.search.specs.Search.{placeGameInAspectOf}
 use Rattle.toolbar.specs.Toolbar.{anchorToolbarOf}
 use Rattle.arranged.specs.Places.{placedOf}
-use Rattle.arranged.specs.Arranged.{finishedOf, composedOf, arrangedOf, middle}
+use Rattle.arranged.specs.Arranged.{finishedOf, composedOf, dockedOf, arrangedOf, middle}
 use Rattle.arranged.specs.ArrangedLabels.{Inputs}
 use Rattle.band.specs.declared.Band.{Band}
 use Rattle.band.specs.Band.{aspectOf, findRoomOf, measureBandOf, withAnalogOf, bandedOf, controllerBandOf}
@@ -35,7 +35,7 @@ bandSticks analog psp = cond psp (cond analog 1 0) (cond analog 2 0)
 
 module _ (w h : Float) (deep : Bool) (b : Band) where
   banded-inputs : (analog : Bool) → Inputs (bandLabels analog false) (bandSticks analog false) (bandedOf w h analog deep b)
-  unfolding bandedOf withAnalogOf placedOf mapFirst arrangedOf finishedOf placeGameInAspectOf anchorToolbarOf composedOf
+  unfolding bandedOf withAnalogOf placedOf mapFirst arrangedOf dockedOf finishedOf placeGameInAspectOf anchorToolbarOf composedOf
   banded-inputs true = (refl, refl, refl)
   banded-inputs false = (refl, refl, refl)
 

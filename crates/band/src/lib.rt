@@ -3,7 +3,7 @@ ghost use mathlib.Core.Path.{_≡_};
 ghost use mathlib.Core.Bool.{false, cond};
 ghost use Prim.Native.Nat.{_+_, _≤_};
 ghost use Rattle.layout.specs.Psp.{pspInputsOf};
-ghost use Rattle.arranged.specs.Controls.{dockedOf};
+ghost use Rattle.arranged.specs.Arranged.{dockedOf};
 ghost use Rattle.arranged.specs.Places.{maybe};
 ghost use Rattle.band.specs.Band.{findRoomOf, measureBandOf, plainPlacesOf, deepPlacesOf, rowPlacesOf, bandPlacesOf, withAnalogOf, bandedFrom, aspectOf, controllerBandOf};
 use arranged::Faces;

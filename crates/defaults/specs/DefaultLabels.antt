@@ -31,7 +31,7 @@ use Rattle.search.specs.Search.{placeGameInAspectOf}
 use Rattle.toolbar.specs.Toolbar.{anchorToolbarOf}
 use Rattle.arranged.specs.declared.Places.{Places}
 use Rattle.arranged.specs.Places.{moved, placedOf}
-use Rattle.arranged.specs.Arranged.{control, middle, finishedOf, composedOf, arrangedOf, railedOf, requestedOf, narrowOf, sideRailsOf}
+use Rattle.arranged.specs.Arranged.{control, middle, finishedOf, composedOf, dockedOf, arrangedOf, railedOf, requestedOf, narrowOf, sideRailsOf}
 use Rattle.arranged.specs.ArrangedLabels.{Inputs, placed-inputs, finished-inputs, arranged-inputs, side-rails-inputs}
 use Rattle.band.specs.declared.Band.{Band}
 use Rattle.band.specs.declared.Room.{Room}
@@ -66,7 +66,7 @@ unfolding finishedOf placeGameInAspectOf anchorToolbarOf
 finished-arrays l w h a = a
 
 pub arranged-arrays : (w h : Float) (compact : Bool) → Arrays (arrangedOf w h compact)
-unfolding arrangedOf composedOf
+unfolding arrangedOf dockedOf composedOf
 arranged-arrays w h compact = finished-arrays _ w h (refl, refl)
 
 side-rails-arrays : (w h pictureHeight : Float) (cutouts : List Rect) → Arrays (sideRailsOf w h pictureHeight cutouts)
@@ -100,7 +100,7 @@ banded-arrays w h true deep b = with-analog-arrays _ _ _ _ _ (placed-arrays (arr
 banded-arrays w h false deep b = placed-arrays (arrangedOf w h false) _ (arranged-arrays w h false)
 
 banded-few : (w h : Float) (analog deep : Bool) (b : Band) → bandedOf w h analog deep b .count ≤ 12
-unfolding bandedOf withAnalogOf placedOf arrangedOf finishedOf placeGameInAspectOf anchorToolbarOf composedOf
+unfolding bandedOf withAnalogOf placedOf arrangedOf dockedOf finishedOf placeGameInAspectOf anchorToolbarOf composedOf
 banded-few w h true deep b = omega arith
 banded-few w h false deep b = omega arith
 

@@ -1,6 +1,6 @@
 use native.Mathlib.Omega.{arith}
 use borrow.Author.Needs.{needs}
-use Rattle.arranged.specs.Controls.{dockedOf}
+use Rattle.arranged.specs.Arranged.{dockedOf}
 use Rattle.arranged.proofs.docked.Statement.{statement}
 use Rattle.arranged.proofs.docked.Tie as tie
 
