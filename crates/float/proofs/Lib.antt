@@ -1,3 +1,4 @@
 pub mod Magnitude
 pub mod Literals
 pub mod Order
+pub mod Nan

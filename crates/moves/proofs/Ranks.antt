@@ -1,20 +1,14 @@
 -- Ranks: the code's cases of a number are those of its bit pattern.
-use mathlib.Core.Path.{_≡_, sym, subst, _∙_}
-use mathlib.Core.Bool.{Bool, true, false, not}
+use mathlib.Core.Path.{_≡_, sym, subst}
+use mathlib.Core.Bool.{true}
 use Prim.Native.Nat.{_+_, _-_, _<_, _≤_}
 use lib.Dec.{T}
 use native.Mathlib.Omega.{arith}
-use lib.Ieee.{Float, nan, inf, fin, binary32, ne, isNan, toBits, fits}
+use lib.Ieee.{Float, binary32, ne, toBits, fits}
 use lib.Ieee.Bits.{toBits-lt}
-use lib.Ieee.Compare.{differs-from-itself, nan-differs}
+use lib.Ieee.Compare.{differs-from-itself}
 use borrow.Author.Tests.{lt-ltb, le-ltb}
 use Rattle.moves.specs.Moves.{rankOf}
-
-pub is-number : (x : Float) → ne x x ≡ false → T (not (isNan x))
-unfolding isNan ne
-is-number nan e = subst (λ (b : Bool). T (not b)) (sym (sym nan-differs ∙ e) ∙ nan-differs) tt
-is-number (inf s) e = tt
-is-number (fin s m d) e = tt
 
 pub rank-nan : (x : Float) → ne x x ≡ true → 0xffc0_0000 ≡ rankOf x
 unfolding rankOf toBits

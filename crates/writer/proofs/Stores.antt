@@ -1,14 +1,10 @@
 -- Runs of stores, one after the other, and what they leave of the output.
 use mathlib.Core.Path.{_≡_, refl, ap, sym, _∙_}
-use mathlib.Core.Bool.{true, false, not}
 use mathlib.Core.List.{List, [], _∷_, _++_, append-nil, append-assoc}
 use Prim.Native.Nat.{ℕ, suc, _+_, _*_, _<_, _≤_}
 use native.Mathlib.Numerals.{add-one}
 use native.Mathlib.Omega.{arith}
 use borrow.Author.Tests.{le-leb, lt-leb}
-use lib.Dec.{T}
-use lib.Ieee.{Float, nan, inf, fin, isNan, ne}
-use lib.Ieee.Compare.{differs-from-itself, nan-differs}
 use lib.ListN.{length, set, drop, take, getD, length-append}
 use lib.Seq.{sets, sets-eq, length-sets, take-suc, length-take-le}
 use Rattle.geometry.specs.declared.Rect.{Rect}
@@ -84,16 +80,6 @@ module _ {A : Type 0} (f : A → List ℕ) (w : ℕ) (each : (a : A) → length 
   next-item l at rs i d h p q =
       let e : length (flatMap f (take i rs)) ≡ w * i = length-items f w each (take i rs) ∙ ap (λ (k : ℕ). w * k) (length-take-le i rs (omega arith)) in
       rw (add-one, take-suc rs i d h, items-snoc (take i rs) (getD rs i d)) (then l at (at + w * i) (flatMap f (take i rs)) (f (getD rs i d)) p q (ap (λ (k : ℕ). at + k) e))
-
--- ---- NaN
-pub not-nan : (x : Float) → ne x x ≡ false → T (not (isNan x))
-unfolding isNan
-not-nan nan e = let z : _≡_ {A = ℕ} 0 1 = cc (nan-differs) in omega arith
-not-nan (inf s) e = tt
-not-nan (fin s m d) e = tt
-
-pub is-nan : (x : Float) → ne x x ≡ true → x ≡ nan
-is-nan x e = differs-from-itself x (rw e tt)
 
 -- ---- the whole layout
 module _ (l : Layout) (cs : l .count ≤ length (l .controls)) (ss : l .stickcount ≤ length (l .sticks)) (out : List ℕ) where

@@ -1,4 +1,5 @@
-use Rattle.moves.proofs.Ranks.{is-number, rank-nan, rank-up, rank-down, bits-below}
+use Rattle.float.proofs.Nan.{no-nan}
+use Rattle.moves.proofs.Ranks.{rank-nan, rank-up, rank-down, bits-below}
 use borrow.Author.Needs.{needs}
 use Rattle.moves.proofs.rank.Statement.{statement}
 use Rattle.moves.proofs.rank.Tie as tie
@@ -7,7 +8,7 @@ returns : tie.Need-returns
 returns c = rank-nan _ (c .if1 .taken)
 
 float-to-bits-b : tie.Need-float-to-bits-b
-float-to-bits-b c = is-number _ (c .if1 .left)
+float-to-bits-b c = no-nan _ (c .if1 .left)
 
 add-result : tie.Need-add-result
 add-result c = search needs

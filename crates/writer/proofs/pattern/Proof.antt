@@ -1,7 +1,7 @@
 use borrow.Author.Tests.{eq-eqb, ne-eqb}
 use lib.Ieee.{toBits}
 use Rattle.writer.specs.Bytes.{patternOf}
-use Rattle.writer.proofs.Stores.{is-nan, not-nan}
+use Rattle.float.proofs.Nan.{is-nan, no-nan}
 use Rattle.writer.proofs.pattern.Statement.{statement}
 use Rattle.writer.proofs.pattern.Tie as tie
 
@@ -10,7 +10,7 @@ unfolding patternOf toBits
 returns c = rw (is-nan _ (c .if1 .taken))
 
 float-to-bits-n : tie.Need-float-to-bits-n
-float-to-bits-n c = not-nan _ (c .if1 .left)
+float-to-bits-n c = no-nan _ (c .if1 .left)
 
 returns-2 : tie.Need-returns-2
 unfolding patternOf
