@@ -112,7 +112,6 @@ measureRailsOf w h cluster =
     let shoulder = minOf ((cluster ⊖ k8) ⊘ k2) k64 in
     record {
       w = w;
-      cluster = cluster;
       y = y;
       size = size;
       offset = (cluster ⊖ size) ⊘ k2;

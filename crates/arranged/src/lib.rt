@@ -441,7 +441,6 @@ pub fn arranged(w: f32, h: f32, compact: bool) -> Layout
 
 pub struct Rails {
     pub w: f32,
-    pub cluster: f32,
     pub y: f32,
     pub size: f32,
     pub offset: f32,
@@ -462,7 +461,6 @@ fn measure_rails(w: f32, h: f32, cluster: f32) -> Rails
     let shoulder = min((cluster - 8.0) / 2.0, 64.0);
     Rails {
         w,
-        cluster,
         y,
         size,
         offset: (cluster - size) / 2.0,
