@@ -2,12 +2,11 @@
 use mathlib.Core.Bool.{Bool, true, false, cond, not, _||_}
 use mathlib.Core.List.{List, [], _∷_}
 use Prim.Native.Nat.{ℕ, zero, _+_, _≤_, _<_}
-use native.Mathlib.Nat.{mul-le-mul-left}
 use native.Mathlib.Omega.{arith}
-use lib.Dec.{T, leb, leb→le, ltb}
+use lib.Dec.{T, ltb}
 use lib.Ieee.{Float, lt}
 use lib.ListN.{length, getD, set}
-use Rattle.float.specs.Float.{_⊖_, k1, k18, k104, k122}
+use Rattle.float.specs.Float.{k1, k18, k104, k122}
 use Rattle.geometry.specs.declared.Rect.{Rect}
 use Rattle.geometry.specs.Rect.{emptyRect}
 use Rattle.layout.specs.declared.Control.{Control}
@@ -19,14 +18,13 @@ use Rattle.layout.specs.ActionLaws.{action-bounds}
 use Rattle.layout.specs.Label.{isFaceOf}
 use Rattle.layout.specs.Layout.{anyRect, controlList, elementsOf}
 use Rattle.layout.specs.Lists.{mapFirst, filterMap, reduce}
-use Rattle.numerics.specs.Value.{AtMost, eps, limit}
+use Rattle.numerics.specs.Value.{AtMost}
 use Rattle.numerics.specs.Rects.{Area, Element, OnScreen, maxArea, maxCorner, maxSide}
-use Rattle.numerics.specs.Range.{In, at, minus, reach}
+use Rattle.numerics.specs.Range.{In, at, minus}
 use Rattle.numerics.specs.Each.{Each}
 use Rattle.numerics.specs.Lists.{each-take, each-set, each-imp, fold-ind}
-use Rattle.numerics.specs.Operations.{sub-near}
-use Rattle.numerics.specs.Bounds.{lt-not, most-more, room}
-use Rattle.numerics.specs.Ranges.{in-more, in-reach, most-in, add-in, sub-in, div-in, times-in, min-in, raise, range-most, element-in, placed-element}
+use Rattle.numerics.specs.Bounds.{lt-not, most-more}
+use Rattle.numerics.specs.Ranges.{in-more, most-in, add-in, sub-in, sub-back, div-in, times-in, min-in, raise, range-most, element-in, placed-element}
 use Rattle.numerics.specs.Literals.{i0, i0·5, i1, i4, i8, i16, i18, i24, i48, i64, i72, i104, i120, i122, f2}
 use Rattle.numerics.specs.Shrunk.{shrunkMargin}
 use Rattle.search.specs.Bounded.{Every, Bounded, BoundedGame}
@@ -61,13 +59,6 @@ record RowIn (r : Row) : Type 0 where
   pub sticky : In (r .sticky) (minus 8400) (at 8192)
   pub facey : In (r .facey) (at 0) (at 8192)
   pub shouldery : In (r .shouldery) (at 0) (at 8192)
-
--- the lower end of a difference gives one to its first number
-sub-back : {x y : Float} {a b c d e f : ℕ} (k : ℕ) → In x a b → In y c d → In (x ⊖ y) e f → T (ltb (reach a b + reach c d) limit) → T (leb (k + (limit + 1)) (e + c)) → In x k b
-sub-back {x} {y} {a} {b} {c} {d} {e} k i j r s t =
-    let n = sub-near x y (i .whole) (j .whole) (room x y (reach a b) (reach c d) (in-reach i) (in-reach j) s) in
-    let m = mul-le-mul-left eps (leb→le (k + (limit + 1)) (e + c) t) in
-    record { whole = i .whole; lo = omega (arith, n .over, j .lo, r .lo, m); hi = i .hi }
 
 -- no test holds
 none : (a b c : Bool) → T (not (a || (b || c))) → T (not a) × T (not b) × T (not c)

@@ -83,6 +83,13 @@ sub-in {x} {y} {a} {b} {a'} {b'} i j t =
     let l = times-sub eps (b + limit + 1) a' (leb→le a' (b + limit + 1) (and-r r2 r3 (and-r r1 (r2 && r3) t))) in
     record { whole = n .whole; lo = omega (arith, n .under, i .lo, j .hi, k); hi = omega (arith, n .over, i .hi, j .lo, l) }
 
+-- the lower end of a difference gives one to its first number
+pub sub-back : {x y : Float} {a b c d e f : ℕ} (k : ℕ) → In x a b → In y c d → In (x ⊖ y) e f → T (ltb (reach a b + reach c d) limit) → T (leb (k + (limit + 1)) (e + c)) → In x k b
+sub-back {x} {y} {a} {b} {c} {d} {e} k i j r s t =
+    let n = sub-near x y (i .whole) (j .whole) (room x y (reach a b) (reach c d) (in-reach i) (in-reach j) s) in
+    let m = mul-le-mul-left eps (leb→le (k + (limit + 1)) (e + c) t) in
+    record { whole = i .whole; lo = omega (arith, n .over, j .lo, r .lo, m); hi = i .hi }
+
 -- ---- the product by a fraction A / B, and the quotient: the range is worked out, and checked
 abbrev pub lowBy : ℕ → ℕ → ℕ → ℕ
 lowBy a A B = (a * A + limit * B - (limit * A + B)) / B

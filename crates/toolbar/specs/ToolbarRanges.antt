@@ -1,11 +1,8 @@
 -- The toolbar's keys are in range: `anchor_toolbar` keeps a layout in range.
-use mathlib.Core.Path.{_≡_, sym, ap, _∙_}
 use mathlib.Core.Bool.{Bool, true, false, cond, not, _&&_}
 use mathlib.Core.List.{List, [], _∷_, _++_, map}
-use Prim.Native.Nat.{ℕ, zero, suc, _+_, _-_, _*_, _≤_}
-use native.Mathlib.Nat.{mul-add, sub-add-cancel}
-use native.Mathlib.Omega.{arith}
-use lib.Dec.{T, leb, ltb, leb→le}
+use Prim.Native.Nat.{ℕ, zero, suc, _+_, _≤_}
+use lib.Dec.{T}
 use lib.Ieee.{Float, lt, le, ofBits}
 use lib.Ieee.Fits.{and-l, and-r}
 use lib.ListN.{length}
@@ -17,25 +14,16 @@ use Rattle.layout.specs.Layout.{elementOf, controlList, stickList}
 use Rattle.layout.specs.Elements.{boundsOf, controllerElementsOf}
 use Rattle.layout.specs.ElementLaws.{controller-elements}
 use Rattle.layout.specs.Lists.{anyOf, find}
-use Rattle.numerics.specs.Value.{eps, limit}
 use Rattle.numerics.specs.Rects.{Element, Key, margin}
-use Rattle.numerics.specs.Range.{In, at, minus, reach}
+use Rattle.numerics.specs.Range.{In, at, minus}
 use Rattle.numerics.specs.Each.{Each, _&_}
 use Rattle.numerics.specs.Lists.{each-take, each-append, each-map}
-use Rattle.numerics.specs.Operations.{sub-near}
-use Rattle.numerics.specs.Bounds.{room, lt-law}
-use Rattle.numerics.specs.Ranges.{in-reach, in-more, most-in, add-in, subable, sub-in, times-in, mul-in, div-in, min-in, max-in, clamp-in, cond-in, neg-in, raise, moved-in, placed-in}
+use Rattle.numerics.specs.Bounds.{lt-law}
+use Rattle.numerics.specs.Ranges.{in-reach, in-more, most-in, add-in, sub-in, sub-back, times-in, mul-in, div-in, min-in, max-in, clamp-in, cond-in, neg-in, raise, moved-in, placed-in}
 use Rattle.numerics.specs.Products.{product-most}
 use Rattle.numerics.specs.Literals.{i0, i0·01, i1, i1·4, i8, i18, i28, i40, f0·01, f0·055, f2, f3, f4}
 use Rattle.search.specs.Bounded.{Every, Bounded}
 use Rattle.toolbar.specs.Toolbar.{besideOf, roomOf, belowOf, moved, pass, pairOf, avoidedOf, anchorToolbarOf}
-
--- the lower end of x from that of x - y
-above-in : {x y : Float} {a b c d e f : ℕ} → In x a b → In y c d → In (x ⊖ y) e f → T (subable a b c d) → T (leb (limit + 1) (e + c)) → In x (e + c - (limit + 1)) b
-above-in {x} {y} {a} {b} {c} {d} {e} i j k t u =
-    let n = sub-near x y (i .whole) (j .whole) (room x y (reach a b) (reach c d) (in-reach i) (in-reach j) (and-l (ltb (reach a b + reach c d) limit) (leb (d + 1) (a + limit) && leb c (b + limit + 1)) t)) in
-    let m : eps * (e + c - (limit + 1)) + eps * (limit + 1) ≡ eps * (e + c) = sym (mul-add eps (e + c - (limit + 1)) (limit + 1)) ∙ ap (λ (z : ℕ). eps * z) (sub-add-cancel (leb→le (limit + 1) (e + c) u)) in
-    record { whole = i .whole; lo = omega (arith, n .over, j .lo, k .lo, m); hi = i .hi }
 
 -- what is found holds
 module _ {A B : Type 0} (C : B → Type 0) (D : A → Type 0) (p : A → Bool) (hit : A → B) (none : B) (found : (x : A) → D x → T (p x) → C (hit x)) (otherwise : C none) where
@@ -77,7 +65,7 @@ module _ (left : Bool) {w h : Float} (W : In w (at 0) (at 8192)) (H : In h (at 0
       let over = and-l t3 t4 (and-r t2 (t3 && t4) (and-r t1 (t2 && (t3 && t4)) t)) in
       let bottom = add-in (most-in (E .y) tt) (most-in (E .h) tt) tt in
       let less = sub-in bottom i0·01 tt in
-      let lower = above-in bottom i0·01 (raise less (B .y) (lt-law 1 (bar .y) (c .y ⊕ c .h ⊖ k0·01) (B .y .whole) (less .whole) over)) tt tt in
+      let lower = sub-back (minus 8193) bottom i0·01 (raise less (B .y) (lt-law 1 (bar .y) (c .y ⊕ c .h ⊖ k0·01) (B .y .whole) (less .whole) over)) tt tt in
       record { x = B .x; y = in-more (minus 8193) (at 8193) (min-in (add-in lower i8 tt) (max-in (sub-in H (B .h) tt) i0)) tt tt; w = B .w; h = B .h }
 
   moved-bar : (bar c : Rect) → BarIn bar → Element c → T (overlapsOf bar c) → BarIn (moved left w h obstacles bar c)
