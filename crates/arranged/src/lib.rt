@@ -20,7 +20,7 @@ use layout::Label;
 use layout::Layout;
 use search::Offset;
 
-const SQRT_2: f32 = 1.41421356237309504880168872420969807856967187537694;
+const SQRT_2: f32 = 1.41421356237309504880;
 
 // A layout, where there is one.
 pub struct MaybeLayout {

@@ -1,10 +1,11 @@
 -- What a host may count on: a number of bytes that fits, and a number below 0 only for one of the refusals, which leaves every output as it was.
 use mathlib.Core.Path.{_≡_, refl}
-use mathlib.Core.Bool.{Bool, true, false, cond}
+use mathlib.Core.Logic.{_⊎_, inl, inr}
+use mathlib.Core.Bool.{Bool, true, false, cond, not}
 use mathlib.Core.List.{List, _++_}
 use Prim.Native.Nat.{ℕ, zero, suc, _<_, _≤_}
 use native.Mathlib.Omega.{arith}
-use lib.Dec.{leb}
+use lib.Dec.{eqb, leb}
 use lib.Ieee.{Float}
 use lib.IntN.{ℤ, negsuc}
 use lib.ListN.{length, drop}
@@ -12,13 +13,14 @@ use lib.Signed.{mag}
 use Rattle.geometry.specs.Answer.{Answer, accepted, refused}
 use Rattle.settings.specs.declared.Settings.{Settings}
 use Rattle.settings.specs.Settings.{topsInLimitsOf}
+use Rattle.safe_area.specs.Safe.{allOnScaleOf, contentOf, safeContentOf, mergedOf, safeEdgesOf}
 use Rattle.reader.specs.Accepted.{refused-order}
-use Rattle.reader.specs.Order.{must, readOrderOf}
+use Rattle.reader.specs.Order.{must, andThen, readOrderOf}
 use Rattle.order.specs.Orders.{orderLayout, layoutOf, layoutOutputOf, orderViewport, viewportLayoutOf, viewportOutputOf}
 use Rattle.order.specs.OrderLaws.{bytesFor, roomFor, layout-answer, viewport-answer, layout-refused, viewport-refused, touch-refused}
 use Rattle.film_sheet.specs.Film.{filmTextOf, filmSheetOf}
 use Rattle.film_sheet.specs.FilmLaws.{film-fits}
-use Rattle.thumb_layout.specs.Interface.{numberOf, tlLayoutOf, tlTouchOf, tlViewportLayoutOf, tlFilmOf, tlFilmOutputOf, statusOf, fourOutput, contentFour, tlSafeContentOf, tlSafeContentOutputOf, edgesFour, tlSafeEdgesOf, tlSafeEdgesOutputOf}
+use Rattle.thumb_layout.specs.Interface.{numberOf, tlLayoutOf, tlTouchOf, tlViewportLayoutOf, tlFilmOf, tlFilmOutputOf, twoOf, fourOf, areaNumbers, edgeNumbers, roomOf, statusOf, fourOutput, contentFour, tlSafeContentOf, tlSafeContentOutputOf, edgesFour, tlSafeEdgesOf, tlSafeEdgesOutputOf}
 
 -- ---- bytes: 353 at most
 room-small : (analog psp : Bool) (out : List ℕ) → mag (numberOf (roomFor (bytesFor analog psp) out)) ≤ 353
@@ -61,7 +63,7 @@ film-small order sheet = go (leb 1024 (length sheet))
     go true = film-fits order
     go false = omega arith
 
--- ---- numbers below 0: minus 1 to minus 8, and nothing changes
+-- ---- numbers below 0: minus one of the refusals, and nothing changes
 number-refused : (a : Answer ℕ) {n : ℕ} → numberOf a ≡ negsuc n → a ≡ refused (suc n)
 number-refused (accepted m) e = cc
 number-refused (refused zero) e = cc
@@ -89,14 +91,34 @@ film-below order sheet {n} e = go (leb 1024 (length sheet)) e
     go true e = (cc, cc)
     go false e = (cc, refl)
 
-four-below : {A : Type 0} (a : Answer (List A)) (out : List A) {n : ℕ} → statusOf a ≡ negsuc n → fourOutput a out ≡ out
-four-below (accepted v) out e = cc
-four-below (refused n) out e = refl
+-- the safe area is refused by 3, 6 or 8
+abbrev Safe : ℕ → Type 0
+Safe n = (n ≡ 2) ⊎ ((n ≡ 5) ⊎ (n ≡ 7))
 
-pub content-below : (numbers : List ℤ) (area : List Float) {n : ℕ} → tlSafeContentOf numbers area ≡ negsuc n → tlSafeContentOutputOf numbers area ≡ area
-unfolding tlSafeContentOf tlSafeContentOutputOf
-content-below numbers area e = four-below (contentFour numbers area) area e
+four-below : {A B : Type 0} (long scale : Bool) (x : B) (numbers : B → List A) (out : List A) {n : ℕ}
+    → let four = must long 3 (andThen (cond scale (accepted x) (refused 6)) (λ r. roomOf (numbers r) out)) in
+    statusOf four ≡ negsuc n → Safe n × (fourOutput four out ≡ out)
+unfolding must
+four-below false scale x numbers out e = (inl cc, refl)
+four-below true false x numbers out e = (inr (inl cc), refl)
+four-below true true x numbers out {n} e = go (leb 4 (length out)) e
+  where
+    go : (room : Bool) → let four = cond room (accepted (numbers x)) (refused 8) in statusOf four ≡ negsuc n → Safe n × (fourOutput four out ≡ out)
+    go true e = (inl cc, cc)
+    go false e = (inr (inr cc), refl)
 
-pub edges-below : (numbers : List ℤ) (local : ℕ) (edges : List ℤ) {n : ℕ} → tlSafeEdgesOf numbers local edges ≡ negsuc n → tlSafeEdgesOutputOf numbers local edges ≡ edges
-unfolding tlSafeEdgesOf tlSafeEdgesOutputOf
-edges-below numbers local edges e = four-below (edgesFour numbers local edges) edges e
+pub content-below : (numbers : List ℤ) (area : List Float) {n : ℕ} → tlSafeContentOf numbers area ≡ negsuc n → Safe n × (tlSafeContentOutputOf numbers area ≡ area)
+unfolding tlSafeContentOf tlSafeContentOutputOf contentFour safeContentOf
+content-below numbers area e =
+    let size = twoOf numbers 0 in
+    let inset = twoOf numbers 2 in
+    let edges = fourOf numbers 4 in
+    four-below (eqb (length numbers) 8) (allOnScaleOf size inset edges) (contentOf size inset edges) areaNumbers area e
+
+pub edges-below : (numbers : List ℤ) (local : ℕ) (edges : List ℤ) {n : ℕ} → tlSafeEdgesOf numbers local edges ≡ negsuc n → Safe n × (tlSafeEdgesOutputOf numbers local edges ≡ edges)
+unfolding tlSafeEdgesOf tlSafeEdgesOutputOf edgesFour safeEdgesOf
+edges-below numbers local edges e =
+    let decoration = fourOf numbers 0 in
+    let navigation = fourOf numbers 4 in
+    let camera = fourOf numbers 8 in
+    four-below (eqb (length numbers) 12) (allOnScaleOf decoration navigation camera) (mergedOf decoration navigation camera (not (eqb local 0))) edgeNumbers edges e
