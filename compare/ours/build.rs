@@ -5,7 +5,7 @@ fn main() {
     println!("cargo::rerun-if-env-changed=PROBE_LIB_DIR");
     println!("cargo::rerun-if-env-changed=PROBE_LIB_NAME");
     let package = PathBuf::from(env::var_os("CARGO_MANIFEST_DIR").unwrap());
-    let folder = env::var_os("PROBE_LIB_DIR").unwrap_or("target/probe/target/staticlib".into());
+    let folder = env::var_os("PROBE_LIB_DIR").unwrap_or("../target/probe/target/staticlib".into());
     let name = env::var("PROBE_LIB_NAME").unwrap_or("probe".into());
     // A relative folder counts from compare/.
     let folder = package.join("..").join(folder);
