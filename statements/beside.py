@@ -6,7 +6,7 @@ from pathlib import Path
 from edits import Code, applied
 
 HERE = Path(__file__).resolve().parent
-FLAGS = ["--edition", "2021", "-Copt-level=1", "-Coverflow-checks=on", "-Awarnings"]
+FLAGS = ["--edition", "2021", "-Copt-level=1", "-Coverflow-checks=on", "--cap-lints=allow"]
 # What contracts say of a value, where it is not all of it: the places in use, and nothing beside a refusal.
 SHOWN = {
     "Elements": "&self.at[..self.count]",
@@ -36,6 +36,10 @@ class Beside:
             self.compile(c, work / c / "lib.rs", crates[:crates.index(c)])
         (work / "drive.rs").write_text((HERE / "drive.rs").read_text() + self.direct_calls())
         self.compile("drive", work / "drive.rs", crates, kind="bin")
+        for order in sorted((root / "examples").glob("*.order")):
+            sheet = subprocess.run([str(work / "drive"), "0", "sheet"], input=order.read_bytes(), capture_output=True).stdout
+            if sheet != order.with_suffix(".sheet").read_bytes():
+                raise SystemExit(f"built as Rust, the code gives {order.name} another sheet")
 
     def compile(self, name, path, externs, kind="rlib"):
         words = [w for c in (*externs, "beside") if c != name for w in ("--extern", f"{c}={self.work}/lib{c}.rlib")]
@@ -73,10 +77,11 @@ impl std::fmt::Debug for {name} {{
 
     def direct_calls(self):
         """A function that calls each function that requires nothing, on made values: `made` makes one of any declared type."""
-        makers, calls = [], []
+        makers, calls, literals = [], [], set()
         for c in self.crates:
             for path in sorted((self.root / "crates" / c / "src").glob("*.rt")):
                 text = path.read_text()
+                literals.update(re.findall(r"\b\d+\.\d+\b", text))
                 module = c if path.stem == "lib" else f"{c}::{path.stem}"
                 for name, body in re.findall(r"\bstruct (\w+) \{(.*?)\n\}", text, re.S):
                     values = ", ".join(f"{f}: made(r)" for f in re.findall(r"(\w+): ", re.sub(r"//[^\n]*", "", body)))
@@ -92,6 +97,7 @@ impl std::fmt::Debug for {name} {{
                     if "requires" not in signature and not any("&" in kind for _, kind in params):
                         owner = "::".join([module, *u.name.split("::")[-2 if u.method else -1:]])
                         calls.append(f"    {owner}({', '.join('made(r)' for _ in params)});")
+        makers.append(f"const LITERALS: [f32; {len(literals)}] = [{', '.join(sorted(literals))}];")
         return "\n" + "\n".join(makers) + "\n\nfn direct(r: &mut Random) {\n" + "\n".join(calls) + "\n}\n"
 
     def differs(self, number, calls, limit=60):

@@ -203,7 +203,11 @@ macro_rules! made {
 }
 
 made!(bool, r, r.chance(50));
-made!(f32, r, if r.chance(85) { r.one(&[0.0, 1.0, 2.0, 5.0, 10.0, 20.0, 40.0, 100.0]) + r.one(&[0.0, 0.0, 0.01, 0.5]) } else { r.one(&ODD) });
+made!(f32, r, match r.below(10) {
+    0..=4 => r.one(&[0.0, 1.0, 2.0, 5.0, 10.0, 20.0, 40.0, 100.0]) + r.one(&[0.0, 0.0, 0.01, 0.5]),
+    5..=8 => r.one(&LITERALS), // those of the code, so that its tests are met with equality
+    _ => r.one(&ODD),
+});
 made!(f64, r, made::<f32>(r) as f64);
 made!(i32, r, whole(r));
 made!(u8, r, r.one(&[0, 1, 2, 3, 4, 7, 8, 15, 16, 17, 128, 255]));

@@ -28,7 +28,7 @@ def of_function(row):
 
 def verdict(row, reasons):
     differs = "input" in row
-    if named(row) in reasons:
+    if named(row) in reasons and (row["outcome"] == "accepted" or not differs):
         return "changes nothing"
     if row["outcome"] == "fact" and part(row) == "definitions":
         return "fact fails" if of_function(row) else "law"
@@ -58,8 +58,6 @@ def figures(rows):
     for r in rows:
         if verdict(r, reasons) in ("accepted", "no input"):
             print(f"{verdict(r, reasons)}: {named(r)} (the same on {r.get('calls', 0)} calls)")
-        if verdict(r, reasons) == "changes nothing" and r["outcome"] != "accepted" and "input" in r:
-            print(f"the reason is wrong: {named(r)} at {r['input']}")
     table("part", rows, part, reasons)
     table("kind", rows, lambda r: r["kind"], reasons)
     table("crate", rows, lambda r: r["crate"], reasons)

@@ -20,8 +20,7 @@ ROOT = Path(__file__).resolve().parent.parent
 
 
 def libraries():
-    listed = [line.split(":") for line in (ROOT / "crates.txt").read_text().splitlines() if ":" in line]
-    return [name for name, _ in listed if (ROOT / "crates" / name / "src/lib.rt").exists()]
+    return [name for name in stands_on() if (ROOT / "crates" / name / "src/lib.rt").exists()]
 
 
 @functools.cache
@@ -133,7 +132,7 @@ class Trial:
                 texts[file] = None if any(FORM.match(x.text) for x in refused) else opened(text, refused)
                 if texts[file] is None:
                     misfits.add(file)
-            self.prover.put(crate, [e for file, e in edits.items() if file not in misfits])
+            self.prover.put(crate, [e for file, e in edits.items() if file not in misfits and e.crate == crate])
             for file, text in texts.items():
                 if text:
                     (folder / file).write_text(text)
@@ -143,32 +142,49 @@ class Trial:
     def definition(self, e):
         """An edit of a definition, by itself. It is refused at a fact if the proof of some function or law fits but for that."""
         if e in self.done:
-            return None
+            return
         self.prover.put(e.crate, [e])
-        v = self.prover.run(e.crate)
-        if v.late or v.proved:
-            return self.record(e, "late" if v.late else "accepted", v)
+        for crate in [e.crate, *users(e)]:  # a crate that names it may be the first to say something of it
+            v = self.prover.run(crate)
+            if not v.proved:
+                break
         refused = [x for x in v.errors if not FOLLOWS.search(x.text)]
-        if any(x.file == e.file and x.declaration == e.unit for x in refused):
-            return self.record(e, "no program", v, [], refused[0].text)
-        w, errors, misfits = self.left_open(e.crate, {None: e}, v)
-        still = misfits | {x.file for x in w.errors if not FOLLOWS.search(x.text)}
-        fits = lambda f: f not in still and "depends on a hole" in w.functions.get(function_of(e.crate, f), "depends on a hole")
-        goals = {f"{f}: {d}": g for (f, d), g in w.goals.items() if fits(f)}
-        facts = [f"{x.file}: {x.declaration}" for xs in errors.values() for x in xs]
-        facts += [f"{f}: {n}" for f, needs in v.unanswered.items() for n in needs]
-        return self.record(e, "fact" if goals or v.unanswered else "form", v, facts, refused[0].text if refused else "", goals)
+        if v.late or v.proved:
+            self.record(e, "late" if v.late else "accepted", v)
+        elif any(x.file == e.file and x.declaration == e.unit for x in refused):
+            self.record(e, "no program", v, [], refused[0].text)
+        else:
+            w, errors, misfits = self.left_open(crate, {None: e}, v)
+            still = misfits | {x.file for x in w.errors if not FOLLOWS.search(x.text)}
+            fits = lambda f: f not in still and "depends on a hole" in w.functions.get(function_of(crate, f), "depends on a hole")
+            goals = {f"{crate}/{f}: {d}": g for (f, d), g in w.goals.items() if fits(f)}
+            facts = [f"{crate}/{x.file}: {x.declaration}" for xs in errors.values() for x in xs]
+            facts += [f"{f}: {n}" for f, needs in v.unanswered.items() for n in needs]
+            self.record(e, "fact" if goals or v.unanswered else "form", v, facts, refused[0].text if refused else "", goals)
+        if crate != e.crate:
+            self.prover.restore_all()
+
+
+def users(e):
+    """The crates above that name a definition."""
+    texts = lambda c: (p.read_text() for p in (ROOT / "crates" / c).rglob("*") if p.suffix in (".rt", ".antt"))
+    named = re.compile(rf"(?<![\w·]){re.escape(e.unit)}(?![\w·])")
+    return [c for c in in_order(libraries()) if c != e.crate and e.crate in stands_on()[c] and any(named.search(t) for t in texts(c))]
+
+
+def stands_on():
+    lines = (ROOT / "crates.txt").read_text().splitlines()
+    return {name: rest.split() for name, rest in (line.split(":") for line in lines if ":" in line)}
 
 
 def in_order(crates):
     """Each crate after those that it stands on."""
-    stands_on = {name: rest.split() for name, rest in (line.split(":") for line in (ROOT / "crates.txt").read_text().splitlines() if ":" in line)}
-    done = []
+    below, done = stands_on(), []
 
     def visit(c):
-        for d in stands_on.get(c, ()):
+        for d in below.get(c, ()):
             visit(d)
-        if c in stands_on and c not in done:
+        if c in below and c not in done:
             done.append(c)
 
     for c in crates:

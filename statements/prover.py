@@ -45,9 +45,12 @@ class Prover:
         self.root, self.work, self.limit = root, work, limit
         (work / "target").mkdir(parents=True, exist_ok=True)
         shutil.copy(root / "crates.txt", work / "crates.txt")
+        self.restore_all()
+
+    def restore_all(self):
         for part in ("crates", "target/rlib", "target/stamp"):
-            shutil.rmtree(work / part, ignore_errors=True)
-            shutil.copytree(root / part, work / part)
+            shutil.rmtree(self.work / part, ignore_errors=True)
+            shutil.copytree(self.root / part, self.work / part)
 
     def restore(self, crate):
         shutil.rmtree(self.work / "crates" / crate)
