@@ -1,4 +1,4 @@
-"""Tries edits of code and of definitions by the prover. `statements/try --help` says how."""
+"""Tries edits of code and of definitions by the prover. `compare/statements/try --help` says how."""
 import argparse
 import collections
 import functools
@@ -16,7 +16,7 @@ from edits import Code, Edit, edits_of
 from figures import figures
 from prover import FOLLOWS, FORM, Prover, function_of, opened, proof_file
 
-ROOT = Path(__file__).resolve().parent.parent
+ROOT = Path(__file__).resolve().parents[2]
 
 
 def libraries():
@@ -212,7 +212,7 @@ def edit_of(row):
 
 
 def main():
-    p = argparse.ArgumentParser(prog="statements/try", description="Edits code and definitions, one place each, and has the prover try them. See docs/STATEMENTS.md.")
+    p = argparse.ArgumentParser(prog="compare/statements/try", description="Edits code and definitions, one place each, and has the prover try them. See docs/STATEMENTS.md.")
     p.add_argument("--seed", type=int, default=1)
     p.add_argument("--rounds", type=int, default=1, help="runs for each crate with edits of code (default 1)")
     p.add_argument("--definitions", type=int, default=2, help="edits of definitions in each crate (default 2)")
