@@ -164,7 +164,7 @@ fn inner(r: &mut Random) {
         l.game.fit(side(r) / 400.0);
         rect.same_bounds(l.element(r.below(n as u64) as usize));
         preset::layout_with_cutouts(s.preset, s.w, s.h, s.cutouts);
-        preset::capture(s.preset, l, s.w, s.h);
+        saved::capture(s.preset, l, s.w, s.h);
     }
     let bits = |r: &mut Random| match r.below(4) {
         0 => f32::from_bits(r.next() as u32),

@@ -1,2 +1,2 @@
 pub mod Keys
-pub mod Turns
+pub mod Kept

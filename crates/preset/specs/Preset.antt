@@ -1,22 +1,21 @@
--- `Preset::layout_in`, `layout_with_cutouts` and `capture` of input.rs, and `PlayerViewport::layout`. Definitions only.
+-- `Preset::layout_in` and `layout_with_cutouts` of input.rs, and `PlayerViewport::layout`. Definitions only.
 use mathlib.Core.Bool.{Bool, true, false, cond, not, _&&_, _||_}
 use mathlib.Core.List.{List, [], _∷_, map, foldl}
 use mathlib.Core.Option.{Option, some, none}
-use lib.Dec.{eqb}
-use lib.Ieee.{Float, inf, lt, le, neg}
-use lib.ListN.{length, getD}
-use Rattle.float.specs.Float.{_⊕_, _⊖_, _⊗_, _⊘_, k0, k0·01, k1, k24}
-use Rattle.float.specs.MinMax.{minOf, maxOf, clampOf, absOf}
+use lib.Ieee.{Float, lt, le, neg}
+use lib.ListN.{getD}
+use Rattle.float.specs.Float.{_⊕_, _⊖_, k0, k0·01, k1}
+use Rattle.float.specs.MinMax.{minOf, maxOf, absOf}
 use Rattle.geometry.specs.declared.Rect.{Rect}
 use Rattle.geometry.specs.Rect.{newOf}
 use Rattle.layout.specs.declared.Layout.{Layout}
-use Rattle.layout.specs.Layout.{anyRect, elementsOf, elementCountOf}
-use Rattle.layout.specs.Elements.{replaceFirst, setElementsOf}
+use Rattle.layout.specs.Layout.{anyRect}
 use Rattle.search.specs.Search.{bottomOf, clearPictureAspectOf, placeGameInAspectOf}
 use Rattle.settings.specs.declared.Fit.{Fit}
 use Rattle.settings.specs.declared.Fit.the-variants.{Unset, Maximum, KeepClear}
 use Rattle.settings.specs.declared.Preset.{Preset}
 use Rattle.settings.specs.Settings.{savedList, untouchedOf, pictureFitOf}
+use Rattle.saved.specs.Saved.{isEmpty, withSavedOf}
 use Rattle.toolbar.specs.Toolbar.{anchorToolbarOf}
 use Rattle.arranged.specs.Arranged.{middle}
 use Rattle.band.specs.Band.{aspectOf, controllerBandOf}
@@ -25,9 +24,6 @@ use Rattle.cutouts.specs.Cutouts.{avoidCutoutsOf}
 use Rattle.landscape.specs.Landscape.{fitLandscapeControlsOf}
 use Rattle.camera_rails.specs.CameraRails.{analogCameraRailsOf}
 use Rattle.picture.specs.Picture.{controlsOf}
-
-abbrev pub isEmpty : List Rect → Bool
-isEmpty rs = eqb (length rs) 0
 
 -- the arrangement that a preset starts from
 unfoldable pub startOf : Bool → Bool → Float → Float → List Rect → Rect → Layout
@@ -89,34 +85,6 @@ unfoldable pub besideOf : Layout → Float → Float → Rect → List Rect → 
 besideOf layout w h picture cutouts analog psp =
     let banded = foundOr layout (controllerBandOf w h analog psp picture) in
     cond analog (tryRailsOf banded w h picture cutouts psp) banded
-
--- ---- saved rectangles, as parts of the screen
-
--- Rust's `is_finite`
-unfoldable pub isFiniteOf : Float → Bool
-isFiniteOf x = lt (absOf x) (inf false)
-
-unfoldable pub usableOf : Rect → Bool
-usableOf r = isFiniteOf (r .x) && (isFiniteOf (r .y) && (isFiniteOf (r .w) && isFiniteOf (r .h)))
-
--- 24 points wide and high at least, where the screen is, and all of it on the screen
-unfoldable pub onScreenOf : Float → Float → Rect → Rect
-onScreenOf w h r =
-    let width = clampOf (r .w ⊗ w) (minOf k24 w) w in
-    let height = clampOf (r .h ⊗ h) (minOf k24 h) h in
-    newOf (clampOf (r .x ⊗ w) k0 (w ⊖ width)) (clampOf (r .y ⊗ h) k0 (h ⊖ height)) width height
-
--- what was saved for an element, else the element: a rectangle with a number that is not finite is passed over
-unfoldable pub restoreOf : Float → Float → Rect → Rect → Rect
-restoreOf w h saved element = cond (usableOf saved) (onScreenOf w h saved) element
-
-unfoldable pub restoredOf : Float → Float → List Rect → List Rect → List Rect
-restoredOf w h [] es = es
-restoredOf w h (r ∷ rs) [] = []
-restoredOf w h (r ∷ rs) (e ∷ es) = restoreOf w h r e ∷ restoredOf w h rs es
-
-unfoldable pub withSavedOf : Layout → Float → Float → List Rect → Layout
-withSavedOf l w h saved = cond (isEmpty saved) l (setElementsOf l (restoredOf w h saved (elementsOf l)))
 
 -- ---- `layout_in`, step by step; maximum: the fit is Maximum; free: nothing was saved and no overlap asked for, so that other arrangements may be tried
 
@@ -185,21 +153,3 @@ unfoldable pub viewportLayoutOf : Preset → Float → Float → Rect → Float 
 viewportLayoutOf p w h picture reusable covered cutouts =
     let anchored = anchorToolbarOf (layoutInOf p w h cutouts picture) w h reusable k0 cutouts in
     cond (lt k0 covered) (anchorToolbarOf anchored w h reusable covered cutouts) anchored
-
--- ---- `capture`: the elements of a layout, saved as parts of the screen
-unfoldable pub partOf : Float → Float → Rect → Rect
-partOf w h r = newOf (r .x ⊘ w) (r .y ⊘ h) (r .w ⊘ w) (r .h ⊘ h)
-
-unfoldable pub captureOf : Preset → Layout → Float → Float → Preset
-captureOf p l w h =
-    let n = elementCountOf l in
-    record {
-      psp = p .psp;
-      analog = p .analog;
-      overlap = p .overlap;
-      fit = p .fit;
-      scale = p .scale;
-      offset = p .offset;
-      elements = replaceFirst n (map (partOf w h) (elementsOf l)) (p .elements);
-      count = n;
-    }

@@ -13,12 +13,13 @@ use Rattle.layout.specs.declared.Layout.{Layout}
 use Rattle.search.specs.Search.{placeGameInAspectOf}
 use Rattle.settings.specs.declared.Preset.{Preset}
 use Rattle.settings.specs.Settings.{savedList, untouchedOf}
+use Rattle.saved.specs.Saved.{isEmpty}
 use Rattle.arranged.specs.Arranged.{middle}
 use Rattle.band.specs.Band.{aspectOf, controllerBandOf}
 use Rattle.cutouts.specs.Cutouts.{avoidCutoutsOf}
 use Rattle.camera_rails.specs.CameraRails.{analogCameraRailsOf}
 use Rattle.landscape.specs.Landscape.{fitLandscapeControlsOf}
-use Rattle.preset.specs.Preset.{isEmpty, foundOr, railsWinOf, comparedOf, tryRailsOf, besideOf, firstOf, areaOf, arrangementOf, settledOf, maximumOf, freeOf, hasSticks, rowAllowedOf, laidOutOf}
+use Rattle.preset.specs.Preset.{foundOr, railsWinOf, comparedOf, tryRailsOf, besideOf, firstOf, areaOf, arrangementOf, settledOf, maximumOf, freeOf, hasSticks, rowAllowedOf, laidOutOf}
 
 module _ (C : Layout → Type 0) where
   pub found-case : {l : Layout} (o : Option Layout) → C l → ((m : Layout) → o ≡ some m → C m) → C (foundOr l o)

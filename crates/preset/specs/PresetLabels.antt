@@ -1,9 +1,9 @@
 -- Every step of `layout_in` keeps the labels, the counts and the arrays of its mode.
-use mathlib.Core.Path.{_≡_, refl, ap}
+use mathlib.Core.Path.{_≡_}
 use mathlib.Core.Bool.{Bool, true, false, cond, _||_}
-use mathlib.Core.List.{List, [], _∷_}
+use mathlib.Core.List.{List}
 use mathlib.Core.Option.{Option, some}
-use Prim.Native.Nat.{suc, _≤_}
+use Prim.Native.Nat.{_≤_}
 use native.Mathlib.Omega.{arith}
 use lib.Dec.{T}
 use lib.Ieee.{Float, lt}
@@ -20,6 +20,8 @@ use Rattle.search.specs.declared.Offset.{Offset}
 use Rattle.search.specs.Search.{placeGameInAspectOf}
 use Rattle.settings.specs.declared.Preset.{Preset}
 use Rattle.settings.specs.Settings.{savedList}
+use Rattle.saved.specs.Saved.{isEmpty, withSavedOf}
+use Rattle.saved.specs.SavedLaws.{length-restored}
 use Rattle.toolbar.specs.Toolbar.{anchorToolbarOf}
 use Rattle.arranged.specs.Arranged.{middle}
 use Rattle.band.specs.Band.{aspectOf}
@@ -31,7 +33,7 @@ use Rattle.camera_rails.specs.CameraLabels.{avoid-formed, camera-rails-formed}
 use Rattle.picture.specs.PictureLabels.{controls-formed}
 use Rattle.landscape.specs.LandscapeLaws.{landscape-formed}
 use Rattle.preset.specs.PresetCases.{found-case, rails-case, firstFor, areaFor, arrangementFor, placedFor, laid-out-case}
-use Rattle.preset.specs.Preset.{isEmpty, startOf, reusableTop, largestOf, foundOr, aroundOf, tryRailsOf, besideOf, restoredOf, withSavedOf, firstOf, arrangementOf, settledOf, maximumOf, freeOf, hasSticks, laidOutOf, layoutInOf, viewportLayoutOf}
+use Rattle.preset.specs.Preset.{startOf, reusableTop, largestOf, foundOr, aroundOf, tryRailsOf, besideOf, firstOf, arrangementOf, settledOf, maximumOf, freeOf, hasSticks, laidOutOf, layoutInOf, viewportLayoutOf}
 
 -- a layout of a mode: its labels, its sticks, and arrays of 12 and 2
 abbrev pub OfMode : Bool → Bool → Layout → Type 0
@@ -52,12 +54,6 @@ few analog true l f = let n : l .count ≡ 8 = f .0 .1 in let m = f .0 .2 in let
     sticks false e = omega arith
 few true false l f = let n : l .count ≡ 12 = f .0 .1 in let m : l .stickcount ≡ 2 = f .0 .2 in let k : length (actionElementsOf l) ≡ 4 = face-count l _ (f .0 .0) in record { count = omega arith; stickcount = omega arith; faces = omega arith }
 few false false l f = let n : l .count ≡ 10 = f .0 .1 in let m : l .stickcount ≡ 0 = f .0 .2 in let k : length (actionElementsOf l) ≡ 4 = face-count l _ (f .0 .0) in record { count = omega arith; stickcount = omega arith; faces = omega arith }
-
-pub length-restored : (w h : Float) (rs es : List Rect) → length (restoredOf w h rs es) ≡ length es
-unfolding restoredOf
-length-restored w h [] es = refl
-length-restored w h (r ∷ rs) [] = refl
-length-restored w h (r ∷ rs) (e ∷ es) = ap suc (length-restored w h rs es)
 
 module _ (w h : Float) (cutouts : List Rect) (picture : Rect) where
   pub start-mode : (psp analog : Bool) → OfMode (analog || psp) psp (startOf psp analog w h cutouts picture)

@@ -1,34 +1,31 @@
 -- Every layout of `layout_in` is in range, whatever is asked for: its elements and its game, on screens up to 8192 by 8192.
-use mathlib.Core.Path.{_∙_, subst}
-use mathlib.Core.Bool.{Bool, true, false, cond, not, _&&_, _||_}
+use mathlib.Core.Bool.{Bool, true, false, not, _||_}
 use mathlib.Core.List.{List, [], _∷_}
 use Prim.Native.Nat.{_≤_, _<_}
 use native.Mathlib.Omega.{arith}
-use lib.Dec.{T, eqb·suc-zero}
-use lib.Ieee.{Float, nan, inf, fin, lt}
-use lib.Ieee.Fits.{and-l, and-r}
-use lib.Ieee.Scale.{finite}
+use lib.Dec.{T}
+use lib.Ieee.{Float, lt}
 use lib.ListN.{length}
 use Rattle.float.specs.Float.{k0, k1}
-use Rattle.float.specs.MinMax.{absOf}
 use Rattle.geometry.specs.declared.Rect.{Rect}
 use Rattle.geometry.specs.Choice.{either}
 use Rattle.layout.specs.declared.Layout.{Layout}
-use Rattle.layout.specs.Layout.{elementsOf}
-use Rattle.layout.specs.ElementLaws.{length-elements}
 use Rattle.numerics.specs.Value.{Whole}
 use Rattle.numerics.specs.Rects.{Element, Area, OnScreen, Key, margin}
 use Rattle.numerics.specs.Range.{In, at, minus}
 use Rattle.numerics.specs.Each.{Each}
-use Rattle.numerics.specs.Ranges.{in-more, most-in, sub-in, min-in, max-in, neg-in, element-in, placed-element, saved-in}
-use Rattle.numerics.specs.Literals.{i0, i1, i24}
+use Rattle.numerics.specs.Ranges.{in-more, most-in, max-in, neg-in, placed-element}
+use Rattle.numerics.specs.Literals.{i0, i1}
 use Rattle.numerics.specs.Shrunk.{shrunkMargin}
 use Rattle.search.specs.Bounded.{Every, Bounded, Shrunk, BoundedGame}
 use Rattle.search.specs.Search.{placeGameInAspectOf}
-use Rattle.search.proofs.Changes.{every-imp, shrunk-bounded, arranged-shrunk, anchored-shrunk, set-elements-in}
-use Rattle.search.proofs.Layouts.{elements-in, place-bounded, place-game-in}
+use Rattle.search.proofs.Changes.{every-imp, shrunk-bounded, arranged-shrunk, anchored-shrunk}
+use Rattle.search.proofs.Layouts.{place-bounded, place-game-in}
 use Rattle.settings.specs.declared.Preset.{Preset}
 use Rattle.settings.specs.Settings.{savedList}
+use Rattle.saved.specs.Saved.{isEmpty, withSavedOf}
+use Rattle.saved.specs.SavedLaws.{not-empty}
+use Rattle.saved.specs.SavedRanges.{saved-bounded}
 use Rattle.toolbar.specs.Toolbar.{anchorToolbarOf}
 use Rattle.toolbar.specs.ToolbarRanges.{avoided-in, uncovered-in, anchor-in}
 use Rattle.arranged.specs.Arranged.{middle}
@@ -41,29 +38,14 @@ use Rattle.cutouts.specs.CutoutRanges.{avoid-bounded}
 use Rattle.camera_rails.specs.CameraRanges.{camera-bounded, camera-in}
 use Rattle.picture.specs.PictureRanges.{controls-in}
 use Rattle.landscape.specs.LandscapeRanges.{landscape-bounded, landscape-game-in}
-use Rattle.preset.specs.Preset.{isEmpty, startOf, reusableTop, aroundOf, besideOf, isFiniteOf, usableOf, onScreenOf, restoreOf, restoredOf, withSavedOf, firstOf, areaOf, arrangementOf, settledOf, maximumOf, freeOf, hasSticks, rowAllowedOf, laidOutOf, layoutInOf, viewportLayoutOf}
+use Rattle.preset.specs.Preset.{startOf, reusableTop, aroundOf, besideOf, firstOf, areaOf, arrangementOf, settledOf, maximumOf, freeOf, hasSticks, rowAllowedOf, laidOutOf, layoutInOf, viewportLayoutOf}
 use Rattle.preset.specs.PresetCases.{found-case, beside-case, firstFor, settledFor, placedFor, laid-out-case, whole-area, RowAllowed, row-allowed}
-use Rattle.preset.specs.PresetLabels.{OfMode, few, length-restored, anchor-mode, saved-mode, first-mode, arranged-mode, placed-mode, layout-mode}
+use Rattle.preset.specs.PresetLabels.{OfMode, few, anchor-mode, saved-mode, first-mode, arranged-mode, placed-mode, layout-mode}
 use Rattle.preset.specs.MaximumRanges.{sized, shape, largest-in, lowered-game-in, below-toolbar-in}
-
--- ---- saved rectangles
-is-finite : (x : Float) → T (isFiniteOf x) → T (finite x)
-unfolding isFiniteOf absOf lt
-is-finite nan t = t
-is-finite (inf s) t = t
-is-finite (fin s m e) t = tt
-
-whole-finite : (x : Float) → Whole x → T (finite x)
-whole-finite nan p = absurd p
-whole-finite (inf s) p = absurd p
-whole-finite (fin s m e) p = tt
 
 -- where the toolbar was anchored anew
 keys-in : {C : Rect → Type 0} {l : Layout} → Every C (Key margin) l → Every C Element l
 keys-in L = every-imp (λ r P. P) (λ r P. placed-element P tt) L
-
-not-empty : (r : Rect) (rs : List Rect) → T (isEmpty (r ∷ rs)) → ⊥
-not-empty r rs t = subst T (eqb·suc-zero (length rs)) t
 
 -- a layout's arrays hold what is counted
 pub record Holds (l : Layout) : Type 0 where
@@ -80,40 +62,6 @@ holds analog psp l f =
     record { controls = omega arith; sticks = omega arith; stick = omega arith }
 
 module _ {w h : Float} (W : In w (at 1) (at 8192)) (H : In h (at 1) (at 8192)) where
-  on-screen-in : (r : Rect) → T (usableOf r) → Element (onScreenOf w h r)
-  unfolding onScreenOf usableOf
-  on-screen-in r t =
-      let t1 : Bool = isFiniteOf (r .x) in
-      let t2 : Bool = isFiniteOf (r .y) in
-      let t3 : Bool = isFiniteOf (r .w) in
-      let t4 : Bool = isFiniteOf (r .h) in
-      let u = and-r t1 (t2 && (t3 && t4)) t in
-      let v = and-r t2 (t3 && t4) u in
-      let across = whole-finite w (W .whole) in
-      let down = whole-finite h (H .whole) in
-      let width = saved-in (r .w) w (is-finite (r .w) (and-l t3 t4 v)) across (min-in i24 W) W in
-      let height = saved-in (r .h) h (is-finite (r .h) (and-r t3 t4 v)) down (min-in i24 H) H in
-      let x = saved-in (r .x) w (is-finite (r .x) (and-l t1 (t2 && (t3 && t4)) t)) across i0 (sub-in W width tt) in
-      let y = saved-in (r .y) h (is-finite (r .y) (and-l t2 (t3 && t4) u)) down i0 (sub-in H height tt) in
-      element-in x y width height tt
-
-  restored-in : (saved es : List Rect) → Each Element es → Each Element (restoredOf w h saved es)
-  unfolding restoredOf restoreOf
-  restored-in [] es E = E
-  restored-in (r ∷ rs) [] E = tt
-  restored-in (r ∷ rs) (e ∷ es) E = (go (usableOf r) (on-screen-in r), restored-in rs es (E .1))
-    where
-      go : (b : Bool) → (T b → Element (onScreenOf w h r)) → Element (cond b (onScreenOf w h r) e)
-      go true f = f tt
-      go false f = E .0
-
-  saved-bounded : (l : Layout) → Holds l → Bounded l → (saved : List Rect) → Bounded (withSavedOf l w h saved)
-  unfolding withSavedOf
-  saved-bounded l K L saved =
-      let n = length-restored w h saved (elementsOf l) ∙ length-elements l (K .controls) (K .sticks) in
-      either Bounded (isEmpty saved) L (set-elements-in (restoredOf w h saved (elementsOf l)) (omega (arith, n)) L (restored-in saved (elementsOf l) (elements-in l L)))
-
-  -- ---- the steps
   wide : In w (at 0) (at 8192)
   wide = in-more (at 0) (at 8192) W tt tt
 
@@ -156,8 +104,9 @@ module _ {w h : Float} (W : In w (at 1) (at 8192)) (H : In h (at 1) (at 8192)) w
       unfolding settledOf
       settled-bounded analog psp l f L saved =
           let restored = withSavedOf l w h saved in
+          let J = holds analog psp l f in
           let K = holds analog psp restored (saved-mode analog psp l f w h cutouts saved) in
-          keys-in (anchored-in _ (avoid-in cutouts restored K (saved-bounded l (holds analog psp l f) L saved)))
+          keys-in (anchored-in _ (avoid-in cutouts restored K (saved-bounded W H l (J .controls) (J .sticks) L saved)))
 
     -- ---- with no cutouts and nothing saved no element moves
     beside-in : (analog psp : Bool) {first : Layout} → Shrunk first → Shrunk (besideOf first w h picture [] analog psp)

@@ -1,5 +1,5 @@
 use mathlib.Core.Bool.{_||_}
-use Rattle.preset.proofs.Turns.{holds}
+use Rattle.preset.proofs.Kept.{holds}
 use Rattle.layout.specs.Layout.{cutoutList}
 use Rattle.preset.specs.PresetLabels.{OfMode, arrangement-mode, first-mode, stick-mode}
 use borrow.Author.Tests.{not-true, not-false}

@@ -1,4 +1,4 @@
-use Rattle.preset.proofs.Turns.{none-counted}
+use Rattle.saved.specs.SavedLaws.{none-counted}
 use lib.ListN.{length}
 use native.Mathlib.Omega.{arith}
 use Rattle.layout.proofs.Loops.{sized}

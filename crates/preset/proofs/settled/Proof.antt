@@ -1,4 +1,4 @@
-use Rattle.preset.proofs.Turns.{holds}
+use Rattle.preset.proofs.Kept.{holds}
 use Rattle.preset.specs.PresetLabels.{OfMode, Few, few, saved-mode, avoid-mode, settled-mode}
 use lib.ListN.{take}
 use borrow.Author.Needs.{needs}

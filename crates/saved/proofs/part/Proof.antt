@@ -1,7 +1,7 @@
 use mathlib.Core.Path.{refl}
-use Rattle.preset.specs.Preset.{partOf}
-use Rattle.preset.proofs.part.Statement.{statement}
-use Rattle.preset.proofs.part.Tie as tie
+use Rattle.saved.specs.Saved.{partOf}
+use Rattle.saved.proofs.part.Statement.{statement}
+use Rattle.saved.proofs.part.Tie as tie
 
 returns : tie.Need-returns
 unfolding partOf

@@ -1,7 +1,7 @@
-use Rattle.preset.specs.Preset.{captureOf}
+use Rattle.saved.specs.Saved.{captureOf}
 use borrow.Author.Needs.{needs}
-use Rattle.preset.proofs.capture.Statement.{statement}
-use Rattle.preset.proofs.capture.Tie as tie
+use Rattle.saved.proofs.capture.Statement.{statement}
+use Rattle.saved.proofs.capture.Tie as tie
 
 elements-requires : tie.Need-elements-requires
 elements-requires c κs = search needs

@@ -1,7 +1,7 @@
 use borrow.Author.Needs.{needs}
-use Rattle.preset.proofs.restore.Statement.{statement}
-use Rattle.preset.proofs.restore.Tie as tie
-use Rattle.preset.specs.Preset.{restoreOf}
+use Rattle.saved.proofs.restore.Statement.{statement}
+use Rattle.saved.proofs.restore.Tie as tie
+use Rattle.saved.specs.Saved.{restoreOf}
 
 usable-requires : tie.Need-usable-requires
 usable-requires c κs = search needs

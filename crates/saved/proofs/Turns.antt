@@ -1,18 +1,16 @@
--- Laws for the code's proofs. The loop over saved rectangles: after i turns the first i of them have been put in place.
-use mathlib.Core.Path.{_≡_, refl, ap, sym, _∙_, subst}
+-- The loop over saved rectangles: after i turns the first i of them have been put in place.
+use mathlib.Core.Path.{_≡_, refl, ap, sym, _∙_}
 use mathlib.Core.List.{List, [], _∷_, _++_, map}
 use Prim.Native.Nat.{ℕ, zero, suc, _+_, _<_, _≤_}
 use native.Mathlib.Numerals.{add-one}
 use native.Mathlib.Omega.{arith}
-use lib.Dec.{eqb}
 use lib.Ieee.{Float}
 use lib.ListN.{length, take, drop, getD, set}
-use lib.Seq.{take-all, take-take, length-take-le}
+use lib.Seq.{take-all, take-take}
 use Rattle.geometry.specs.declared.Rect.{Rect}
-use Rattle.layout.specs.declared.Layout.{Layout}
 use Rattle.layout.specs.Elements.{replaceFirst}
 use Rattle.layout.proofs.Loops.{take-map}
-use Rattle.preset.specs.Preset.{isEmpty, restoreOf, restoredOf}
+use Rattle.saved.specs.Saved.{restoreOf, restoredOf}
 
 module _ (w h : Float) where
   turn : (i : ℕ) (rs es : List Rect) (d : Rect) → i < length rs → i < length es
@@ -43,14 +41,6 @@ module _ (w h : Float) where
   pub restored-none : (es : List Rect) → es ≡ restoredOf w h [] es
   unfolding restoredOf
   restored-none es = refl
-
--- a count's test is the list's
-pub none-counted : (n : ℕ) (rs : List Rect) → n ≤ length rs → isEmpty (take n rs) ≡ eqb n 0
-none-counted n rs p = rw (length-take-le n rs p)
-
--- a layout that equals another has what holds of that one
-pub holds : (P : Layout → Type 0) {l r : Layout} → P l → r ≡ l → (r ≡ l) × P r
-holds P p e = (e, subst P (sym e) p)
 
 -- as many of the changed elements as are counted
 pub mapped-front : (f : Rect → Rect) (n : ℕ) (at old : List Rect) → replaceFirst n (map f at) old ≡ replaceFirst n (map f (take n at)) old

@@ -1,13 +1,13 @@
-use Rattle.preset.proofs.Turns.{none-counted}
-use Rattle.preset.specs.Preset.{withSavedOf}
+use Rattle.saved.specs.SavedLaws.{none-counted}
+use Rattle.saved.specs.Saved.{withSavedOf}
 use lib.ListN.{length}
 use native.Mathlib.Omega.{arith}
 use borrow.Author.Tests.{ne-eqb}
 use Rattle.layout.proofs.Loops.{sized}
 use mathlib.Core.Path.{_≡_}
 use borrow.Author.Needs.{needs}
-use Rattle.preset.proofs.with_saved.Statement.{statement}
-use Rattle.preset.proofs.with_saved.Tie as tie
+use Rattle.saved.proofs.with_saved.Statement.{statement}
+use Rattle.saved.proofs.with_saved.Tie as tie
 
 returns : tie.Need-returns
 unfolding withSavedOf

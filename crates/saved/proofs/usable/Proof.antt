@@ -1,7 +1,7 @@
 use borrow.Author.Needs.{needs}
-use Rattle.preset.proofs.usable.Statement.{statement}
-use Rattle.preset.proofs.usable.Tie as tie
-use Rattle.preset.specs.Preset.{usableOf}
+use Rattle.saved.proofs.usable.Statement.{statement}
+use Rattle.saved.proofs.usable.Tie as tie
+use Rattle.saved.specs.Saved.{usableOf}
 
 is-finite-requires : tie.Need-is-finite-requires
 is-finite-requires c κs = search needs

@@ -1,7 +1,7 @@
 use borrow.Author.Needs.{needs}
-use Rattle.preset.specs.Preset.{onScreenOf}
-use Rattle.preset.proofs.on_screen.Statement.{statement}
-use Rattle.preset.proofs.on_screen.Tie as tie
+use Rattle.saved.specs.Saved.{onScreenOf}
+use Rattle.saved.proofs.on_screen.Statement.{statement}
+use Rattle.saved.proofs.on_screen.Tie as tie
 
 returns : tie.Need-returns
 unfolding onScreenOf

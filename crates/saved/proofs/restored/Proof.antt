@@ -1,17 +1,17 @@
 use lib.ListN.{getD, length-set, length, take}
 use lib.Seq.{getD-take, length-take-le}
-use Rattle.preset.specs.Preset.{restoreOf, restoredOf}
+use Rattle.saved.specs.Saved.{restoreOf, restoredOf}
 use mathlib.Core.Path.{sym, refl, ap, _∙_, _≡_}
 use Rattle.geometry.specs.declared.Rect.{Rect}
-use Rattle.preset.proofs.Turns.{restored-none, restored-turn, restored-past, restored-front}
+use Rattle.saved.proofs.Turns.{restored-none, restored-turn, restored-past, restored-front}
 use mathlib.Core.Logic.{⊎-elim}
 use Rattle.layout.specs.Layout.{anyRect}
 use Rattle.layout.proofs.Loops.{sized}
 use borrow.Author.Needs.{needs}
 use native.Mathlib.Omega.{arith}
 use Prim.Native.Nat.{_-_, _≤_}
-use Rattle.preset.proofs.restored.Statement.{statement}
-use Rattle.preset.proofs.restored.Tie as tie
+use Rattle.saved.proofs.restored.Statement.{statement}
+use Rattle.saved.proofs.restored.Tie as tie
 
 abbrev Inv-loop : tie.InvT-loop
 Inv-loop w h n saved count at₀ i₀ at i = (i ≤ count) × (length at ≡ 19) × (at ≡ restoredOf w h (take i (take n saved)) at₀)

@@ -1,7 +1,7 @@
 use borrow.Author.Needs.{needs}
-use Rattle.preset.proofs.is_finite.Statement.{statement}
-use Rattle.preset.proofs.is_finite.Tie as tie
-use Rattle.preset.specs.Preset.{isFiniteOf}
+use Rattle.saved.proofs.is_finite.Statement.{statement}
+use Rattle.saved.proofs.is_finite.Tie as tie
+use Rattle.saved.specs.Saved.{isFiniteOf}
 use lib.Ieee.{ofBits, nanBits}
 
 abs-requires : tie.Need-abs-requires

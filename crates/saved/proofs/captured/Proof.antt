@@ -1,5 +1,5 @@
-use Rattle.preset.proofs.Turns.{mapped-front}
-use Rattle.preset.specs.Preset.{partOf}
+use Rattle.saved.proofs.Turns.{mapped-front}
+use Rattle.saved.specs.Saved.{partOf}
 use mathlib.Core.Path.{refl, _∙_, _≡_}
 use mathlib.Core.List.{map}
 use lib.ListN.{length, length-map, length-set}
@@ -10,8 +10,8 @@ use Rattle.layout.proofs.Stores.{replaceFirst-next}
 use borrow.Author.Needs.{needs}
 use native.Mathlib.Omega.{arith}
 use Prim.Native.Nat.{_-_, _≤_}
-use Rattle.preset.proofs.captured.Statement.{statement}
-use Rattle.preset.proofs.captured.Tie as tie
+use Rattle.saved.proofs.captured.Statement.{statement}
+use Rattle.saved.proofs.captured.Tie as tie
 
 abbrev Inv-loop : tie.InvT-loop
 Inv-loop w h at n out₀ i₀ out i = (i ≤ n) × (length out ≡ 32) × (out ≡ replaceFirst i (map (partOf w h) at) out₀)

@@ -1,0 +1,63 @@
+-- Saved rectangles, as parts of the screen: what `Preset::layout_in` restores, and `Preset::capture` of input.rs. Definitions only.
+use mathlib.Core.Bool.{Bool, false, cond, _&&_}
+use mathlib.Core.List.{List, [], _∷_, map}
+use lib.Dec.{eqb}
+use lib.Ieee.{Float, inf, lt}
+use lib.ListN.{length}
+use Rattle.float.specs.Float.{_⊖_, _⊗_, _⊘_, k0, k24}
+use Rattle.float.specs.MinMax.{minOf, clampOf, absOf}
+use Rattle.geometry.specs.declared.Rect.{Rect}
+use Rattle.geometry.specs.Rect.{newOf}
+use Rattle.layout.specs.declared.Layout.{Layout}
+use Rattle.layout.specs.Layout.{elementsOf, elementCountOf}
+use Rattle.layout.specs.Elements.{replaceFirst, setElementsOf}
+use Rattle.settings.specs.declared.Preset.{Preset}
+
+-- ---- restored
+
+-- Rust's `is_finite`
+unfoldable pub isFiniteOf : Float → Bool
+isFiniteOf x = lt (absOf x) (inf false)
+
+unfoldable pub usableOf : Rect → Bool
+usableOf r = isFiniteOf (r .x) && (isFiniteOf (r .y) && (isFiniteOf (r .w) && isFiniteOf (r .h)))
+
+-- 24 points wide and high at least, where the screen is, and all of it on the screen
+unfoldable pub onScreenOf : Float → Float → Rect → Rect
+onScreenOf w h r =
+    let width = clampOf (r .w ⊗ w) (minOf k24 w) w in
+    let height = clampOf (r .h ⊗ h) (minOf k24 h) h in
+    newOf (clampOf (r .x ⊗ w) k0 (w ⊖ width)) (clampOf (r .y ⊗ h) k0 (h ⊖ height)) width height
+
+-- what was saved for an element, else the element: a rectangle with a number that is not finite is passed over
+unfoldable pub restoreOf : Float → Float → Rect → Rect → Rect
+restoreOf w h saved element = cond (usableOf saved) (onScreenOf w h saved) element
+
+unfoldable pub restoredOf : Float → Float → List Rect → List Rect → List Rect
+restoredOf w h [] es = es
+restoredOf w h (r ∷ rs) [] = []
+restoredOf w h (r ∷ rs) (e ∷ es) = restoreOf w h r e ∷ restoredOf w h rs es
+
+abbrev pub isEmpty : List Rect → Bool
+isEmpty rs = eqb (length rs) 0
+
+unfoldable pub withSavedOf : Layout → Float → Float → List Rect → Layout
+withSavedOf l w h saved = cond (isEmpty saved) l (setElementsOf l (restoredOf w h saved (elementsOf l)))
+
+-- ---- `capture`: the elements of a layout, saved as parts of the screen
+unfoldable pub partOf : Float → Float → Rect → Rect
+partOf w h r = newOf (r .x ⊘ w) (r .y ⊘ h) (r .w ⊘ w) (r .h ⊘ h)
+
+unfoldable pub captureOf : Preset → Layout → Float → Float → Preset
+captureOf p l w h =
+    let n = elementCountOf l in
+    record {
+      psp = p .psp;
+      analog = p .analog;
+      overlap = p .overlap;
+      fit = p .fit;
+      scale = p .scale;
+      offset = p .offset;
+      elements = replaceFirst n (map (partOf w h) (elementsOf l)) (p .elements);
+      count = n;
+    }
