@@ -22,10 +22,11 @@ use Rattle.writer.specs.Bytes.{layoutBytes, writeLayoutOf, outputOf}
 use Rattle.writer.specs.Length.{lengthFor, length-layout}
 use Rattle.written.specs.Written.{LayoutIsF32}
 use Rattle.written.specs.WidestWritten.{widest-written}
+use Rattle.chosen.specs.ChosenLabels.{OfMode, Few, few}
 use Rattle.preset.specs.Preset.{hasSticks}
 use Rattle.preset.specs.Demand.{WidestFor}
 use Rattle.preset.specs.PresetLabels as PresetLabels
-use Rattle.preset.specs.PresetLabels.{OfMode, Few, few, layout-mode}
+use Rattle.preset.specs.PresetLabels.{layout-mode}
 use Rattle.preset.specs.PresetWidest.{layout-widest}
 use Rattle.order.specs.Orders.{settingsLayoutOf, orderLayout, writtenAnswer, writtenOutput, layoutOf, layoutOutputOf, touchOf, settingsViewportOf, orderViewport, viewportLayoutOf, viewportOutputOf}
 use Rattle.order.specs.Demands.{WidestWritten}

@@ -2,6 +2,5 @@ pub mod Preset
 pub mod Demand
 pub mod PresetCases
 pub mod PresetLabels
-pub mod MaximumRanges
 pub mod PresetRanges
 pub mod PresetWidest

@@ -1,12 +1,9 @@
 -- Every layout of `layout_in` is in range, whatever is asked for: its elements and its game, on screens up to 8192 by 8192.
-use mathlib.Core.Bool.{Bool, true, false, not, _||_}
+use mathlib.Core.Bool.{Bool, true, false, _||_}
 use mathlib.Core.List.{List, [], _∷_}
-use Prim.Native.Nat.{_≤_, _<_}
-use native.Mathlib.Omega.{arith}
 use lib.Dec.{T}
 use lib.Ieee.{Float, lt}
-use lib.ListN.{length}
-use Rattle.float.specs.Float.{k0, k1}
+use Rattle.float.specs.Float.{k0}
 use Rattle.geometry.specs.declared.Rect.{Rect}
 use Rattle.geometry.specs.Choice.{either}
 use Rattle.layout.specs.declared.Layout.{Layout}
@@ -14,12 +11,12 @@ use Rattle.numerics.specs.Value.{Whole}
 use Rattle.numerics.specs.Rects.{Element, Area, OnScreen, Key, margin}
 use Rattle.numerics.specs.Range.{In, at, minus}
 use Rattle.numerics.specs.Each.{Each}
-use Rattle.numerics.specs.Ranges.{in-more, most-in, max-in, neg-in, placed-element}
+use Rattle.numerics.specs.Ranges.{in-more, max-in, placed-element}
 use Rattle.numerics.specs.Literals.{i0, i1}
 use Rattle.numerics.specs.Shrunk.{shrunkMargin}
 use Rattle.search.specs.Bounded.{Every, Bounded, Shrunk, BoundedGame}
 use Rattle.search.specs.Search.{placeGameInAspectOf}
-use Rattle.search.proofs.Changes.{every-imp, shrunk-bounded, arranged-shrunk, anchored-shrunk}
+use Rattle.search.proofs.Changes.{every-imp}
 use Rattle.search.proofs.Layouts.{place-bounded, place-game-in}
 use Rattle.settings.specs.declared.Preset.{Preset}
 use Rattle.settings.specs.Settings.{savedList}
@@ -28,138 +25,73 @@ use Rattle.saved.specs.SavedLaws.{not-empty}
 use Rattle.saved.specs.SavedRanges.{saved-bounded}
 use Rattle.toolbar.specs.Toolbar.{anchorToolbarOf}
 use Rattle.toolbar.specs.ToolbarRanges.{avoided-in, uncovered-in, anchor-in}
-use Rattle.arranged.specs.Arranged.{middle}
 use Rattle.band.specs.Band.{aspectOf}
-use Rattle.band.specs.BandRanges.{band-in}
-use Rattle.defaults.specs.DefaultLabels.{band-formed}
-use Rattle.defaults.specs.DefaultRanges.{default-in, analog-in, psp-default-in}
 use Rattle.cutouts.specs.Cutouts.{avoidCutoutsOf}
-use Rattle.cutouts.specs.CutoutRanges.{avoid-bounded}
-use Rattle.camera_rails.specs.CameraRanges.{camera-bounded, camera-in}
-use Rattle.picture.specs.PictureRanges.{controls-in}
 use Rattle.landscape.specs.LandscapeRanges.{landscape-bounded, landscape-game-in}
-use Rattle.preset.specs.Preset.{startOf, reusableTop, aroundOf, besideOf, firstOf, areaOf, arrangementOf, settledOf, maximumOf, freeOf, hasSticks, rowAllowedOf, laidOutOf, layoutInOf, viewportLayoutOf}
-use Rattle.preset.specs.PresetCases.{found-case, beside-case, firstFor, settledFor, placedFor, laid-out-case, whole-area, RowAllowed, row-allowed}
-use Rattle.preset.specs.PresetLabels.{OfMode, few, anchor-mode, saved-mode, first-mode, arranged-mode, placed-mode, layout-mode}
-use Rattle.preset.specs.MaximumRanges.{sized, shape, largest-in, lowered-game-in, below-toolbar-in}
+use Rattle.chosen.specs.Chosen.{areaOf}
+use Rattle.chosen.specs.ChosenCases.{whole-area}
+use Rattle.chosen.specs.ChosenLabels.{OfMode, anchor-mode, first-mode}
+use Rattle.chosen.specs.MaximumRanges.{shape, lowered-game-in, below-toolbar-in}
+use Rattle.chosen.specs.ChosenRanges.{Holds, holds, avoid-in, anchored-in, first-in, arrangement-bounded, arrangement-in}
+use Rattle.preset.specs.Preset.{settledOf, maximumOf, freeOf, hasSticks, rowAllowedOf, laidOutOf, layoutInOf, viewportLayoutOf}
+use Rattle.preset.specs.PresetCases.{firstFor, settledFor, placedFor, laid-out-case, RowAllowed, row-allowed}
+use Rattle.preset.specs.PresetLabels.{saved-mode, arranged-mode, placed-mode, layout-mode}
 
 -- where the toolbar was anchored anew
 keys-in : {C : Rect → Type 0} {l : Layout} → Every C (Key margin) l → Every C Element l
 keys-in L = every-imp (λ r P. P) (λ r P. placed-element P tt) L
 
--- a layout's arrays hold what is counted
-pub record Holds (l : Layout) : Type 0 where
-  pub controls : l .count ≤ length (l .controls)
-  pub sticks : l .stickcount ≤ length (l .sticks)
-  pub stick : 0 < length (l .sticks)
+module _ {w h : Float} (W : In w (at 1) (at 8192)) (H : In h (at 1) (at 8192)) {picture : Rect} (A : Area picture) where
+  settled-bounded : (cutouts : List Rect) → Each Element cutouts → (analog psp : Bool) (l : Layout) → OfMode analog psp l → Bounded l → (saved : List Rect) → Bounded (settledOf l w h picture cutouts saved)
+  unfolding settledOf
+  settled-bounded cutouts O analog psp l f L saved =
+      let restored = withSavedOf l w h saved in
+      let J = holds analog psp l f in
+      let K = holds analog psp restored (saved-mode analog psp l f w h cutouts saved) in
+      keys-in (anchored-in W H A cutouts O _ (avoid-in W H cutouts restored K (saved-bounded W H l (J .controls) (J .sticks) L saved)))
 
-holds : (analog psp : Bool) (l : Layout) → OfMode analog psp l → Holds l
-holds analog psp l f =
-    let n = few analog psp l f .count in
-    let m = few analog psp l f .stickcount in
-    let cs = f .1 .0 in
-    let ss = f .1 .1 in
-    record { controls = omega arith; sticks = omega arith; stick = omega arith }
+  -- ---- with no cutouts and nothing saved no element moves
+  settled-in : (saved : List Rect) → T (isEmpty saved) → {l : Layout} → Shrunk l → Every (OnScreen shrunkMargin) Element (settledOf l w h picture [] saved)
+  unfolding settledOf withSavedOf avoidCutoutsOf
+  settled-in [] t L = keys-in (anchored-in W H A [] tt _ L)
+  settled-in (r ∷ rs) t L = absurd (not-empty r rs t)
 
-module _ {w h : Float} (W : In w (at 1) (at 8192)) (H : In h (at 1) (at 8192)) where
-  wide : In w (at 0) (at 8192)
-  wide = in-more (at 0) (at 8192) W tt tt
+  pub row-in : (p : Preset) (cutouts : List Rect) → Each Element cutouts → T (rowAllowedOf p cutouts) → Every (OnScreen shrunkMargin) Element (placedFor p w h cutouts picture)
+  row-in p cutouts O t = go cutouts O (row-allowed p cutouts t)
+    where
+      go : (cutouts : List Rect) → Each Element cutouts → RowAllowed p cutouts → Every (OnScreen shrunkMargin) Element (placedFor p w h cutouts picture)
+      go [] O a = place-bounded (settled-in (savedList p) (a .saved) (arrangement-in W H A (hasSticks p) (p .psp) (maximumOf p) (freeOf p) (a .fit) (first-in W H A [] tt (p .psp) (p .analog) (maximumOf p)))) _ _ _ _ _
+      go (c ∷ cs) O a = absurd (not-empty c cs (a .clear))
 
-  high : In h (at 0) (at 8192)
-  high = in-more (at 0) (at 8192) H tt tt
+  -- ---- the layout
+  module _ (p : Preset) (cutouts : List Rect) (O : Each Element cutouts) where
+    pub settled-layout : Bounded (settledFor p w h cutouts picture)
+    settled-layout =
+        let first = firstFor p w h cutouts picture in
+        let F = first-in W H A cutouts O (p .psp) (p .analog) (maximumOf p) in
+        let f = first-mode w h cutouts picture (p .psp) (p .analog) (maximumOf p) in
+        settled-bounded cutouts O (hasSticks p) (p .psp) _ (arranged-mode p w h cutouts picture) (arrangement-bounded W H A cutouts O (hasSticks p) (p .psp) first F f (maximumOf p) (freeOf p)) (savedList p)
 
-  avoid-in : (cutouts : List Rect) (l : Layout) → Holds l → Bounded l → Bounded (avoidCutoutsOf l w h cutouts)
-  avoid-in cutouts l K L = avoid-bounded wide high l cutouts (K .controls) (K .sticks) L
+    pub placed-holds : Holds (placedFor p w h cutouts picture)
+    placed-holds = holds (hasSticks p) (p .psp) (placedFor p w h cutouts picture) (placed-mode p w h cutouts picture)
 
-  module _ {picture : Rect} (A : Area picture) where
-    module _ (cutouts : List Rect) (O : Each Element cutouts) where
-      anchored-in : {C D : Rect → Type 0} (l : Layout) → Every C D l → Every C (Key margin) (anchorToolbarOf l w h (reusableTop picture) k0 cutouts)
-      anchored-in l L = anchor-in l cutouts wide high (max-in (neg-in (most-in (A .y) tt) tt) i0) (in-more (minus 8192) (at 8192) i0 tt tt) (uncovered-in l cutouts O) L
+    laid-out-bounded : Bounded (laidOutOf p w h cutouts picture)
+    laid-out-bounded =
+        laid-out-case p w h cutouts picture Bounded (place-bounded settled-layout _ _ _ _ _)
+        (λ t. landscape-bounded (placedFor p w h cutouts picture) (placed-holds .controls) (placed-holds .stick) (row-in p cutouts O t) W H _ _)
 
-      start-in : (psp analog : Bool) → Shrunk (startOf psp analog w h cutouts picture)
-      unfolding startOf
-      start-in true analog = psp-default-in W H
-      start-in false true = analog-in W H
-      start-in false false = arranged-shrunk (default-in cutouts wide high O A (sized (A .h) (A .h0)))
+    module _ (scale : Whole (p .scale)) (across : Whole (p .offset .x)) (down : Whole (p .offset .y)) where
+      placed-game : (maximum overlap : Bool) (l first : Layout) → Bounded l → Shrunk first → BoundedGame (placeGameInAspectOf l (areaOf maximum first picture) (overlap || maximum) (p .scale) (p .offset) (aspectOf (p .psp)) .game)
+      unfolding areaOf placeGameInAspectOf
+      placed-game true true l first L F = lowered-game-in (p .psp) (below-toolbar-in F A) (p .scale) scale (p .offset) across down
+      placed-game true false l first L F = lowered-game-in (p .psp) (below-toolbar-in F A) (p .scale) scale (p .offset) across down
+      placed-game false overlap l first L F = place-game-in (shape (p .psp)) l L A (p .offset) across down (overlap || false) (p .scale) scale
 
-      first-in : (psp analog maximum : Bool) → Shrunk (firstOf psp analog maximum w h cutouts picture)
-      unfolding firstOf
-      first-in psp analog maximum = let S = start-in psp analog in either Shrunk maximum (anchored-shrunk (anchored-in _ S)) S
-
-      module _ (analog psp : Bool) (first : Layout) (F : Shrunk first) (f : OfMode analog psp first) where
-        beside-bounded : Bounded (besideOf first w h picture cutouts analog psp)
-        beside-bounded =
-            beside-case w h picture cutouts psp Bounded (λ m. Shrunk m × OfMode analog psp m) (λ m d. shrunk-bounded (d .0))
-            (λ m d. place-bounded (avoid-in cutouts m (holds analog psp m (d .1)) (shrunk-bounded (d .0))) picture false k1 middle (aspectOf psp)) analog (F, f)
-            (λ m e. (arranged-shrunk (band-in analog psp wide high A e), band-formed w h analog psp picture m e)) (λ m e. camera-bounded W H A psp cutouts O e)
-
-        arrangement-bounded : (maximum free : Bool) → Bounded (arrangementOf maximum free first w h (areaOf maximum first picture) cutouts analog psp)
-        unfolding arrangementOf areaOf aroundOf
-        arrangement-bounded true free =
-            let L = shrunk-bounded F in
-            either Bounded free (found-case Bounded _ L (λ m e. controls-in W H analog psp cutouts (largest-in psp (below-toolbar-in F A)) e)) L
-        arrangement-bounded false free = either Bounded free beside-bounded (shrunk-bounded F)
-
-      settled-bounded : (analog psp : Bool) (l : Layout) → OfMode analog psp l → Bounded l → (saved : List Rect) → Bounded (settledOf l w h picture cutouts saved)
-      unfolding settledOf
-      settled-bounded analog psp l f L saved =
-          let restored = withSavedOf l w h saved in
-          let J = holds analog psp l f in
-          let K = holds analog psp restored (saved-mode analog psp l f w h cutouts saved) in
-          keys-in (anchored-in _ (avoid-in cutouts restored K (saved-bounded W H l (J .controls) (J .sticks) L saved)))
-
-    -- ---- with no cutouts and nothing saved no element moves
-    beside-in : (analog psp : Bool) {first : Layout} → Shrunk first → Shrunk (besideOf first w h picture [] analog psp)
-    unfolding avoidCutoutsOf
-    beside-in analog psp F =
-        beside-case w h picture [] psp Shrunk Shrunk (λ m d. d) (λ m d. place-bounded d picture false k1 middle (aspectOf psp)) analog F (λ m e. arranged-shrunk (band-in analog psp wide high A e)) (λ m e. camera-in W H A psp e)
-
-    arrangement-in : (analog psp maximum free : Bool) {first : Layout} → T (not maximum) → Shrunk first → Shrunk (arrangementOf maximum free first w h (areaOf maximum first picture) [] analog psp)
-    unfolding arrangementOf areaOf
-    arrangement-in analog psp true free t F = absurd t
-    arrangement-in analog psp false free t F = either Shrunk free (beside-in analog psp F) F
-
-    settled-in : (saved : List Rect) → T (isEmpty saved) → {l : Layout} → Shrunk l → Every (OnScreen shrunkMargin) Element (settledOf l w h picture [] saved)
-    unfolding settledOf withSavedOf avoidCutoutsOf
-    settled-in [] t L = keys-in (anchored-in [] tt _ L)
-    settled-in (r ∷ rs) t L = absurd (not-empty r rs t)
-
-    pub row-in : (p : Preset) (cutouts : List Rect) → Each Element cutouts → T (rowAllowedOf p cutouts) → Every (OnScreen shrunkMargin) Element (placedFor p w h cutouts picture)
-    row-in p cutouts O t = go cutouts O (row-allowed p cutouts t)
-      where
-        go : (cutouts : List Rect) → Each Element cutouts → RowAllowed p cutouts → Every (OnScreen shrunkMargin) Element (placedFor p w h cutouts picture)
-        go [] O a = place-bounded (settled-in (savedList p) (a .saved) (arrangement-in (hasSticks p) (p .psp) (maximumOf p) (freeOf p) (a .fit) (first-in [] tt (p .psp) (p .analog) (maximumOf p)))) _ _ _ _ _
-        go (c ∷ cs) O a = absurd (not-empty c cs (a .clear))
-
-    -- ---- the layout
-    module _ (p : Preset) (cutouts : List Rect) (O : Each Element cutouts) where
-      pub settled-layout : Bounded (settledFor p w h cutouts picture)
-      settled-layout =
-          let first = firstFor p w h cutouts picture in
-          let F = first-in cutouts O (p .psp) (p .analog) (maximumOf p) in
-          let f = first-mode w h cutouts picture (p .psp) (p .analog) (maximumOf p) in
-          settled-bounded cutouts O (hasSticks p) (p .psp) _ (arranged-mode p w h cutouts picture) (arrangement-bounded cutouts O (hasSticks p) (p .psp) first F f (maximumOf p) (freeOf p)) (savedList p)
-
-      pub placed-holds : Holds (placedFor p w h cutouts picture)
-      placed-holds = holds (hasSticks p) (p .psp) (placedFor p w h cutouts picture) (placed-mode p w h cutouts picture)
-
-      laid-out-bounded : Bounded (laidOutOf p w h cutouts picture)
-      laid-out-bounded =
-          laid-out-case p w h cutouts picture Bounded (place-bounded settled-layout _ _ _ _ _)
-          (λ t. landscape-bounded (placedFor p w h cutouts picture) (placed-holds .controls) (placed-holds .stick) (row-in p cutouts O t) W H _ _)
-
-      module _ (scale : Whole (p .scale)) (across : Whole (p .offset .x)) (down : Whole (p .offset .y)) where
-        placed-game : (maximum overlap : Bool) (l first : Layout) → Bounded l → Shrunk first → BoundedGame (placeGameInAspectOf l (areaOf maximum first picture) (overlap || maximum) (p .scale) (p .offset) (aspectOf (p .psp)) .game)
-        unfolding areaOf placeGameInAspectOf
-        placed-game true true l first L F = lowered-game-in (p .psp) (below-toolbar-in F A) (p .scale) scale (p .offset) across down
-        placed-game true false l first L F = lowered-game-in (p .psp) (below-toolbar-in F A) (p .scale) scale (p .offset) across down
-        placed-game false overlap l first L F = place-game-in (shape (p .psp)) l L A (p .offset) across down (overlap || false) (p .scale) scale
-
-        laid-out-game : BoundedGame (laidOutOf p w h cutouts picture .game)
-        laid-out-game =
-            let G = placed-game (maximumOf p) (p .overlap) (settledFor p w h cutouts picture) _ settled-layout (first-in cutouts O (p .psp) (p .analog) (maximumOf p)) in
-            laid-out-case p w h cutouts picture (λ m. BoundedGame (m .game)) G
-            (λ t. landscape-game-in (placedFor p w h cutouts picture) (placed-holds .controls) (placed-holds .stick) (row-in p cutouts O t) W H (shape (p .psp)) (rw (whole-area (maximumOf p) _ picture (row-allowed p cutouts t .fit)) A) G)
+      laid-out-game : BoundedGame (laidOutOf p w h cutouts picture .game)
+      laid-out-game =
+          let G = placed-game (maximumOf p) (p .overlap) (settledFor p w h cutouts picture) _ settled-layout (first-in W H A cutouts O (p .psp) (p .analog) (maximumOf p)) in
+          laid-out-case p w h cutouts picture (λ m. BoundedGame (m .game)) G
+          (λ t. landscape-game-in (placedFor p w h cutouts picture) (placed-holds .controls) (placed-holds .stick) (row-in p cutouts O t) W H (shape (p .psp)) (rw (whole-area (maximumOf p) _ picture (row-allowed p cutouts t .fit)) A) G)
 
 -- ---- `layout_in` and `PlayerViewport::layout`
 module _ (p : Preset) {w h : Float} (W : In w (at 0) (at 8192)) (H : In h (at 0) (at 8192)) (cutouts : List Rect) (O : Each Element cutouts) {picture : Rect} (A : Area picture) where

@@ -21,10 +21,11 @@ use Rattle.settings.specs.Settings.{pictureFitOf}
 use Rattle.limits.specs.InRange.{InRange}
 use Rattle.band.specs.Band.{aspectOf}
 use Rattle.landscape.specs.LandscapeRanges.{landscape-widest}
+use Rattle.chosen.specs.ChosenCases.{whole-area}
+use Rattle.chosen.specs.MaximumRanges.{shape}
 use Rattle.preset.specs.Demand.{WidestPicture, WidestFor}
-use Rattle.preset.specs.MaximumRanges.{shape}
 use Rattle.preset.specs.Preset.{maximumOf, laidOutOf, layoutInOf}
-use Rattle.preset.specs.PresetCases.{areaFor, settledFor, placedFor, laid-out-case, whole-area}
+use Rattle.preset.specs.PresetCases.{areaFor, settledFor, placedFor, laid-out-case}
 use Rattle.preset.specs.PresetRanges.{row-in, settled-layout, placed-holds}
 
 module _ (p : Preset) (fit : pictureFitOf p ≡ KeepClear) (overlap : p .overlap ≡ false) (scale : p .scale ≡ k1) (across : Whole (p .offset .x)) (down : Whole (p .offset .y)) where

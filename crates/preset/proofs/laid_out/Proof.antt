@@ -1,6 +1,6 @@
 use Rattle.layout.specs.Layout.{cutoutList}
-use Rattle.preset.proofs.Keys.{same-area}
-use Rattle.preset.specs.PresetLabels.{Few, few, place-mode}
+use Rattle.chosen.proofs.Keys.{same-area}
+use Rattle.chosen.specs.ChosenLabels.{Few, few, place-mode}
 use Rattle.preset.specs.Preset.{hasSticks, laidOutOf}
 use borrow.Author.Needs.{needs}
 use Rattle.preset.proofs.laid_out.Statement.{statement}

@@ -1,5 +1,6 @@
-use Rattle.preset.proofs.Kept.{holds}
-use Rattle.preset.specs.PresetLabels.{OfMode, Few, few, saved-mode, avoid-mode, settled-mode}
+use Rattle.chosen.proofs.Kept.{holds}
+use Rattle.chosen.specs.ChosenLabels.{OfMode, Few, few, avoid-mode}
+use Rattle.preset.specs.PresetLabels.{saved-mode, settled-mode}
 use lib.ListN.{take}
 use borrow.Author.Needs.{needs}
 use Rattle.preset.proofs.settled.Statement.{statement}

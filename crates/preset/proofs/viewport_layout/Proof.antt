@@ -2,7 +2,8 @@ use Rattle.preset.specs.Preset.{hasSticks, viewportLayoutOf}
 use borrow.Author.Needs.{needs}
 use Rattle.preset.proofs.viewport_layout.Statement.{statement}
 use Rattle.preset.proofs.viewport_layout.Tie as tie
-use Rattle.preset.specs.PresetLabels.{Few, few, anchor-mode, layout-mode}
+use Rattle.chosen.specs.ChosenLabels.{Few, few, anchor-mode}
+use Rattle.preset.specs.PresetLabels.{layout-mode}
 
 layout-in-requires : tie.Need-layout-in-requires
 layout-in-requires c κs = search needs

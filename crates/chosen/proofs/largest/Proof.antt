@@ -1,7 +1,7 @@
 use borrow.Author.Needs.{needs}
-use Rattle.preset.proofs.largest.Statement.{statement}
-use Rattle.preset.proofs.largest.Tie as tie
-use Rattle.preset.specs.Preset.{largestOf}
+use Rattle.chosen.proofs.largest.Statement.{statement}
+use Rattle.chosen.proofs.largest.Tie as tie
+use Rattle.chosen.specs.Chosen.{largestOf}
 
 clear-picture-aspect-requires : tie.Need-clear-picture-aspect-requires
 clear-picture-aspect-requires c κs = search needs

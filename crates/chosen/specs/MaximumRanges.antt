@@ -27,7 +27,7 @@ use Rattle.search.specs.Search.{bottomOf, withinOf, betterOf, widthAt, tryAt, c
 use Rattle.search.proofs.Placement.{game-is}
 use Rattle.search.proofs.Shapes.{Shape, standard-shape, psp-shape}
 use Rattle.band.specs.Band.{aspectOf}
-use Rattle.preset.specs.Preset.{belowToolbarOf, largestOf}
+use Rattle.chosen.specs.Chosen.{belowToolbarOf, largestOf}
 
 -- 8192 and a sixteenth, as a size and as an end of a range
 abbrev most : ℕ

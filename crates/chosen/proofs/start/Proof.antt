@@ -1,11 +1,11 @@
-use Rattle.preset.proofs.Kept.{holds}
+use Rattle.chosen.proofs.Kept.{holds}
 use Rattle.layout.specs.Layout.{cutoutList}
-use Rattle.preset.specs.PresetLabels.{OfMode, start-mode}
+use Rattle.chosen.specs.ChosenLabels.{OfMode, start-mode}
 use mathlib.Core.Bool.{_||_}
 use borrow.Author.Needs.{needs}
-use Rattle.preset.proofs.start.Statement.{statement}
-use Rattle.preset.proofs.start.Tie as tie
-use Rattle.preset.specs.Preset.{startOf}
+use Rattle.chosen.proofs.start.Statement.{statement}
+use Rattle.chosen.proofs.start.Tie as tie
+use Rattle.chosen.specs.Chosen.{startOf}
 
 psp-requires : tie.Need-psp-requires
 psp-requires c κs = search needs

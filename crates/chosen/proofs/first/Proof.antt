@@ -1,11 +1,11 @@
-use Rattle.preset.proofs.Kept.{holds}
+use Rattle.chosen.proofs.Kept.{holds}
 use Rattle.layout.specs.Layout.{cutoutList}
-use Rattle.preset.specs.PresetLabels.{OfMode, few, first-mode}
+use Rattle.chosen.specs.ChosenLabels.{OfMode, few, first-mode}
 use mathlib.Core.Bool.{_||_}
 use borrow.Author.Needs.{needs}
-use Rattle.preset.proofs.first.Statement.{statement}
-use Rattle.preset.proofs.first.Tie as tie
-use Rattle.preset.specs.Preset.{firstOf}
+use Rattle.chosen.proofs.first.Statement.{statement}
+use Rattle.chosen.proofs.first.Tie as tie
+use Rattle.chosen.specs.Chosen.{firstOf}
 
 start-requires : tie.Need-start-requires
 start-requires c κs = search needs

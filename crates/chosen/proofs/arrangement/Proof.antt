@@ -1,12 +1,12 @@
 use mathlib.Core.Bool.{_||_}
-use Rattle.preset.proofs.Kept.{holds}
+use Rattle.chosen.proofs.Kept.{holds}
 use Rattle.layout.specs.Layout.{cutoutList}
-use Rattle.preset.specs.PresetLabels.{OfMode, arrangement-mode, first-mode, stick-mode}
+use Rattle.chosen.specs.ChosenLabels.{OfMode, arrangement-mode, stick-mode, first-mode}
 use borrow.Author.Tests.{not-true, not-false}
 use borrow.Author.Needs.{needs}
-use Rattle.preset.proofs.arrangement.Statement.{statement}
-use Rattle.preset.proofs.arrangement.Tie as tie
-use Rattle.preset.specs.Preset.{firstOf, arrangementOf}
+use Rattle.chosen.proofs.arrangement.Statement.{statement}
+use Rattle.chosen.proofs.arrangement.Tie as tie
+use Rattle.chosen.specs.Chosen.{firstOf, arrangementOf}
 
 returns : tie.Need-returns
 unfolding arrangementOf

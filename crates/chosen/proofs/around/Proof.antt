@@ -1,7 +1,7 @@
 use borrow.Author.Needs.{needs}
-use Rattle.preset.proofs.around.Statement.{statement}
-use Rattle.preset.proofs.around.Tie as tie
-use Rattle.preset.specs.Preset.{aroundOf}
+use Rattle.chosen.proofs.around.Statement.{statement}
+use Rattle.chosen.proofs.around.Tie as tie
+use Rattle.chosen.specs.Chosen.{aroundOf}
 
 aspect-requires : tie.Need-aspect-requires
 aspect-requires c κs = search needs

@@ -1,9 +1,9 @@
 use borrow.Author.Tests.{not-true, not-false}
 use borrow.Author.Needs.{needs}
-use Rattle.preset.proofs.try_rails.Statement.{statement}
-use Rattle.preset.proofs.try_rails.Tie as tie
-use Rattle.preset.specs.Preset.{tryRailsOf}
-use Rattle.preset.specs.PresetLabels.{Few, few, avoid-mode}
+use Rattle.chosen.proofs.try_rails.Statement.{statement}
+use Rattle.chosen.proofs.try_rails.Tie as tie
+use Rattle.chosen.specs.Chosen.{tryRailsOf}
+use Rattle.chosen.specs.ChosenLabels.{Few, few, avoid-mode}
 use mathlib.Core.Bool.{true}
 
 analog-camera-rails-requires : tie.Need-analog-camera-rails-requires

@@ -1,8 +1,8 @@
 use native.Mathlib.Omega.{arith}
 use borrow.Author.Needs.{needs}
-use Rattle.preset.specs.Preset.{areaOf}
-use Rattle.preset.proofs.area.Statement.{statement}
-use Rattle.preset.proofs.area.Tie as tie
+use Rattle.chosen.specs.Chosen.{areaOf}
+use Rattle.chosen.proofs.area.Statement.{statement}
+use Rattle.chosen.proofs.area.Tie as tie
 
 anchor-toolbar-requires : tie.Need-anchor-toolbar-requires
 anchor-toolbar-requires c κs = let b = c .before .before .blank .ensures in (search needs, rw b (omega arith), rw b (omega arith))

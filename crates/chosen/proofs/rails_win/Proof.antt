@@ -1,7 +1,7 @@
 use borrow.Author.Needs.{needs}
-use Rattle.preset.proofs.rails_win.Statement.{statement}
-use Rattle.preset.proofs.rails_win.Tie as tie
-use Rattle.preset.specs.Preset.{railsWinOf}
+use Rattle.chosen.proofs.rails_win.Statement.{statement}
+use Rattle.chosen.proofs.rails_win.Tie as tie
+use Rattle.chosen.specs.Chosen.{railsWinOf}
 
 element-copy-out-stick : tie.Need-element-copy-out-stick
 element-copy-out-stick c = search needs

@@ -1,13 +1,13 @@
-use Rattle.preset.specs.Preset.{foundOr, besideOf}
-use Rattle.preset.specs.PresetLabels.{OfMode, found-mode}
+use Rattle.chosen.specs.Chosen.{foundOr, besideOf}
+use Rattle.chosen.specs.ChosenLabels.{OfMode, found-mode}
 use mathlib.Core.Path.{_≡_, _∙_}
 use mathlib.Core.Logic.{⊎-elim}
 use Rattle.layout.specs.Layout.{cutoutList}
 use Rattle.band.specs.Band.{controllerBandOf}
 use Rattle.defaults.specs.DefaultLabels.{band-formed}
 use borrow.Author.Needs.{needs}
-use Rattle.preset.proofs.beside.Statement.{statement}
-use Rattle.preset.proofs.beside.Tie as tie
+use Rattle.chosen.proofs.beside.Statement.{statement}
+use Rattle.chosen.proofs.beside.Tie as tie
 
 controller-band-requires : tie.Need-controller-band-requires
 controller-band-requires c κs = search needs

@@ -1,7 +1,7 @@
 use borrow.Author.Needs.{needs}
-use Rattle.preset.specs.Preset.{belowToolbarOf}
-use Rattle.preset.proofs.below_toolbar.Statement.{statement}
-use Rattle.preset.proofs.below_toolbar.Tie as tie
+use Rattle.chosen.specs.Chosen.{belowToolbarOf}
+use Rattle.chosen.proofs.below_toolbar.Statement.{statement}
+use Rattle.chosen.proofs.below_toolbar.Tie as tie
 
 returns : tie.Need-returns
 unfolding belowToolbarOf

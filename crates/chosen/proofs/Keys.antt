@@ -8,7 +8,7 @@ use Rattle.geometry.specs.declared.Rect.{Rect}
 use Rattle.layout.specs.declared.Layout.{Layout}
 use Rattle.toolbar.specs.Toolbar.{avoidedOf, anchorToolbarOf}
 use Rattle.arranged.specs.Blank.{blankOf}
-use Rattle.preset.specs.Preset.{reusableTop, startOf, belowToolbarOf, firstOf, areaOf}
+use Rattle.chosen.specs.Chosen.{startOf, reusableTop, belowToolbarOf, firstOf, areaOf}
 
 module _ (w h : Float) (cutouts : List Rect) (picture : Rect) where
   same-below : (l m : Layout) (top : Float) → belowToolbarOf (anchorToolbarOf l w h top k0 cutouts) picture ≡ belowToolbarOf (anchorToolbarOf m w h top k0 cutouts) picture

@@ -1,0 +1,5 @@
+pub mod Chosen
+pub mod ChosenCases
+pub mod ChosenLabels
+pub mod MaximumRanges
+pub mod ChosenRanges
