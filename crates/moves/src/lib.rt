@@ -4,7 +4,7 @@ ghost use mathlib.Core.List.{foldl};
 ghost use Prim.Native.Nat.{_+_, _<_, _≤_};
 ghost use lib.ListN.{length, take};
 ghost use Rattle.layout.specs.Layout.{cutoutList, elementList};
-ghost use Rattle.moves.specs.Moves.{Holds, four, rankOf, shorterOf, placeOf, insertAtOf, insertOf, movesIn, movedOf, insideOf, firstClearOf, searchOf};
+ghost use Rattle.moves.specs.Moves.{Holds, four, rankOf, shorterOf, placeOf, insertAtOf, insertOf, movesIn, movedOf, insideOf, clearOf, allClearOf, firstClearOf, searchOf};
 use geometry::Rect;
 use layout::Cutouts;
 use layout::Elements;
@@ -118,7 +118,37 @@ fn inside(r: Rect, w: f32, h: f32) -> bool
     r.x >= 0.0 && (r.y >= 0.0 && (r.x + r.w <= w && r.y + r.h <= h))
 }
 
-// The first move that leaves each rectangle of the group on the screen, off the cutouts and off the other elements.
+// On the screen, off the cutouts and off the other elements.
+fn clear(r: Rect, w: f32, h: f32, holes: Cutouts, others: Elements) -> bool
+    requires { ⌜ (holes .count ≤ 16) × (others .count ≤ 19) ⌝ }
+    ensures { λ q. ⌜ q ≡ clearOf w h (cutoutList holes) (elementList others) r ⌝ }
+{
+    inside(r, w, h) && (!holes.overlap(r) && !others.overlap(r))
+}
+
+// A move leaves each of the m rectangles of the group clear.
+fn all_clear(
+    original: [Rect; 4],
+    m: usize,
+    dx: f32,
+    dy: f32,
+    w: f32,
+    h: f32,
+    holes: Cutouts,
+    others: Elements,
+) -> bool
+    requires { ⌜ (m ≤ 4) × ((holes .count ≤ 16) × (others .count ≤ 19)) ⌝ }
+    ensures { λ q. ⌜ q ≡ allClearOf w h (cutoutList holes) (elementList others) (take m original) (Move.Go dx dy) ⌝ }
+{
+    for j in 0..m {
+        if !clear(moved(original[j], dx, dy), w, h, holes, others) {
+            return false;
+        }
+    }
+    true
+}
+
+// The first move that leaves the group clear.
 fn first_clear(
     dxs: &[f32; 256],
     dys: &[f32; 256],
@@ -133,30 +163,12 @@ fn first_clear(
     requires { ⌜ ((length (now dxs) ≡ 256) × (length (now dys) ≡ 256)) × ((n ≤ 256) × ((m ≤ 4) × ((holes .count ≤ 16) × (others .count ≤ 19)))) ⌝ }
     ensures { λ r. ⌜ r ≡ firstClearOf w h (cutoutList holes) (elementList others) (take m original) (movesIn (now (dxs .entry)) (now (dys .entry)) n) ⌝ }
 {
-    let hole = holes.at;
-    let holecount = holes.count;
-    let other = others.at;
-    let othercount = others.count;
-    'moves: for i in 0..n {
+    for i in 0..n {
         let dx = dxs[i];
         let dy = dys[i];
-        for j in 0..m {
-            let r = moved(original[j], dx, dy);
-            if !inside(r, w, h) {
-                continue 'moves;
-            }
-            for k in 0..holecount {
-                if r.overlaps(hole[k]) {
-                    continue 'moves;
-                }
-            }
-            for k in 0..othercount {
-                if r.overlaps(other[k]) {
-                    continue 'moves;
-                }
-            }
+        if all_clear(original, m, dx, dy, w, h, holes, others) {
+            return Move::Go(dx, dy);
         }
-        return Move::Go(dx, dy);
     }
     Move::Stay
 }

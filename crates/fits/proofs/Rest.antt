@@ -14,11 +14,6 @@ use Rattle.fits.specs.declared.Input.{Input}
 use Rattle.fits.specs.Fits.{inputsOf, onScreenOf, freeOf, separateOf, allFree, fitsOf}
 
 module _ (w h : Float) (game : Rect) (holes : List Rect) where
-  -- an input by its three tests
-  pub free-is : (r : Rect) {a b c : Bool} → a ≡ onScreenOf r w h → b ≡ overlapsOf r game → c ≡ anyOf (overlapsOf r) holes → freeOf w h game holes r ≡ a && (not b && not c)
-  unfolding freeOf
-  free-is r p q s = rw (← p, ← q, ← s)
-
   -- the inputs from i on decide
   abbrev pub Left : List Input → ℕ → ℕ → Type 0
   Left at n i = allFree w h game holes (drop i (take n at)) ≡ allFree w h game holes (take n at)
