@@ -1,17 +1,16 @@
 -- The loops of `fits`: what is left from an input on gives the whole answer.
 use mathlib.Core.Path.{_≡_, refl, ap, _∙_}
-use mathlib.Core.Bool.{Bool, true, false, not, _&&_}
+use mathlib.Core.Bool.{true, false}
 use mathlib.Core.List.{List}
 use Prim.Native.Nat.{ℕ, _+_, _<_, _≤_}
 use lib.Ieee.{Float}
 use lib.ListN.{length, take, drop, getD}
 use Rattle.geometry.specs.declared.Rect.{Rect}
-use Rattle.geometry.specs.Rect.{overlapsOf}
 use Rattle.layout.specs.declared.Layout.{Layout}
-use Rattle.layout.specs.Lists.{anyOf, allOf}
+use Rattle.layout.specs.Lists.{allOf}
 use Rattle.layout.proofs.Loops.{next-of, none-left}
 use Rattle.fits.specs.declared.Input.{Input}
-use Rattle.fits.specs.Fits.{inputsOf, onScreenOf, freeOf, separateOf, allFree, fitsOf}
+use Rattle.fits.specs.Fits.{inputsOf, freeOf, separateOf, allFree, fitsOf}
 
 module _ (w h : Float) (game : Rect) (holes : List Rect) where
   -- the inputs from i on decide
