@@ -15,7 +15,6 @@ use arranged::placed;
 use band::aspect;
 use band::with_inputs;
 use cutouts::avoid_cutouts;
-use cutouts::hit;
 use defaults::analog_default;
 use float::max;
 use float::min;
@@ -147,7 +146,7 @@ fn hits(elements: Elements, cutouts: Cutouts) -> bool
 {
     let n = elements.count;
     for i in 0..n {
-        if hit(elements.at[i], cutouts) {
+        if cutouts.overlap(elements.at[i]) {
             return true;
         }
     }

@@ -6,7 +6,7 @@ ghost use Prim.Native.Nat.{_≤_};
 ghost use lib.ListN.{length, take};
 ghost use Rattle.layout.specs.Actions.{actionElementsOf};
 ghost use Rattle.layout.specs.Layout.{cutoutList, elementCountOf, elementList};
-ghost use Rattle.cutouts.specs.Cutouts.{hasAreaOf, withAreaOf, inGroupOf, membersOf, othersOf, hitOf, hitsOf, shiftByOf, shiftOf, settleOf, avoidOf, avoidCutoutsOf, groupList, belowAll};
+ghost use Rattle.cutouts.specs.Cutouts.{hasAreaOf, withAreaOf, inGroupOf, membersOf, othersOf, hitsOf, shiftByOf, shiftOf, settleOf, avoidOf, avoidCutoutsOf, groupList, belowAll};
 use geometry::Rect;
 use layout::Cutouts;
 use layout::Elements;
@@ -91,26 +91,12 @@ fn others(elements: Elements, group: Group) -> Elements
     Elements { at: out, count }
 }
 
-// The rectangle overlaps a cutout.
-pub fn hit(r: Rect, holes: Cutouts) -> bool
-    requires { ⌜ holes .count ≤ 16 ⌝ }
-    ensures { λ b. ⌜ b ≡ hitOf r (cutoutList holes) ⌝ }
-{
-    let n = holes.count;
-    for k in 0..n {
-        if r.overlaps(holes.at[k]) {
-            return true;
-        }
-    }
-    false
-}
-
 fn hits(original: [Rect; 4], m: usize, holes: Cutouts) -> bool
     requires { ⌜ (m ≤ 4) × (holes .count ≤ 16) ⌝ }
     ensures { λ r. ⌜ r ≡ hitsOf (take m original) (cutoutList holes) ⌝ }
 {
     for i in 0..m {
-        if hit(original[i], holes) {
+        if holes.overlap(original[i]) {
             return true;
         }
     }
@@ -181,7 +167,7 @@ fn avoid(w: f32, h: f32, holes: Cutouts, faces: Group, elements: Elements) -> El
         if in_group(faces, i) {
             continue;
         }
-        if !hit(out.at[i], holes) {
+        if !holes.overlap(out.at[i]) {
             continue;
         }
         out = settle(w, h, holes, out, single(i));

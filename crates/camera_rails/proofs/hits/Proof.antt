@@ -10,30 +10,29 @@ use Rattle.camera_rails.proofs.hits.Statement.{statement}
 use Rattle.camera_rails.proofs.hits.Tie as tie
 
 abbrev Inv-loop : tie.InvT-loop
-Inv-loop cutouts elements n i₀ i = (i ≤ n) × (hitsOf (drop i (take n (elements .at))) (cutoutList cutouts) ≡ hitsOf (take n (elements .at)) (cutoutList cutouts))
+Inv-loop cutouts elements n i₀ i = (i ≤ n) × (n ≤ length (elements .at)) × (hitsOf (drop i (take n (elements .at))) (cutoutList cutouts) ≡ hitsOf (take n (elements .at)) (cutoutList cutouts))
 
 abbrev μ-loop : tie.MeasureT-loop
 μ-loop cutouts elements n i₀ i = n - i
 
 loop-holds : tie.Need-loop-holds Inv-loop μ-loop
-loop-holds c = (omega arith, refl)
+loop-holds c =
+    let k : length (c .args .t1 .at) ≡ 19 = search sized in
+    (omega arith, omega arith, refl)
 
-mul-hit : tie.Need-mul-hit Inv-loop μ-loop
-mul-hit c = omega arith
+mul-overlap : tie.Need-mul-overlap Inv-loop μ-loop
+mul-overlap c = omega arith
 
-element-copy-out-hit : tie.Need-element-copy-out-hit Inv-loop μ-loop
-element-copy-out-hit c = omega arith
+element-copy-out-overlap : tie.Need-element-copy-out-overlap Inv-loop μ-loop
+element-copy-out-overlap c = omega arith
 
-hit-requires : tie.Need-hit-requires Inv-loop μ-loop
-hit-requires c κs = search needs
+overlap-requires : tie.Need-overlap-requires Inv-loop μ-loop
+overlap-requires c κs = search needs
 
 returns : tie.Need-returns Inv-loop μ-loop
 returns c =
-    let l = c .before .before .before .before in
-    let es = l .before .args .t1 in
-    let n : length (es .at) ≡ 19 = search sized in
-    let e = next-of anyRect (es .at) 19 (es .count) (l .loop .i) n (omega arith) (omega arith) in
-    any-hit _ _ _ _ _ _ (l .loop .inv .1) e (c .before .hit .ensures) (c .if1 .taken)
+    let l = c .before .before .before .before .loop in
+    any-hit _ _ _ _ _ _ (l .inv .2) (next-of anyRect _ _ _ _ refl (l .inv .1) (c .before .before .before .loop-test .taken)) (c .before .overlap .ensures) (c .if1 .taken)
 
 add-i : tie.Need-add-i Inv-loop μ-loop
 add-i c = omega arith
@@ -43,18 +42,13 @@ loop-less c = omega arith
 
 loop-again : tie.Need-loop-again Inv-loop μ-loop
 loop-again c =
-    let l = c .before .before .before .before in
-    let es = l .before .args .t1 in
-    let n : length (es .at) ≡ 19 = search sized in
-    let e = next-of anyRect (es .at) 19 (es .count) (l .loop .i) n (omega arith) (omega arith) in
-    (omega arith, any-miss _ _ _ _ _ _ (l .loop .inv .1) e (c .before .hit .ensures) (c .if1 .left))
+    let l = c .before .before .before .before .loop in
+    (omega arith, l .inv .1, any-miss _ _ _ _ _ _ (l .inv .2) (next-of anyRect _ _ _ _ refl (l .inv .1) (c .before .before .before .loop-test .taken)) (c .before .overlap .ensures) (c .if1 .left))
 
 returns-2 : tie.Need-returns-2 Inv-loop μ-loop
 returns-2 c =
-    let l = c .before in
-    let es = l .before .args .t1 in
-    let n : length (es .at) ≡ 19 = search sized in
-    any-end _ _ _ (l .loop .inv .1) (none-left (es .at) 19 (es .count) (l .loop .i) n (omega arith) (c .loop-test .left))
+    let l = c .before .loop in
+    any-end _ _ _ (l .inv .2) (none-left _ _ _ _ refl (l .inv .1) (c .loop-test .left))
 
 pub hits-spec : {M : Type 1} → statement M
 hits-spec =
@@ -63,9 +57,9 @@ hits-spec =
     Inv-loop
     μ-loop
     loop-holds
-    mul-hit
-    element-copy-out-hit
-    hit-requires
+    mul-overlap
+    element-copy-out-overlap
+    overlap-requires
     returns
     add-i
     loop-less

@@ -3,37 +3,34 @@ use native.Mathlib.Omega.{arith}
 use mathlib.Core.Path.{_≡_, refl}
 use Prim.Native.Nat.{_-_, _≤_}
 use lib.ListN.{length, take, drop}
-use Rattle.layout.proofs.Loops.{sized, next-of, none-left, any-hit, any-miss, any-end}
+use Rattle.layout.proofs.Loops.{next-of, none-left, any-hit, any-miss, any-end}
 use Rattle.layout.specs.Layout.{anyRect, cutoutList}
 use Rattle.cutouts.specs.Cutouts.{hitsOf}
 use Rattle.cutouts.proofs.hits.Statement.{statement}
 use Rattle.cutouts.proofs.hits.Tie as tie
 
 abbrev Inv-loop : tie.InvT-loop
-Inv-loop m holes original i₀ i = (i ≤ m) × (hitsOf (drop i (take m original)) (cutoutList holes) ≡ hitsOf (take m original) (cutoutList holes))
+Inv-loop m holes original i₀ i = (i ≤ m) × (m ≤ length original) × (hitsOf (drop i (take m original)) (cutoutList holes) ≡ hitsOf (take m original) (cutoutList holes))
 
 abbrev μ-loop : tie.MeasureT-loop
 μ-loop m holes original i₀ i = m - i
 
 loop-holds : tie.Need-loop-holds Inv-loop μ-loop
-loop-holds c = (omega arith, refl)
+loop-holds c = (omega arith, omega arith, refl)
 
-mul-hit : tie.Need-mul-hit Inv-loop μ-loop
-mul-hit c = omega arith
+mul-overlap : tie.Need-mul-overlap Inv-loop μ-loop
+mul-overlap c = omega arith
 
-array-copy-out-hit : tie.Need-array-copy-out-hit Inv-loop μ-loop
-array-copy-out-hit c = omega arith
+array-copy-out-overlap : tie.Need-array-copy-out-overlap Inv-loop μ-loop
+array-copy-out-overlap c = omega arith
 
-hit-requires : tie.Need-hit-requires Inv-loop μ-loop
-hit-requires c κs = search needs
+overlap-requires : tie.Need-overlap-requires Inv-loop μ-loop
+overlap-requires c κs = search needs
 
 returns : tie.Need-returns Inv-loop μ-loop
 returns c =
-    let l = c .before .before .before .before in
-    let s = l .before in
-    let n : length (s .args .t1) ≡ 4 = search sized in
-    let e = next-of anyRect (s .args .t1) 4 (s .args .m) (l .loop .i) n (omega arith) (omega arith) in
-    any-hit _ _ _ _ _ _ (l .loop .inv .1) e (c .before .hit .ensures) (c .if1 .taken)
+    let l = c .before .before .before .before .loop in
+    any-hit _ _ _ _ _ _ (l .inv .2) (next-of anyRect _ _ _ _ refl (l .inv .1) (c .before .before .before .loop-test .taken)) (c .before .overlap .ensures) (c .if1 .taken)
 
 add-i : tie.Need-add-i Inv-loop μ-loop
 add-i c = omega arith
@@ -43,18 +40,13 @@ loop-less c = omega arith
 
 loop-again : tie.Need-loop-again Inv-loop μ-loop
 loop-again c =
-    let l = c .before .before .before .before in
-    let s = l .before in
-    let n : length (s .args .t1) ≡ 4 = search sized in
-    let e = next-of anyRect (s .args .t1) 4 (s .args .m) (l .loop .i) n (omega arith) (omega arith) in
-    (omega arith, any-miss _ _ _ _ _ _ (l .loop .inv .1) e (c .before .hit .ensures) (c .if1 .left))
+    let l = c .before .before .before .before .loop in
+    (omega arith, l .inv .1, any-miss _ _ _ _ _ _ (l .inv .2) (next-of anyRect _ _ _ _ refl (l .inv .1) (c .before .before .before .loop-test .taken)) (c .before .overlap .ensures) (c .if1 .left))
 
 returns-2 : tie.Need-returns-2 Inv-loop μ-loop
 returns-2 c =
-    let l = c .before in
-    let s = l .before in
-    let n : length (s .args .t1) ≡ 4 = search sized in
-    any-end _ _ _ (l .loop .inv .1) (none-left (s .args .t1) 4 (s .args .m) (l .loop .i) n (omega arith) (c .loop-test .left))
+    let l = c .before .loop in
+    any-end _ _ _ (l .inv .2) (none-left _ _ _ _ refl (l .inv .1) (c .loop-test .left))
 
 pub hits-spec : {M : Type 1} → statement M
 hits-spec =
@@ -63,9 +55,9 @@ hits-spec =
     Inv-loop
     μ-loop
     loop-holds
-    mul-hit
-    array-copy-out-hit
-    hit-requires
+    mul-overlap
+    array-copy-out-overlap
+    overlap-requires
     returns
     add-i
     loop-less
