@@ -144,16 +144,10 @@ fn hits(elements: Elements, cutouts: Cutouts) -> bool
     requires { ⌜ (elements .count ≤ 19) × (cutouts .count ≤ 16) ⌝ }
     ensures { λ r. ⌜ r ≡ hitsOf (elementList elements) (cutoutList cutouts) ⌝ }
 {
-    let element = elements.at;
     let n = elements.count;
-    let cutout = cutouts.at;
-    let count = cutouts.count;
     for i in 0..n {
-        let r = element[i];
-        for k in 0..count {
-            if r.overlaps(cutout[k]) {
-                return true;
-            }
+        if cutouts.overlap(elements.at[i]) {
+            return true;
         }
     }
     false

@@ -5,9 +5,7 @@ ghost use mathlib.Core.List.{[], _∷_};
 ghost use Prim.Native.Nat.{_≤_};
 ghost use lib.ListN.{length, take};
 ghost use Rattle.layout.specs.Actions.{actionElementsOf};
-ghost use Rattle.geometry.specs.Rect.{overlapsOf};
 ghost use Rattle.layout.specs.Layout.{cutoutList, elementCountOf, elementList};
-ghost use Rattle.layout.specs.Lists.{anyOf};
 ghost use Rattle.cutouts.specs.Cutouts.{hasAreaOf, withAreaOf, inGroupOf, membersOf, othersOf, hitsOf, shiftByOf, shiftOf, settleOf, avoidOf, avoidCutoutsOf, groupList, belowAll};
 use geometry::Rect;
 use layout::Cutouts;
@@ -97,14 +95,9 @@ fn hits(original: [Rect; 4], m: usize, holes: Cutouts) -> bool
     requires { ⌜ (m ≤ 4) × (holes .count ≤ 16) ⌝ }
     ensures { λ r. ⌜ r ≡ hitsOf (take m original) (cutoutList holes) ⌝ }
 {
-    let hole = holes.at;
-    let holecount = holes.count;
     for i in 0..m {
-        let r = original[i];
-        for k in 0..holecount {
-            if r.overlaps(hole[k]) {
-                return true;
-            }
+        if holes.overlap(original[i]) {
+            return true;
         }
     }
     false
@@ -162,20 +155,6 @@ fn single(i: usize) -> Group
     }
 }
 
-// A cutout overlaps the rectangle.
-fn hit(r: Rect, holes: Cutouts) -> bool
-    requires { ⌜ holes .count ≤ 16 ⌝ }
-    ensures { λ b. ⌜ b ≡ anyOf (overlapsOf r) (cutoutList holes) ⌝ }
-{
-    let n = holes.count;
-    for k in 0..n {
-        if r.overlaps(holes.at[k]) {
-            return true;
-        }
-    }
-    false
-}
-
 // The faces as one group, then every other element: later groups see the earlier ones moved. Most elements lie on no cutout
 // and are left before the arrays are handed on.
 fn avoid(w: f32, h: f32, holes: Cutouts, faces: Group, elements: Elements) -> Elements
@@ -188,7 +167,7 @@ fn avoid(w: f32, h: f32, holes: Cutouts, faces: Group, elements: Elements) -> El
         if in_group(faces, i) {
             continue;
         }
-        if !hit(out.at[i], holes) {
+        if !holes.overlap(out.at[i]) {
             continue;
         }
         out = settle(w, h, holes, out, single(i));

@@ -1,1 +1,1 @@
-mod Free
+mod Rest

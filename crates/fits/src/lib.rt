@@ -1,9 +1,10 @@
 // `fits` of input/picture.rs: whether a controller's elements lie clear of a picture, of the camera holes and of each other.
 ghost use mathlib.Core.Path.{_≡_};
-ghost use Prim.Native.Nat.{_≤_, _+_};
-ghost use lib.ListN.{take};
+ghost use Prim.Native.Nat.{_≤_, _<_, _+_};
+ghost use lib.ListN.{take, drop};
 ghost use Rattle.layout.specs.Layout.{cutoutList};
-ghost use Rattle.fits.specs.Fits.{inputsOf, separateOf, onScreenOf, fitsOf};
+ghost use Rattle.layout.specs.Lists.{allOf};
+ghost use Rattle.fits.specs.Fits.{inputsOf, separateOf, onScreenOf, freeOf, fitsOf};
 use geometry::Rect;
 use hypot::hypot;
 use layout::Cutouts;
@@ -72,36 +73,41 @@ fn on_screen(r: Rect, w: f32, h: f32) -> bool
     r.x >= 0.0 && (r.y >= 0.0 && (r.x + r.w <= w + 0.01 && r.y + r.h <= h + 0.01))
 }
 
+fn free(r: Rect, w: f32, h: f32, game: Rect, holes: Cutouts) -> bool
+    requires { ⌜ holes .count ≤ 16 ⌝ }
+    ensures { λ b. ⌜ b ≡ freeOf w h game (cutoutList holes) r ⌝ }
+{
+    on_screen(r, w, h) && (!r.overlaps(game) && !holes.overlap(r))
+}
+
+// An input is separate from each of those after place i.
+fn separate_after(a: Input, inputs: InputList, i: usize) -> bool
+    requires { ⌜ (i < inputs .count) × (inputs .count ≤ 15) ⌝ }
+    ensures { λ b. ⌜ b ≡ allOf (separateOf a) (drop (i + 1) (take (inputs .count) (inputs .at))) ⌝ }
+{
+    let n = inputs.count;
+    for j in i + 1..n {
+        if !separate(a, inputs.at[j]) {
+            return false;
+        }
+    }
+    true
+}
+
 // Whether the controller's elements lie on the screen, clear of the picture, of the holes and of each other.
 pub fn fits(l: Layout, w: f32, h: f32, game: Rect, holes: Cutouts) -> bool
     requires { ⌜ (l .count ≤ 12) × (l .stickcount ≤ 2) × (holes .count ≤ 16) ⌝ }
     ensures { λ r. ⌜ r ≡ fitsOf l w h game (cutoutList holes) ⌝ }
 {
     let inputs = inputs(l);
-    let at = inputs.at;
     let n = inputs.count;
-    let hole = holes.at;
-    let m = holes.count;
     for i in 0..n {
-        let a = at[i];
-        let r = a.bounds;
-        if !on_screen(r, w, h) {
+        let a = inputs.at[i];
+        if !free(a.bounds, w, h, game, holes) {
             return false;
         }
-        if r.overlaps(game) {
+        if !separate_after(a, inputs, i) {
             return false;
-        }
-        for k in 0..m {
-            let c = hole[k];
-            if r.overlaps(c) {
-                return false;
-            }
-        }
-        for j in i + 1..n {
-            let b = at[j];
-            if !separate(a, b) {
-                return false;
-            }
         }
     }
     true

@@ -7,7 +7,9 @@ ghost use Rattle.layout.specs.Actions.{joinOf, actionBoundsOf};
 ghost use Rattle.layout.specs.Psp.{atMostOneOf, pspInputsOf};
 ghost use mathlib.Core.List.{map, zipWith};
 ghost use lib.ListN.{drop, take};
-ghost use Rattle.layout.specs.Layout.{elementCountOf, elementOf, setElementOf, elementsOf, elementList, withBounds};
+ghost use Rattle.geometry.specs.Rect.{overlapsOf};
+ghost use Rattle.layout.specs.Lists.{anyOf};
+ghost use Rattle.layout.specs.Layout.{elementCountOf, elementOf, setElementOf, elementsOf, elementList, cutoutList, withBounds};
 ghost use Rattle.layout.specs.Elements.{replaceFirst, controllerElementsOf, setElementsOf};
 use geometry::Rect;
 
@@ -164,6 +166,38 @@ impl Label {
                 length: 2,
             },
         }
+    }
+}
+
+impl Elements {
+    // One of them overlaps the rectangle.
+    pub fn overlap(self, r: Rect) -> bool
+        requires { ⌜ self .count ≤ 19 ⌝ }
+        ensures { λ b. ⌜ b ≡ anyOf (overlapsOf r) (elementList self) ⌝ }
+    {
+        let n = self.count;
+        for k in 0..n {
+            if r.overlaps(self.at[k]) {
+                return true;
+            }
+        }
+        false
+    }
+}
+
+impl Cutouts {
+    // One of them overlaps the rectangle.
+    pub fn overlap(self, r: Rect) -> bool
+        requires { ⌜ self .count ≤ 16 ⌝ }
+        ensures { λ b. ⌜ b ≡ anyOf (overlapsOf r) (cutoutList self) ⌝ }
+    {
+        let n = self.count;
+        for k in 0..n {
+            if r.overlaps(self.at[k]) {
+                return true;
+            }
+        }
+        false
     }
 }
 

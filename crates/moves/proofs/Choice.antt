@@ -9,12 +9,9 @@ use lib.Ieee.{Float, nan}
 use lib.ListN.{length, take, drop, getD, drop-of-length-le}
 use lib.Seq.{drop-cons, getD-take, length-take-le}
 use Rattle.geometry.specs.declared.Rect.{Rect}
-use Rattle.geometry.specs.Rect.{overlapsOf}
-use Rattle.layout.specs.Lists.{anyOf, allOf}
-use Rattle.layout.proofs.Loops.{all-miss, all-end}
 use Rattle.moves.specs.declared.Move.{Move}
 use Rattle.moves.specs.declared.Move.the-variants.{Stay, Go}
-use Rattle.moves.specs.Moves.{movesIn, movedOf, insideOf, clearOf, allClearOf, firstClearOf}
+use Rattle.moves.specs.Moves.{movesIn, allClearOf, firstClearOf}
 
 -- ---- the moves of two arrays, one after the other
 length-zip : {A B C : Type 0} (f : A → B → C) (xs : List A) (ys : List B) → length xs ≡ length ys → length (zipWith f xs ys) ≡ length xs
@@ -45,50 +42,24 @@ module _ (dxs dys : List Float) (n i : ℕ) (hx : n ≤ length dxs) (hy : n ≤ 
       let ly : length (take n dys) ≡ n = length-take-le n dys hy in
       zip-at Go (take n dxs) (take n dys) i nan nan Stay (omega arith) (omega arith) ∙ rw (getD-take n dxs i nan h, getD-take n dys i nan h)
 
-  pub next-move : i < n → drop i (movesIn dxs dys n) ≡ Go (getD dxs i nan) (getD dys i nan) ∷ drop (i + 1) (movesIn dxs dys n)
+  next-move : i < n → drop i (movesIn dxs dys n) ≡ Go (getD dxs i nan) (getD dys i nan) ∷ drop (i + 1) (movesIn dxs dys n)
   next-move h =
       let l = length-moves in
       drop-cons (movesIn dxs dys n) i Stay (omega arith) ∙ rw (move-at h, add-one)
 
-  pub no-move-left : n ≤ i → drop i (movesIn dxs dys n) ≡ []
+  no-move-left : n ≤ i → drop i (movesIn dxs dys n) ≡ []
   no-move-left h =
       let l = length-moves in
       drop-of-length-le (movesIn dxs dys n) {i = i} (omega arith)
 
--- ---- whether a rectangle is clear, by the tests in turn
-module _ (w h : Float) (holes others : List Rect) (r : Rect) where
-  pub outside : insideOf r w h ≡ false → clearOf w h holes others r ≡ false
-  unfolding clearOf
-  outside a = rw a
+-- ---- the choice at move i of the arrays; k is that of all moves
+module _ (w h : Float) (holes others original : List Rect) (dxs dys : List Float) (n i : ℕ) (k : Move) (hx : n ≤ length dxs) (hy : n ≤ length dys)
+    (g : firstClearOf w h holes others original (drop i (movesIn dxs dys n)) ≡ k) where
+  pub choose-hit : i < n → true ≡ allClearOf w h holes others original (Go (getD dxs i nan) (getD dys i nan)) → Go (getD dxs i nan) (getD dys i nan) ≡ k
+  choose-hit m c = rw (next-move dxs dys n i hx hy m, ← c) at g
 
-  pub on-hole : insideOf r w h ≡ true → anyOf (overlapsOf r) holes ≡ true → clearOf w h holes others r ≡ false
-  unfolding clearOf
-  on-hole a b = rw (a, b)
+  pub choose-miss : i < n → false ≡ allClearOf w h holes others original (Go (getD dxs i nan) (getD dys i nan)) → firstClearOf w h holes others original (drop (i + 1) (movesIn dxs dys n)) ≡ k
+  choose-miss m c = rw (next-move dxs dys n i hx hy m, ← c) at g
 
-  pub on-other : insideOf r w h ≡ true → anyOf (overlapsOf r) holes ≡ false → anyOf (overlapsOf r) others ≡ true → clearOf w h holes others r ≡ false
-  unfolding clearOf
-  on-other a b c = rw (a, b, c)
-
-  pub is-clear : insideOf r w h ≡ true → anyOf (overlapsOf r) holes ≡ false → anyOf (overlapsOf r) others ≡ false → clearOf w h holes others r ≡ true
-  unfolding clearOf
-  is-clear a b c = rw (a, b, c)
-
--- ---- the choice, at move i of the arrays; rest is what is left of the group
-module _ (w h : Float) (holes others original : List Rect) (dxs dys : List Float) (n i : ℕ) (k : Move) (hx : n ≤ length dxs) (hy : n ≤ length dys) (lt : i < n)
-    (g : firstClearOf w h holes others original (drop i (movesIn dxs dys n)) ≡ k) (rest : List Rect)
-    (a : allOf (λ r. clearOf w h holes others (movedOf (Go (getD dxs i nan) (getD dys i nan)) r)) rest ≡ allClearOf w h holes others original (Go (getD dxs i nan) (getD dys i nan))) where
-  pub choose-miss : (i' : ℕ) (u : List Rect) (x r : Rect) → i' ≡ i → rest ≡ x ∷ u → r ≡ movedOf (Go (getD dxs i nan) (getD dys i nan)) x → clearOf w h holes others r ≡ false
-      → firstClearOf w h holes others original (drop (i' + 1) (movesIn dxs dys n)) ≡ k
-  choose-miss i' u x r e f q c =
-      let z : false ≡ allClearOf w h holes others original (Go (getD dxs i nan) (getD dys i nan)) =
-      all-miss (λ r. clearOf w h holes others (movedOf (Go (getD dxs i nan) (getD dys i nan)) r)) rest u x (allClearOf w h holes others original (Go (getD dxs i nan) (getD dys i nan))) false a f (sym c ∙ rw q) refl in
-      rw e (rw (next-move dxs dys n i hx hy lt, sym z) at g)
-
-  pub choose-hit : rest ≡ [] → Go (getD dxs i nan) (getD dys i nan) ≡ k
-  choose-hit f =
-      let z : true ≡ allClearOf w h holes others original (Go (getD dxs i nan) (getD dys i nan)) =
-      all-end (λ r. clearOf w h holes others (movedOf (Go (getD dxs i nan) (getD dys i nan)) r)) rest (allClearOf w h holes others original (Go (getD dxs i nan) (getD dys i nan))) a f in
-      rw (next-move dxs dys n i hx hy lt, sym z) at g
-
-pub choose-end : (w h : Float) (holes others original : List Rect) (moves : List Move) (k : Move) → firstClearOf w h holes others original moves ≡ k → moves ≡ [] → Stay ≡ k
-choose-end w h holes others original moves k g e = rw e at g
+  pub choose-end : n ≤ i → Stay ≡ k
+  choose-end m = rw (no-move-left dxs dys n i hx hy m) at g

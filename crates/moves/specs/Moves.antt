@@ -15,18 +15,14 @@ use Rattle.moves.specs.declared.Move.the-variants.{Stay, Go}
 
 -- ---- which moves there are
 
--- two moves across, then two down
-abbrev pub four : Float → Float → Float → Float → List Move
-four left right up down = Go left k0 ∷ Go right k0 ∷ Go k0 up ∷ Go k0 down ∷ []
-
 -- The moves that take r off a cutout, 8 away from it: to its left, to its right, above it and below it.
 abbrev pub awayOf : Rect → Rect → List Move
 awayOf r c =
-    four
-    (c .x ⊖ r .w ⊖ k8 ⊖ r .x)
-    (c .x ⊕ c .w ⊕ k8 ⊖ r .x)
-    (c .y ⊖ r .h ⊖ k8 ⊖ r .y)
-    (c .y ⊕ c .h ⊕ k8 ⊖ r .y)
+    Go (c .x ⊖ r .w ⊖ k8 ⊖ r .x) k0
+    ∷ Go (c .x ⊕ c .w ⊕ k8 ⊖ r .x) k0
+    ∷ Go k0 (c .y ⊖ r .h ⊖ k8 ⊖ r .y)
+    ∷ Go k0 (c .y ⊕ c .h ⊕ k8 ⊖ r .y)
+    ∷ []
 
 -- the moves for one rectangle of a group and one cutout: none where they do not overlap
 unfoldable pub pairOf : Rect → Rect → List Move

@@ -4,7 +4,8 @@ ghost use mathlib.Core.List.{foldl};
 ghost use Prim.Native.Nat.{_+_, _<_, _≤_};
 ghost use lib.ListN.{length, take};
 ghost use Rattle.layout.specs.Layout.{cutoutList, elementList};
-ghost use Rattle.moves.specs.Moves.{Holds, four, rankOf, shorterOf, placeOf, insertAtOf, insertOf, movesIn, movedOf, insideOf, firstClearOf, searchOf};
+ghost use Rattle.layout.specs.Lists.{flatMap};
+ghost use Rattle.moves.specs.Moves.{Holds, awayOf, rankOf, shorterOf, placeOf, insertAtOf, insertOf, pairOf, movesIn, movedOf, insideOf, clearOf, allClearOf, firstClearOf, searchOf};
 use geometry::Rect;
 use layout::Cutouts;
 use layout::Elements;
@@ -81,24 +82,47 @@ fn insert(
     insert_at(lens, n, at, len);
 }
 
-// Two moves across and two down, among the first n.
-fn insert_four(
+// The moves of r off the hole c, among the first n: to its left, to its right, above it and below it.
+fn insert_away(
     dxs: &mut [f32; 256],
     dys: &mut [f32; 256],
     lens: &mut [f32; 256],
     n: usize,
-    left: f32,
-    right: f32,
-    up: f32,
-    down: f32,
+    r: Rect,
+    c: Rect,
 )
     requires { ⌜ (n + 4 ≤ 256) × Holds (now dxs) (now dys) (now lens) n (movesIn (now dxs) (now dys) n) ⌝ }
-    ensures { λ q. ⌜ Holds (now (dxs .exit)) (now (dys .exit)) (now (lens .exit)) (n + 4) (foldl insertOf (movesIn (now (dxs .entry)) (now (dys .entry)) n) (four left right up down)) ⌝ }
+    ensures { λ q. ⌜ Holds (now (dxs .exit)) (now (dys .exit)) (now (lens .exit)) (n + 4) (foldl insertOf (movesIn (now (dxs .entry)) (now (dys .entry)) n) (awayOf r c)) ⌝ }
 {
-    insert(dxs, dys, lens, n, left, 0.0);
-    insert(dxs, dys, lens, n + 1, right, 0.0);
-    insert(dxs, dys, lens, n + 2, 0.0, up);
-    insert(dxs, dys, lens, n + 3, 0.0, down);
+    insert(dxs, dys, lens, n, c.x - r.w - 8.0 - r.x, 0.0);
+    insert(dxs, dys, lens, n + 1, c.x + c.w + 8.0 - r.x, 0.0);
+    insert(dxs, dys, lens, n + 2, 0.0, c.y - r.h - 8.0 - r.y);
+    insert(dxs, dys, lens, n + 3, 0.0, c.y + c.h + 8.0 - r.y);
+}
+
+// The moves of r off each hole that it overlaps, among the first n; how many moves there are then.
+fn insert_off(
+    dxs: &mut [f32; 256],
+    dys: &mut [f32; 256],
+    lens: &mut [f32; 256],
+    n: usize,
+    r: Rect,
+    holes: Cutouts,
+) -> usize
+    requires { ⌜ (n + 64 ≤ 256) × (holes .count ≤ 16) × Holds (now dxs) (now dys) (now lens) n (movesIn (now dxs) (now dys) n) ⌝ }
+    ensures { λ q. ⌜ (q ≤ n + 64) × Holds (now (dxs .exit)) (now (dys .exit)) (now (lens .exit)) q (foldl insertOf (movesIn (now (dxs .entry)) (now (dys .entry)) n) (flatMap (pairOf r) (cutoutList holes))) ⌝ }
+{
+    let holecount = holes.count;
+    let mut count = n;
+    for k in 0..holecount {
+        let c = holes.at[k];
+        if !r.overlaps(c) {
+            continue;
+        }
+        insert_away(dxs, dys, lens, count, r, c);
+        count = count + 4;
+    }
+    count
 }
 
 pub fn moved(r: Rect, dx: f32, dy: f32) -> Rect
@@ -118,7 +142,37 @@ fn inside(r: Rect, w: f32, h: f32) -> bool
     r.x >= 0.0 && (r.y >= 0.0 && (r.x + r.w <= w && r.y + r.h <= h))
 }
 
-// The first move that leaves each rectangle of the group on the screen, off the cutouts and off the other elements.
+// On the screen, off the cutouts and off the other elements.
+fn clear(r: Rect, w: f32, h: f32, holes: Cutouts, others: Elements) -> bool
+    requires { ⌜ (holes .count ≤ 16) × (others .count ≤ 19) ⌝ }
+    ensures { λ q. ⌜ q ≡ clearOf w h (cutoutList holes) (elementList others) r ⌝ }
+{
+    inside(r, w, h) && (!holes.overlap(r) && !others.overlap(r))
+}
+
+// A move leaves each of the m rectangles of the group clear.
+fn all_clear(
+    original: [Rect; 4],
+    m: usize,
+    dx: f32,
+    dy: f32,
+    w: f32,
+    h: f32,
+    holes: Cutouts,
+    others: Elements,
+) -> bool
+    requires { ⌜ (m ≤ 4) × ((holes .count ≤ 16) × (others .count ≤ 19)) ⌝ }
+    ensures { λ q. ⌜ q ≡ allClearOf w h (cutoutList holes) (elementList others) (take m original) (Move.Go dx dy) ⌝ }
+{
+    for j in 0..m {
+        if !clear(moved(original[j], dx, dy), w, h, holes, others) {
+            return false;
+        }
+    }
+    true
+}
+
+// The first move that leaves the group clear.
 fn first_clear(
     dxs: &[f32; 256],
     dys: &[f32; 256],
@@ -133,30 +187,12 @@ fn first_clear(
     requires { ⌜ ((length (now dxs) ≡ 256) × (length (now dys) ≡ 256)) × ((n ≤ 256) × ((m ≤ 4) × ((holes .count ≤ 16) × (others .count ≤ 19)))) ⌝ }
     ensures { λ r. ⌜ r ≡ firstClearOf w h (cutoutList holes) (elementList others) (take m original) (movesIn (now (dxs .entry)) (now (dys .entry)) n) ⌝ }
 {
-    let hole = holes.at;
-    let holecount = holes.count;
-    let other = others.at;
-    let othercount = others.count;
-    'moves: for i in 0..n {
+    for i in 0..n {
         let dx = dxs[i];
         let dy = dys[i];
-        for j in 0..m {
-            let r = moved(original[j], dx, dy);
-            if !inside(r, w, h) {
-                continue 'moves;
-            }
-            for k in 0..holecount {
-                if r.overlaps(hole[k]) {
-                    continue 'moves;
-                }
-            }
-            for k in 0..othercount {
-                if r.overlaps(other[k]) {
-                    continue 'moves;
-                }
-            }
+        if all_clear(original, m, dx, dy, w, h, holes, others) {
+            return Move::Go(dx, dy);
         }
-        return Move::Go(dx, dy);
     }
     Move::Stay
 }
@@ -173,31 +209,12 @@ pub fn search(
     requires { ⌜ (m ≤ 4) × ((holes .count ≤ 16) × (others .count ≤ 19)) ⌝ }
     ensures { λ r. ⌜ r ≡ searchOf w h (cutoutList holes) (elementList others) (take m original) ⌝ }
 {
-    let hole = holes.at;
-    let holecount = holes.count;
     let mut dxs = [0.0f32; 256];
     let mut dys = [0.0f32; 256];
     let mut lens = [0.0f32; 256];
     let mut n = 0;
     for i in 0..m {
-        let r = original[i];
-        for k in 0..holecount {
-            let c = hole[k];
-            if !r.overlaps(c) {
-                continue;
-            }
-            insert_four(
-                &mut dxs,
-                &mut dys,
-                &mut lens,
-                n,
-                c.x - r.w - 8.0 - r.x,
-                c.x + c.w + 8.0 - r.x,
-                c.y - r.h - 8.0 - r.y,
-                c.y + c.h + 8.0 - r.y,
-            );
-            n = n + 4;
-        }
+        n = insert_off(&mut dxs, &mut dys, &mut lens, n, original[i], holes);
     }
     first_clear(&dxs, &dys, n, w, h, holes, others, original, m)
 }

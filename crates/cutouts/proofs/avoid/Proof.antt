@@ -46,14 +46,14 @@ loop-again c =
     let h : l .i < s .args .elements .count = c .before .before .loop-test .taken in
     ((omega arith, l .inv .0 .1), l .inv .1 ∙ ap (foldl (settleOf (s .args .w) (s .args .h) (cutoutList (s .args .holes))) (elementList (c .before .before .before .before .settle .result))) (sym (no-more (λ i. not (inGroupOf (groupList (s .args .faces)) i)) (λ (i : ℕ). i ∷ []) (range 0 (s .args .elements .count)) (l .i) 0 (below-range (s .args .elements .count) (l .i) h) {flag = not (c .before .in-group .result)} (rw (range-at (s .args .elements .count) (l .i) h, c .before .in-group .ensures)) (rw (c .if1 .taken)))))
 
-mul-hit : tie.Need-mul-hit Inv-loop μ-loop
-mul-hit c = omega arith
+mul-overlap : tie.Need-mul-overlap Inv-loop μ-loop
+mul-overlap c = omega arith
 
-element-copy-out-hit : tie.Need-element-copy-out-hit Inv-loop μ-loop
-element-copy-out-hit c = omega arith
+element-copy-out-overlap : tie.Need-element-copy-out-overlap Inv-loop μ-loop
+element-copy-out-overlap c = omega arith
 
-hit-requires : tie.Need-hit-requires Inv-loop μ-loop
-hit-requires c κs = search needs
+overlap-requires : tie.Need-overlap-requires Inv-loop μ-loop
+overlap-requires c κs = search needs
 
 add-i-2 : tie.Need-add-i-2 Inv-loop μ-loop
 add-i-2 c = omega arith
@@ -70,7 +70,7 @@ loop-again-2 c =
       (omega arith, l .inv .0 .1),
       fold-more (settleOf (s .args .w) (s .args .h) (cutoutList (s .args .holes))) (elementList (c .before .before .before .before .before .before .before .settle .result)) (elementList (l .out)) (elementList (l .out)) (filterMap (λ i. not (inGroupOf (groupList (s .args .faces)) i)) (λ (i : ℕ). i ∷ []) (take (l .i) (range 0 (s .args .elements .count)))) (filterMap (λ i. not (inGroupOf (groupList (s .args .faces)) i)) (λ (i : ℕ). i ∷ []) (take (l .i + 1) (range 0 (s .args .elements .count)))) (l .i ∷ []) (l .inv .1)
           (one-more (λ i. not (inGroupOf (groupList (s .args .faces)) i)) (λ (i : ℕ). i ∷ []) (range 0 (s .args .elements .count)) (l .i) 0 (below-range (s .args .elements .count) (l .i) h) {flag = not (c .before .before .before .before .in-group .result)} (rw (range-at (s .args .elements .count) (l .i) h, c .before .before .before .before .in-group .ensures)) (rw (c .before .before .before .if1 .left)) ∙ rw (range-at (s .args .elements .count) (l .i) h))
-          (sym (missed (s .args .w) (s .args .h) (cutoutList (s .args .holes)) (l .out .at) (l .out .count) (l .i) n (sym (c .before .hit .ensures) ∙ not-true _ (c .if2 .taken)))),
+          (sym (missed (s .args .w) (s .args .h) (cutoutList (s .args .holes)) (l .out .at) (l .out .count) (l .i) n (sym (c .before .overlap .ensures) ∙ not-true _ (c .if2 .taken)))),
     )
 
 single-requires : tie.Need-single-requires Inv-loop μ-loop
@@ -121,9 +121,9 @@ avoid-spec =
     add-i
     loop-less
     loop-again
-    mul-hit
-    element-copy-out-hit
-    hit-requires
+    mul-overlap
+    element-copy-out-overlap
+    overlap-requires
     add-i-2
     loop-less-2
     loop-again-2

@@ -1,24 +1,18 @@
 -- The loops of `fits`: what is left from an input on gives the whole answer.
 use mathlib.Core.Path.{_≡_, refl, ap, _∙_}
-use mathlib.Core.Bool.{Bool, true, false, not, _&&_}
+use mathlib.Core.Bool.{true, false}
 use mathlib.Core.List.{List}
 use Prim.Native.Nat.{ℕ, _+_, _<_, _≤_}
 use lib.Ieee.{Float}
 use lib.ListN.{length, take, drop, getD}
 use Rattle.geometry.specs.declared.Rect.{Rect}
-use Rattle.geometry.specs.Rect.{overlapsOf}
 use Rattle.layout.specs.declared.Layout.{Layout}
-use Rattle.layout.specs.Lists.{anyOf, allOf}
+use Rattle.layout.specs.Lists.{allOf}
 use Rattle.layout.proofs.Loops.{next-of, none-left}
 use Rattle.fits.specs.declared.Input.{Input}
-use Rattle.fits.specs.Fits.{inputsOf, onScreenOf, freeOf, separateOf, allFree, fitsOf}
+use Rattle.fits.specs.Fits.{inputsOf, freeOf, separateOf, allFree, fitsOf}
 
 module _ (w h : Float) (game : Rect) (holes : List Rect) where
-  -- an input by its three tests
-  pub free-is : (r : Rect) {a b c : Bool} → a ≡ onScreenOf r w h → b ≡ overlapsOf r game → c ≡ anyOf (overlapsOf r) holes → freeOf w h game holes r ≡ a && (not b && not c)
-  unfolding freeOf
-  free-is r p q s = rw (← p, ← q, ← s)
-
   -- the inputs from i on decide
   abbrev pub Left : List Input → ℕ → ℕ → Type 0
   Left at n i = allFree w h game holes (drop i (take n at)) ≡ allFree w h game holes (take n at)
