@@ -15,6 +15,8 @@ use Rattle.geometry.specs.Choice.{either}
 use Rattle.layout.specs.declared.Layout.{Layout}
 use Rattle.layout.specs.Actions.{actionElementsOf}
 use Rattle.layout.specs.Label.{isFaceOf}
+use Rattle.layout.specs.Labels.{Formed}
+use Rattle.layout.specs.LabelLaws.{set-elements-formed}
 use Rattle.layout.specs.Layout.{elementsOf}
 use Rattle.search.specs.declared.Offset.{Offset}
 use Rattle.search.specs.Search.{placeGameInAspectOf}
@@ -23,8 +25,8 @@ use Rattle.settings.specs.Settings.{savedList}
 use Rattle.toolbar.specs.Toolbar.{anchorToolbarOf}
 use Rattle.arranged.specs.Arranged.{middle}
 use Rattle.band.specs.Band.{aspectOf}
-use Rattle.band.specs.BandLabels.{bandLabels, bandSticks}
-use Rattle.defaults.specs.DefaultLabels.{Formed, set-elements-formed, default-formed, analog-formed, psp-formed, band-formed}
+use Rattle.band.specs.BandLabels.{bandLabels, bandSticks, band-formed}
+use Rattle.defaults.specs.DefaultLabels.{default-formed, analog-formed, psp-formed}
 use Rattle.cutouts.specs.Cutouts.{avoidCutoutsOf}
 use Rattle.cutouts.specs.CutoutLaws.{face-count}
 use Rattle.camera_rails.specs.CameraLabels.{avoid-formed, camera-rails-formed}
