@@ -276,7 +276,7 @@ fn half_places(b: Halves) -> Places
 }
 
 // The controls of an analog layout at their places, without toolbar and game.
-pub fn analog_controls(places: Places, dpad: Rect, left: Rect, right: Rect) -> Layout
+fn analog_controls(places: Places, dpad: Rect, left: Rect, right: Rect) -> Layout
     ensures { λ r. ⌜ (r ≡ analogControlsOf places dpad left right) × (r .count ≡ 12) × (r .stickcount ≡ 2) ⌝ }
 {
     let none = Rect {
