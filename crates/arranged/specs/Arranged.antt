@@ -161,9 +161,12 @@ narrowOf w h requested cluster c =
     let right = newOf (w ⊖ k16 ⊖ requested) y requested requested in
     cond (overlapsOf left c || overlapsOf right c) (minOf cluster (h ⊖ k4 ⊖ c .y ⊖ c .h ⊖ k8)) cluster
 
+-- what all cutouts leave of it
+unfoldable pub clusterOf : Float → Float → Float → List Rect → Float
+clusterOf w h pictureHeight cutouts = let requested = requestedOf w h pictureHeight in foldl (narrowOf w h requested) requested cutouts
+
 -- `arranged` stands in where a camera leaves the rails no room.
 unfoldable pub sideRailsOf : Float → Float → Float → List Rect → Layout
 sideRailsOf w h pictureHeight cutouts =
-    let requested = requestedOf w h pictureHeight in
-    let cluster = foldl (narrowOf w h requested) requested cutouts in
+    let cluster = clusterOf w h pictureHeight cutouts in
     cond (lt cluster k122) (arrangedOf w h false) (railedOf w h cluster)

@@ -1,6 +1,6 @@
 -- The layouts of `arranged` and `side_rails` are in range.
 use mathlib.Core.Bool.{Bool, true, false, cond, not, _||_}
-use mathlib.Core.List.{List, [], foldl}
+use mathlib.Core.List.{List, []}
 use lib.Dec.{T}
 use lib.Ieee.{Float, lt}
 use Rattle.float.specs.Float.{_⊖_, _⊘_, k0, k1, k3, k4, k16, k122}
@@ -22,7 +22,7 @@ use Rattle.toolbar.specs.ToolbarRanges.{uncovered-in, anchor-in}
 use Rattle.arranged.specs.declared.Wells.{Wells}
 use Rattle.arranged.specs.declared.Dock.{Dock}
 use Rattle.arranged.specs.declared.Rails.{Rails}
-use Rattle.arranged.specs.Arranged.{middle, finishedOf, sizeWellsOf, placeDockOf, composedOf, dockedOf, arrangedOf, measureRailsOf, railPlacesOf, railedOf, requestedOf, narrowOf, sideRailsOf}
+use Rattle.arranged.specs.Arranged.{middle, finishedOf, sizeWellsOf, placeDockOf, composedOf, dockedOf, arrangedOf, measureRailsOf, railPlacesOf, railedOf, requestedOf, narrowOf, clusterOf, sideRailsOf}
 use Rattle.arranged.specs.PlaceRanges.{Coordinate, coordinate, cap-in, step-in, faces-in, PlacesIn, controls-placed}
 
 pub finished-in : {C D : Rect → Type 0} (l : Layout) {w h : Float} → In w (at 0) (at 8192) → In h (at 0) (at 8192) → Every C D l → Every C (Key margin) (finishedOf l w h)
@@ -189,19 +189,23 @@ narrow-in w requested {h} H cluster c i C =
     let free = sub-in (sub-in (sub-in (sub-in H i4 tt) (most-in (C .y) tt) tt) (most-in (C .h) tt) tt) i8 tt in
     in-more (minus 30720) (at 200) (cond-in met (min-in i free) i) tt tt
 
+cluster-in : {w h pictureHeight : Float} (cutouts : List Rect) → In w (at 0) (at 8192) → In h (at 0) (at 8192) → In pictureHeight (at 0) (at 8192) → Each Element cutouts
+    → In (clusterOf w h pictureHeight cutouts) (minus 30720) (at 200)
+unfolding clusterOf
+cluster-in {w} {h} {pictureHeight} cutouts W H picture C =
+    let requested = requestedOf w h pictureHeight in
+    fold-ind (λ z. In z (minus 30720) (at 200)) Element (narrowOf w h requested) (narrow-in w requested H) cutouts requested (in-more (minus 30720) (at 200) (requested-in W H picture) tt tt) C
+
 pub side-rails-in : {w h pictureHeight : Float} (cutouts : List Rect) → In w (at 0) (at 8192) → In h (at 0) (at 8192) → In pictureHeight (at 0) (at 8192) → Each Element cutouts
     → Arranged (sideRailsOf w h pictureHeight cutouts)
 unfolding sideRailsOf
 side-rails-in {w} {h} {pictureHeight} cutouts W H picture C = go (lt cluster k122) (lt-not 1 cluster k122 (left .whole) (i122 .whole))
   where
-    requested : Float
-    requested = requestedOf w h pictureHeight
-
     cluster : Float
-    cluster = foldl (narrowOf w h requested) requested cutouts
+    cluster = clusterOf w h pictureHeight cutouts
 
     left : In cluster (minus 30720) (at 200)
-    left = fold-ind (λ z. In z (minus 30720) (at 200)) Element (narrowOf w h requested) (narrow-in w requested H) cutouts requested (in-more (minus 30720) (at 200) (requested-in W H picture) tt tt) C
+    left = cluster-in cutouts W H picture C
 
     go : (b : Bool) → (T (not b) → Le 1 k122 cluster) → Arranged (cond b (arrangedOf w h false) (railedOf w h cluster))
     go true k = arranged-in false W H

@@ -1,7 +1,7 @@
 pub mod Places
 pub mod Arranged
-pub mod Anew
 pub mod Controls
+pub mod ControlLaws
 pub mod Blank
 pub mod ArrangedLabels
 pub mod PlaceRanges

@@ -1,13 +1,12 @@
 // The arrangements `arranged` and `side_rails` of input.rs.
 ghost use mathlib.Core.Path.{_≡_};
-ghost use mathlib.Core.List.{foldl};
 ghost use mathlib.Core.Option.{none};
 ghost use Prim.Native.Nat.{_≤_};
 ghost use Rattle.layout.specs.Layout.{cutoutList};
 ghost use Rattle.layout.specs.Lists.{mapFirst};
 ghost use Rattle.arranged.specs.Places.{maybe, capOf, placeFacesOf, atOf, moved, placedOf};
 ghost use Rattle.arranged.specs.Blank.{blankOf};
-ghost use Rattle.arranged.specs.Arranged.{finishedOf, sizeWellsOf, placeDockOf, composedOf, dockedOf, arrangedOf, measureRailsOf, railPlacesOf, requestedOf, narrowOf, sideRailsOf};
+ghost use Rattle.arranged.specs.Arranged.{finishedOf, sizeWellsOf, placeDockOf, composedOf, dockedOf, arrangedOf, measureRailsOf, railPlacesOf, requestedOf, narrowOf, clusterOf, sideRailsOf};
 ghost use Rattle.arranged.specs.Controls.{anchoredOf, railControlsOf, sideControlsOf};
 use float::clamp;
 use float::max;
@@ -575,12 +574,14 @@ fn narrow(w: f32, h: f32, requested: f32, cluster: f32, c: Rect) -> f32
     cluster
 }
 
-fn narrowed(w: f32, h: f32, requested: f32, cutouts: Cutouts) -> f32
+// What all cutouts leave of it.
+fn cluster(w: f32, h: f32, picture_height: f32, cutouts: Cutouts) -> f32
     requires { ⌜ cutouts .count ≤ 16 ⌝ }
-    ensures { λ r. ⌜ r ≡ foldl (narrowOf w h requested) requested (cutoutList cutouts) ⌝ }
+    ensures { λ r. ⌜ r ≡ clusterOf w h «picture_height» (cutoutList cutouts) ⌝ }
 {
     let at = cutouts.at;
     let count = cutouts.count;
+    let requested = requested(w, h, picture_height);
     let mut cluster = requested;
     for i in 0..count {
         let c = at[i];
@@ -594,7 +595,7 @@ pub fn side_controls(w: f32, h: f32, picture_height: f32, cutouts: Cutouts) -> L
     requires { ⌜ cutouts .count ≤ 16 ⌝ }
     ensures { λ r. ⌜ (r ≡ sideControlsOf w h «picture_height» (cutoutList cutouts)) × (r .count ≡ 10) × (r .stickcount ≡ 0) ⌝ }
 {
-    let cluster = narrowed(w, h, requested(w, h, picture_height), cutouts);
+    let cluster = cluster(w, h, picture_height, cutouts);
     if cluster < 122.0 {
         return docked(w, h, false);
     }

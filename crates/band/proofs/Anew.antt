@@ -12,8 +12,8 @@ use Rattle.search.specs.Search.{placeGameInAspectOf}
 use Rattle.toolbar.specs.Toolbar.{anchorToolbarOf}
 use Rattle.arranged.specs.Places.{placedOf}
 use Rattle.arranged.specs.Arranged.{finishedOf, dockedOf, middle}
-use Rattle.arranged.specs.Anew.{bareOf, anchored-anew, game-anew}
-use Rattle.arranged.specs.Controls.{arranged-finished}
+use Rattle.arranged.specs.Controls.{bareOf}
+use Rattle.arranged.specs.ControlLaws.{anchored-anew, game-anew, arranged-finished}
 use Rattle.band.specs.declared.Band.{Band}
 use Rattle.band.specs.Band.{aspectOf, withAnalogOf, bandedFrom, bandedOf}
 

@@ -5,7 +5,7 @@ use mathlib.Core.Option.{Option, some, none}
 use Prim.Native.Nat.{_+_}
 use lib.Ieee.{Float, lt, le, neg}
 use lib.ListN.{set}
-use Rattle.float.specs.Float.{_⊕_, _⊖_, _⊗_, _⊘_, k0, k0·75, k1, k1·35, k2, k3, k4, k8, k16, k18, k24, k28, k48, k52, k56, k64, k72, k80, k100, k104, k112, k122, k128, k136, k160, k176, k184, k192, k204, k272, k288, k480, k600, k800}
+use Rattle.float.specs.Float.{_⊕_, _⊖_, _⊗_, _⊘_, k0, k0·75, k1, k1·35, k2, k3, k4, k8, k16, k24, k28, k48, k52, k56, k64, k72, k80, k100, k104, k112, k122, k128, k136, k160, k176, k184, k192, k204, k272, k288, k480, k600, k800}
 use Rattle.float.specs.MinMax.{minOf, maxOf, clampOf}
 use Rattle.geometry.specs.declared.Rect.{Rect}
 use Rattle.geometry.specs.Rect.{newOf, emptyRect}
@@ -14,7 +14,7 @@ use Rattle.layout.specs.declared.Layout.{Layout}
 use Rattle.layout.specs.Layout.{withDpad}
 use Rattle.layout.specs.Psp.{pspInputsOf}
 use Rattle.search.specs.Search.{placeGameInAspectOf}
-use Rattle.toolbar.specs.Toolbar.{anchorToolbarOf}
+use Rattle.toolbar.specs.Toolbar.{toolbarHeight, anchorToolbarOf}
 use Rattle.arranged.specs.declared.Places.{Places}
 use Rattle.arranged.specs.Places.{capOf, placeFacesOf, placedOf}
 use Rattle.arranged.specs.Arranged.{arrangedOf, control, middle}
@@ -29,7 +29,7 @@ aspectOf psp = cond psp (k480 ⊘ k272) (k4 ⊘ k3)
 unfoldable pub findRoomOf : Float → Float → Bool → Bool → Rect → Room
 findRoomOf w h analog psp picture =
     let pictureHeight = cond psp (w ⊗ k272 ⊘ k480) (w ⊗ k0·75) in
-    let headroom = h ⊖ (picture .y ⊕ k18 ⊕ pictureHeight) in
+    let headroom = h ⊖ (picture .y ⊕ toolbarHeight ⊕ pictureHeight) in
     let available = headroom ⊖ k4 in
     let deep = analog && le k192 headroom in
     let outer = cond deep k8 k28 in

@@ -1,15 +1,12 @@
 -- The layout of `controller_band` is in range.
-use mathlib.Core.Path.{_≡_, subst}
-use mathlib.Core.Bool.{Bool, true, false, cond, not, _||_}
+use mathlib.Core.Path.{_≡_}
+use mathlib.Core.Bool.{Bool, true, false, cond}
 use mathlib.Core.List.{[]}
-use mathlib.Core.Option.{some, none}
-use Prim.Native.Nat.{ℕ, _+_}
-use native.Mathlib.Omega.{arith}
-use lib.Dec.{T}
-use lib.Ieee.{Float, lt, neg}
+use mathlib.Core.Option.{some}
+use Prim.Native.Nat.{_+_}
+use lib.Ieee.{Float}
 use lib.ListN.{set}
-use Rattle.float.specs.Float.{_⊗_, k0, k1, k1·35, k122, k600, k800}
-use Rattle.float.specs.MinMax.{maxOf}
+use Rattle.float.specs.Float.{k1, k122}
 use Rattle.geometry.specs.declared.Rect.{Rect}
 use Rattle.geometry.specs.Rect.{newOf, emptyRect}
 use Rattle.layout.specs.declared.Label.the-variants.{L3, R3}
@@ -25,11 +22,9 @@ use Rattle.numerics.specs.Bounds.{lt-not}
 use Rattle.numerics.specs.Ranges.{in-more, most-in, add-in, sub-in, mul-in, times-in, div-in, min-in, max-in, clamp-in, cond-in, neg-in, raise, placed-in}
 use Rattle.numerics.specs.Products.{scaled-in}
 use Rattle.numerics.specs.Literals.{i0, i1, i2, i3, i4, i8, i16, i18, i24, i28, i48, i52, i56, i64, i72, i80, i100, i104, i112, i122, i128, i136, i160, i176, i184, i204, i272, i288, i480, f0·75, f2, f4, f52, psp-high}
-use Rattle.search.specs.Search.{placeGameInAspectOf}
 use Rattle.search.specs.Bounded.{Every, Arranged}
 use Rattle.search.proofs.Layouts.{place-bounded}
 use Rattle.search.proofs.Changes.{dpad-in, psp-in}
-use Rattle.toolbar.specs.Toolbar.{anchorToolbarOf}
 use Rattle.toolbar.specs.ToolbarRanges.{uncovered-in, anchor-in}
 use Rattle.arranged.specs.Places.{placedOf}
 use Rattle.arranged.specs.Arranged.{control, middle, arrangedOf}
@@ -38,6 +33,7 @@ use Rattle.arranged.specs.ArrangedRanges.{arranged-in}
 use Rattle.band.specs.declared.Room.{Room}
 use Rattle.band.specs.declared.Band.{Band}
 use Rattle.band.specs.Band.{aspectOf, findRoomOf, measureBandOf, plainPlacesOf, deepPlacesOf, rowPlacesOf, bandPlacesOf, withAnalogOf, bandedOf, controllerBandOf}
+use Rattle.band.specs.BandCases.{bandRoom, bandLayout, bandAnchored, controller-band-case}
 
 record RoomIn (r : Room) : Type 0 where
   pub available : In (r .available) (minus 24576) (at 24576)
@@ -196,36 +192,25 @@ banded-in {w} {h} analog deep {b} W H B = go analog
         with-analog-in (placed true) (places .l3) (places .r3) (placed-in (B .outer) y (B .stick) (B .stick) tt) (placed-in (sub-in (sub-in W (B .outer) tt) (B .stick) tt) y (B .stick) (B .stick) tt)
 
 pub band-in : {w h : Float} (analog psp : Bool) {picture : Rect} {l : Layout} → In w (at 0) (at 8192) → In h (at 0) (at 8192) → Area picture → controllerBandOf w h analog psp picture ≡ some l → Arranged l
-unfolding controllerBandOf
-band-in {w} {h} analog psp {picture} {l} W H A e = go (lt w k800 || (lt h k600 || lt (h ⊗ k1·35) w)) (lt (room .face) k122) (λ t. found (lt-not 1 (room .face) k122 (R .face .whole) (i122 .whole) t)) e
+band-in {w} {h} analog psp {picture} W H A e =
+    controller-band-case w h analog psp picture Arranged (λ t. place-bounded (inputs psp (anchored (lt-not 1 (room .face) k122 (R .face .whole) (i122 .whole) t))) picture false k1 middle (aspectOf psp)) e
   where
     room : Room
-    room = findRoomOf w h analog psp picture
+    room = bandRoom w h analog psp picture
 
     R : RoomIn room
     R = room-in analog psp W H A
 
-    anchored : Layout
-    anchored = anchorToolbarOf (bandedOf w h analog (room .deep) (measureBandOf w h analog room)) w h (maxOf (neg (picture .y)) k0) k0 []
+    layout : Layout
+    layout = bandAnchored w h analog psp picture
 
-    game : Layout
-    game = placeGameInAspectOf (cond psp (pspInputsOf anchored) anchored) picture false k1 middle (aspectOf psp)
-
-    inputs : (b : Bool) → Arranged anchored → Arranged (cond b (pspInputsOf anchored) anchored)
-    inputs true L = psp-in L
-    inputs false L = L
-
-    found : Le 1 k122 (room .face) → Arranged game
-    found k =
-        let banded = bandedOf w h analog (room .deep) (measureBandOf w h analog room) in
+    anchored : Le 1 k122 (room .face) → Arranged layout
+    anchored k =
         let L = banded-in analog (room .deep) W H (measured-in analog W H R (raise (R .face) i122 k)) in
         let top = max-in (neg-in (most-in (A .y) tt) tt) i0 in
-        place-bounded (inputs psp (anchor-in banded [] W H top (in-more (minus 8192) (at 8192) i0 tt tt) (uncovered-in banded [] tt) L)) picture false k1 middle (aspectOf psp)
+        let banded = bandLayout w h analog psp picture in
+        anchor-in banded [] W H top (in-more (minus 8192) (at 8192) i0 tt tt) (uncovered-in banded [] tt) L
 
-    no : {C : Type 0} → none ≡ some l → C
-    no q = let z : _≡_ {A = ℕ} 0 1 = cc in absurd (omega arith)
-
-    go : (b c : Bool) → (T (not c) → Arranged game) → cond b none (cond c none (some game)) ≡ some l → Arranged l
-    go true c f q = no q
-    go false true f q = no q
-    go false false f q = let same : game ≡ l = cc in subst Arranged same (f tt)
+    inputs : (b : Bool) → Arranged layout → Arranged (cond b (pspInputsOf layout) layout)
+    inputs true L = psp-in L
+    inputs false L = L

@@ -1,3 +1,4 @@
 pub mod Band
+pub mod BandCases
 pub mod BandLabels
 pub mod BandRanges

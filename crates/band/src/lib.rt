@@ -24,6 +24,7 @@ use layout::Cutouts;
 use layout::Label;
 use layout::Layout;
 use search::Offset;
+use toolbar::TOOLBAR_HEIGHT;
 
 // The room below the whole picture and the width of a digital well in it.
 pub struct Room {
@@ -48,7 +49,7 @@ fn find_room(w: f32, h: f32, analog: bool, psp: bool, picture: Rect) -> Room
     ensures { λ r. ⌜ r ≡ findRoomOf w h analog psp picture ⌝ }
 {
     let picture_height = pick(psp, w * 272.0 / 480.0, w * 0.75);
-    let headroom = h - (picture.y + 18.0 + picture_height);
+    let headroom = h - (picture.y + TOOLBAR_HEIGHT + picture_height);
     let available = headroom - 4.0;
     let deep = analog & (headroom >= 192.0);
     let outer = pick(deep, 8.0, 28.0);
@@ -310,7 +311,7 @@ fn band_places(analog: bool, deep: bool, b: Band) -> Places
 }
 
 // L3, R3 and the two sticks added.
-pub fn with_analog(l: Layout, l3: Rect, r3: Rect, left: Rect, right: Rect) -> Layout
+fn with_analog(l: Layout, l3: Rect, r3: Rect, left: Rect, right: Rect) -> Layout
     requires { ⌜ l .count ≤ 10 ⌝ }
     ensures { λ r. ⌜ (r ≡ withAnalogOf l l3 r3 left right) × (r .count ≡ l .count + 2) × (r .stickcount ≡ 2) ⌝ }
 {

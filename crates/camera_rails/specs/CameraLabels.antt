@@ -14,14 +14,15 @@ use Rattle.layout.specs.declared.Label.{Label}
 use Rattle.layout.specs.declared.Layout.{Layout}
 use Rattle.layout.specs.Actions.{actionElementsOf}
 use Rattle.layout.specs.Label.{isFaceOf}
-use Rattle.layout.specs.Labels.{analogLabels}
+use Rattle.layout.specs.Labels.{analogLabels, Inputs, Formed}
+use Rattle.layout.specs.LabelLaws.{set-elements-formed}
 use Rattle.layout.specs.Lists.{retain}
 use Rattle.search.specs.Search.{placeGameInAspectOf}
 use Rattle.toolbar.specs.Toolbar.{anchorToolbarOf}
-use Rattle.arranged.specs.ArrangedLabels.{Inputs, placed-inputs}
-use Rattle.band.specs.BandLabels.{bandLabels, bandSticks, with-inputs}
+use Rattle.arranged.specs.ArrangedLabels.{placed-formed}
+use Rattle.band.specs.BandLabels.{bandLabels, bandSticks, with-inputs-formed}
 use Rattle.defaults.specs.Defaults.{analogDefaultOf}
-use Rattle.defaults.specs.DefaultLabels.{Formed, placed-arrays, psp-arrays, set-elements-formed, analog-formed}
+use Rattle.defaults.specs.DefaultLabels.{analog-formed}
 use Rattle.cutouts.specs.Cutouts.{withAreaOf, avoidCutoutsOf}
 use Rattle.cutouts.specs.CutoutLaws.{length-after, face-count}
 use Rattle.camera_rails.specs.CameraRails.{cameraPlacesOf, cameraRailedOf, anchoredRailsOf, analogCameraRailsOf}
@@ -49,18 +50,13 @@ module _ (w h rail face : Float) where
   railed-formed : Formed analogLabels 2 (cameraRailedOf w h rail face)
   unfolding cameraRailedOf
   railed-formed =
-      let f = analog-formed w h in
-      let p = cameraPlacesOf w rail face in
-      (placed-inputs analogLabels 2 (analogDefaultOf w h) p (f .0), (placed-arrays (analogDefaultOf w h) p (f .1) .0, refl))
+      let g = placed-formed analogLabels 2 (analogDefaultOf w h) (cameraPlacesOf w rail face) (analog-formed w h) in
+      (g .0, (g .1 .0, refl))
 
   module _ (picture : Rect) (cutouts : List Rect) where
     pub anchored-formed : (psp : Bool) → Formed (bandLabels true psp) (bandSticks true psp) (anchoredRailsOf w h picture cutouts psp rail face)
     unfolding anchoredRailsOf anchorToolbarOf
-    anchored-formed true =
-        let l = cameraRailedOf w h rail face in
-        let f = railed-formed in
-        let n = f .0 .1 in
-        (with-inputs l true true (f .0), psp-arrays l (omega arith) (f .1))
+    anchored-formed true = with-inputs-formed true true (cameraRailedOf w h rail face) railed-formed
     anchored-formed false = railed-formed
 
     module _ (psp : Bool) where

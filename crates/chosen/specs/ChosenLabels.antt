@@ -14,13 +14,14 @@ use Rattle.geometry.specs.Choice.{either}
 use Rattle.layout.specs.declared.Layout.{Layout}
 use Rattle.layout.specs.Actions.{actionElementsOf}
 use Rattle.layout.specs.Label.{isFaceOf}
+use Rattle.layout.specs.Labels.{Formed}
 use Rattle.search.specs.declared.Offset.{Offset}
 use Rattle.search.specs.Search.{placeGameInAspectOf}
 use Rattle.toolbar.specs.Toolbar.{anchorToolbarOf}
 use Rattle.arranged.specs.Arranged.{middle}
 use Rattle.band.specs.Band.{aspectOf}
-use Rattle.band.specs.BandLabels.{bandLabels, bandSticks}
-use Rattle.defaults.specs.DefaultLabels.{Formed, default-formed, analog-formed, psp-formed, band-formed}
+use Rattle.band.specs.BandLabels.{bandLabels, bandSticks, band-formed}
+use Rattle.defaults.specs.DefaultLabels.{default-formed, analog-formed, psp-formed}
 use Rattle.cutouts.specs.Cutouts.{avoidCutoutsOf}
 use Rattle.cutouts.specs.CutoutLaws.{face-count}
 use Rattle.camera_rails.specs.CameraLabels.{avoid-formed, camera-rails-formed}

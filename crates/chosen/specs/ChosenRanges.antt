@@ -23,7 +23,7 @@ use Rattle.toolbar.specs.ToolbarRanges.{uncovered-in, anchor-in}
 use Rattle.arranged.specs.Arranged.{middle}
 use Rattle.band.specs.Band.{aspectOf}
 use Rattle.band.specs.BandRanges.{band-in}
-use Rattle.defaults.specs.DefaultLabels.{band-formed}
+use Rattle.band.specs.BandLabels.{band-formed}
 use Rattle.defaults.specs.DefaultRanges.{default-in, analog-in, psp-default-in}
 use Rattle.cutouts.specs.Cutouts.{avoidCutoutsOf}
 use Rattle.cutouts.specs.CutoutRanges.{avoid-bounded}

@@ -9,11 +9,12 @@ use Rattle.geometry.specs.Rect.{newOf}
 use Rattle.layout.specs.declared.Layout.{Layout}
 use Rattle.layout.specs.Layout.{elementsOf}
 use Rattle.search.specs.Search.{placeGameInAspectOf}
-use Rattle.arranged.specs.Anew.{bareOf, finished-anew}
 use Rattle.arranged.specs.Arranged.{finishedOf}
-use Rattle.arranged.specs.Controls.{anchoredOf}
+use Rattle.arranged.specs.Controls.{bareOf, anchoredOf}
+use Rattle.arranged.specs.ControlLaws.{finished-anew}
 use Rattle.defaults.specs.declared.Size.{Size}
-use Rattle.defaults.specs.AnalogControls.{analogControlsOf, added-bare, shrunk-bare}
+use Rattle.defaults.specs.AnalogControls.{analogControlsOf}
+use Rattle.defaults.specs.AnalogControlLaws.{added-bare, shrunk-bare}
 use Rattle.defaults.specs.Defaults.{clearOf, newLayoutOf, sizeHalvesOf, measureHalvesOf, halfPlacesOf, analogFullOf, shrunkOf}
 use Rattle.defaults.specs.DefaultLabels.{default-formed}
 
@@ -28,4 +29,4 @@ module _ (w h : Float) where
   full-bare = added-bare _ _ _ _ (newLayoutOf w h) (default-formed w h [] (newOf k0 k0 w h))
 
   pub full-anew : (requested full : Size) (v u : Float) → finishedOf (shrunkOf (bareOf (analogFullOf w h)) requested full) v u ≡ finishedOf (shrunkOf (analogFullOf w h) requested full) v u
-  full-anew requested full v u = finished-anew _ _ v u (shrunk-bare requested full _ _ _ _ (analogFullOf w h) full-bare)
+  full-anew requested full v u = finished-anew v u _ _ (shrunk-bare requested full _ _ _ _ (analogFullOf w h) full-bare)

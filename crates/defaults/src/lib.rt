@@ -3,8 +3,8 @@ ghost use mathlib.Core.Path.{_≡_};
 ghost use mathlib.Core.List.{map};
 ghost use Prim.Native.Nat.{_≤_};
 ghost use Rattle.layout.specs.Layout.{cutoutList, elementList};
-ghost use Rattle.arranged.specs.Anew.{bareOf};
 ghost use Rattle.arranged.specs.Arranged.{finishedOf};
+ghost use Rattle.arranged.specs.Controls.{bareOf};
 ghost use Rattle.defaults.specs.AnalogControls.{analogControlsOf};
 ghost use Rattle.defaults.specs.Defaults.{widerOf, clearOf, tryDockOf, trySideOf, tryBandOf, defaultInOf, defaultWithCutoutsOf, newLayoutOf, sizeHalvesOf, measureHalvesOf, halfPlacesOf, analogFullOf, scaledRectOf, shrunkOf, analogDefaultOf, pspOf};
 use arranged::Faces;
@@ -276,7 +276,7 @@ fn half_places(b: Halves) -> Places
 }
 
 // The controls of an analog layout at their places, without toolbar and game.
-pub fn analog_controls(places: Places, dpad: Rect, left: Rect, right: Rect) -> Layout
+fn analog_controls(places: Places, dpad: Rect, left: Rect, right: Rect) -> Layout
     ensures { λ r. ⌜ (r ≡ analogControlsOf places dpad left right) × (r .count ≡ 12) × (r .stickcount ≡ 2) ⌝ }
 {
     let none = Rect {

@@ -6,7 +6,7 @@ use Prim.Native.Nat.{ℕ}
 use lib.Dec.{eqb, ltb}
 use lib.Ieee.{Float, lt, le}
 use lib.ListN.{getD, set}
-use Rattle.float.specs.Float.{_⊕_, _⊖_, _⊗_, _⊘_, k0·01, k1, k1·35, k2, k4, k8, k16, k18, k24, k48, k64, k72, k104, k120, k122}
+use Rattle.float.specs.Float.{_⊕_, _⊖_, _⊗_, _⊘_, k0·01, k1, k1·35, k2, k4, k8, k16, k24, k48, k64, k72, k104, k120, k122}
 use Rattle.geometry.specs.declared.Rect.{Rect}
 use Rattle.geometry.specs.Rect.{newOf}
 use Rattle.layout.specs.declared.Control.{Control}
@@ -17,6 +17,7 @@ use Rattle.layout.specs.Actions.{actionBoundsOf}
 use Rattle.layout.specs.Layout.{anyRect, withBounds, withDpad, withControls, withSticks}
 use Rattle.layout.specs.Lists.{mapFirst}
 use Rattle.search.specs.Search.{placeGameInAspectOf}
+use Rattle.toolbar.specs.Toolbar.{toolbarHeight}
 use Rattle.arranged.specs.Arranged.{middle}
 use Rattle.moves.specs.declared.Move.the-variants.{Go}
 use Rattle.moves.specs.Moves.{movedOf}
@@ -30,9 +31,9 @@ measureRowOf w h face stick =
     let faceY = stickY ⊖ k8 ⊖ face in
     record { w = w; face = face; stick = stick; shoulder = (face ⊖ k8) ⊘ k2; rowy = rowY; sticky = stickY; facey = faceY; shouldery = faceY ⊖ k8 ⊖ k48 }
 
--- the shoulders would reach into the toolbar, of height 18, or a thumb's target is small already
+-- the shoulders would reach into the toolbar, or a thumb's target is small already
 unfoldable pub tightOf : Row → Bool
-tightOf r = lt (r .shouldery) k18 || (lt (r .face) k122 || lt (r .stick) k104)
+tightOf r = lt (r .shouldery) toolbarHeight || (lt (r .face) k122 || lt (r .stick) k104)
 
 -- the place of a control by its label: the faces go by dx and dy
 unfoldable pub placeOf : Row → Float → Float → Rect → Label → Rect

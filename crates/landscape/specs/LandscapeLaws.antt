@@ -11,9 +11,9 @@ use Rattle.geometry.specs.declared.Rect.{Rect}
 use Rattle.geometry.specs.Choice.{either}
 use Rattle.layout.specs.declared.Label.{Label}
 use Rattle.layout.specs.declared.Layout.{Layout}
+use Rattle.layout.specs.Labels.{Formed}
+use Rattle.layout.specs.LabelLaws.{mapped-formed}
 use Rattle.search.specs.Search.{placeGameInAspectOf}
-use Rattle.arranged.specs.ArrangedLabels.{labels-mapFirst}
-use Rattle.defaults.specs.DefaultLabels.{Formed, length-mapFirst}
 use Rattle.landscape.specs.declared.Row.{Row}
 use Rattle.landscape.specs.Landscape.{tightOf, inRow, rowSticksOf, rowedOf, rowOf, withRowOf, fitLandscapeControlsOf}
 
@@ -41,10 +41,7 @@ row-sticks-length sticks count r = go (ltb 1 count) _ _
 module _ (labels : List Label) (sticks : ℕ) (l : Layout) (f : Formed labels sticks l) where
   rowed-formed : (r : Row) → Formed labels sticks (rowedOf l r)
   unfolding rowedOf
-  rowed-formed r = (
-    (labels-mapFirst (inRow r _ _) (λ c. refl) (l .count) (l .count) (l .controls) ∙ f .0 .0, f .0 .1, f .0 .2),
-    (length-mapFirst (inRow r _ _) (l .count) (l .controls) ∙ f .1 .0, row-sticks-length (l .sticks) (l .stickcount) r ∙ f .1 .1),
-  )
+  rowed-formed r = let g = mapped-formed labels sticks l (inRow r _ _) (λ c. refl) f in (g .0, (g .1 .0, row-sticks-length (l .sticks) (l .stickcount) r ∙ f .1 .1))
 
   pub landscape-formed : (w h : Float) (picture : Rect) (aspect : Float) → Formed labels sticks (fitLandscapeControlsOf l w h picture aspect)
   unfolding placeGameInAspectOf

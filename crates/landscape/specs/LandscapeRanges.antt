@@ -6,7 +6,7 @@ use native.Mathlib.Omega.{arith}
 use lib.Dec.{T, ltb}
 use lib.Ieee.{Float, lt}
 use lib.ListN.{length, getD, set}
-use Rattle.float.specs.Float.{k1, k18, k104, k122}
+use Rattle.float.specs.Float.{k1, k104, k122}
 use Rattle.geometry.specs.declared.Rect.{Rect}
 use Rattle.geometry.specs.Rect.{emptyRect}
 use Rattle.layout.specs.declared.Control.{Control}
@@ -33,6 +33,7 @@ use Rattle.search.proofs.Changes.{every-imp}
 use Rattle.search.proofs.Layouts.{place-bounded, place-game-in, place-widest}
 use Rattle.search.proofs.Placement.{each-filter}
 use Rattle.search.proofs.Shapes.{Shape}
+use Rattle.toolbar.specs.Toolbar.{toolbarHeight}
 use Rattle.arranged.specs.Arranged.{middle}
 use Rattle.arranged.specs.PlaceRanges.{each-mapFirst}
 use Rattle.moves.specs.declared.Move.the-variants.{Go}
@@ -72,7 +73,7 @@ row-in : {w h face stick : Float} → In w (at 1) (at 8192) → In h (at 1) (at 
 unfolding measureRowOf tightOf
 row-in {w} {h} {face} {stick} W H F S t =
     let r = measureRowOf w h face stick in
-    let n = none (lt (r .shouldery) k18) (lt face k122) (lt stick k104) t in
+    let n = none (lt (r .shouldery) toolbarHeight) (lt face k122) (lt stick k104) t in
     let f = in-more (at 122) (at 8200) (raise (most-in F tt) i122 (lt-not 1 face k122 (F .whole) (i122 .whole) (n .1))) tt tt in
     let s = in-more (at 104) (at 8200) (raise (most-in S tt) i104 (lt-not 1 stick k104 (S .whole) (i104 .whole) (n .2))) tt tt in
     let rowY = sub-in (sub-in H i4 tt) i48 tt in
@@ -80,7 +81,7 @@ row-in {w} {h} {face} {stick} W H F S t =
     let faceY = sub-in (sub-in stickY i8 tt) f tt in
     let above = sub-in faceY i8 tt in
     let high = sub-in above i48 tt in
-    let shoulderY = raise high i18 (lt-not 1 (r .shouldery) k18 (high .whole) (i18 .whole) (n .0)) in
+    let shoulderY = raise high i18 (lt-not 1 (r .shouldery) toolbarHeight (high .whole) (i18 .whole) (n .0)) in
     record {
       w = W;
       face = f;

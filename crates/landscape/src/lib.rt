@@ -10,6 +10,7 @@ use layout::Layout;
 use moves::moved;
 use search::Offset;
 use search::place_game_in_aspect;
+use toolbar::TOOLBAR_HEIGHT;
 
 // The sizes of the digital wells, the sticks and the shoulders, and where they and the row lie.
 pub struct Row {
@@ -45,7 +46,7 @@ fn measure_row(w: f32, h: f32, face: f32, stick: f32) -> Row
 fn tight(row: Row) -> bool
     ensures { λ r. ⌜ r ≡ tightOf row ⌝ }
 {
-    row.shouldery < 18.0 || (row.face < 122.0 || row.stick < 104.0)
+    row.shouldery < TOOLBAR_HEIGHT || (row.face < 122.0 || row.stick < 104.0)
 }
 
 // The place of a control by its label: the faces go by dx and dy.

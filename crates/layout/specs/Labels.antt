@@ -1,5 +1,8 @@
--- The labels of a layout's controls. Definitions only.
+-- The labels of a layout's controls, its counts and the lengths of its arrays. Definitions only.
+use mathlib.Core.Path.{_≡_}
 use mathlib.Core.List.{List, [], _∷_, _++_, map}
+use Prim.Native.Nat.{ℕ}
+use lib.ListN.{length}
 use Rattle.layout.specs.declared.Label.{Label}
 use Rattle.layout.specs.declared.Label.the-variants.{Tri, O, X, Sq, L1, L2, R2, R1, Select, Start, L3, R3}
 use Rattle.layout.specs.declared.Layout.{Layout}
@@ -18,3 +21,15 @@ analogLabels = standardLabels ++ (L3 ∷ R3 ∷ [])
 
 abbrev pub pspLabels : List Label
 pspLabels = Tri ∷ O ∷ X ∷ Sq ∷ L1 ∷ R1 ∷ Select ∷ Start ∷ []
+
+-- a layout of these labels, and of so many sticks
+abbrev pub Inputs : List Label → ℕ → Layout → Type 0
+Inputs labels sticks l = (labelsOf l ≡ labels) × (l .count ≡ length labels) × (l .stickcount ≡ sticks)
+
+-- arrays of 12 controls and 2 sticks
+abbrev pub Arrays : Layout → Type 0
+Arrays l = (length (l .controls) ≡ 12) × (length (l .sticks) ≡ 2)
+
+-- these labels, so many sticks, and the arrays
+abbrev pub Formed : List Label → ℕ → Layout → Type 0
+Formed labels sticks l = Inputs labels sticks l × Arrays l

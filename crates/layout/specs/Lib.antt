@@ -10,3 +10,4 @@ pub mod Psp
 pub mod ListLaws
 pub mod ActionLaws
 pub mod PspLaws
+pub mod LabelLaws

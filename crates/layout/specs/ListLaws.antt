@@ -1,11 +1,11 @@
--- Laws of lists that pass a test.
-use mathlib.Core.Path.{_≡_, refl, ap₂}
+-- Laws of lists that pass a test, and of a change of the first elements in place.
+use mathlib.Core.Path.{_≡_, refl, ap, ap₂}
 use mathlib.Core.Bool.{Bool, true, false, cond}
 use mathlib.Core.List.{List, [], _∷_, map}
-use Prim.Native.Nat.{suc, _≤_, zero-le, suc-le-suc}
+use Prim.Native.Nat.{ℕ, zero, suc, _≤_, zero-le, suc-le-suc}
 use native.Mathlib.Nat.{le-suc, le-trans}
-use lib.ListN.{length}
-use Rattle.layout.specs.Lists.{retain}
+use lib.ListN.{length, take}
+use Rattle.layout.specs.Lists.{mapFirst, retain}
 
 module _ {A B : Type 0} (f : A → B) where
   -- one element more, if a test holds
@@ -25,3 +25,16 @@ module _ {A : Type 0} (p : A → Bool) where
       go : (b : Bool) → length (retain p l) ≤ length l → length (cond b (x ∷ retain p l) (retain p l)) ≤ suc (length l)
       go true h = suc-le-suc h
       go false h = le-trans h (le-suc (length l))
+
+module _ {A : Type 0} (g : A → A) where
+  pub length-mapFirst : (n : ℕ) (xs : List A) → length (mapFirst g n xs) ≡ length xs
+  unfolding mapFirst
+  length-mapFirst zero xs = refl
+  length-mapFirst (suc n) [] = refl
+  length-mapFirst (suc n) (x ∷ xs) = ap suc (length-mapFirst n xs)
+
+  pub take-mapFirst : (n : ℕ) (xs : List A) → take n (mapFirst g n xs) ≡ map g (take n xs)
+  unfolding mapFirst
+  take-mapFirst zero xs = refl
+  take-mapFirst (suc n) [] = refl
+  take-mapFirst (suc n) (x ∷ xs) = ap (λ t. g x ∷ t) (take-mapFirst n xs)

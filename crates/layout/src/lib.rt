@@ -106,7 +106,7 @@ impl Label {
     }
 
     // Whether a psp has the control: its mask has no high bit.
-    pub fn on_psp(self) -> bool
+    fn on_psp(self) -> bool
         ensures { λ r. ⌜ r ≡ onPspOf self ⌝ }
     {
         self.mask() & 0xf000 == 0

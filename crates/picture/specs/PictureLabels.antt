@@ -9,18 +9,19 @@ use lib.Ieee.{Float}
 use Rattle.geometry.specs.declared.Rect.{Rect}
 use Rattle.layout.specs.declared.Label.{Label}
 use Rattle.layout.specs.declared.Layout.{Layout}
+use Rattle.layout.specs.Labels.{Formed}
 use Rattle.numerics.specs.Each.{_&_}
 use Rattle.arranged.specs.declared.Places.{Places}
-use Rattle.arranged.specs.ArrangedLabels.{placed-inputs, arranged-inputs}
+use Rattle.arranged.specs.ArrangedLabels.{placed-formed, arranged-formed}
 use Rattle.band.specs.BandLabels.{bandLabels, bandSticks}
-use Rattle.defaults.specs.DefaultLabels.{Formed, placed-arrays, arranged-arrays, analog-formed, psp-formed}
+use Rattle.defaults.specs.DefaultLabels.{analog-formed, psp-formed}
 use Rattle.picture.specs.Picture.{arrangeOf, stackedOf, verticalOf, rowedOf, horizontalOf, fittedOf, baseOf, controlsOf}
 use Rattle.picture.specs.PictureCases.{Given, found, vertical-case, horizontal-case, first-case}
 
 module _ (labels : List Label) (sticks : ℕ) (base : Layout) (f : Formed labels sticks base) where
   arrange-formed : (dpad : Rect) (places : Places) (first second : Rect) → Formed labels sticks (arrangeOf base dpad places first second)
   unfolding arrangeOf
-  arrange-formed dpad places first second = (placed-inputs labels sticks base places (f .0), (placed-arrays base places (f .1) .0, refl))
+  arrange-formed dpad places first second = let g = placed-formed labels sticks base places f in (g .0, (g .1 .0, refl))
 
   vertical-formed : (left right : Rect) (analog : Bool) → Given (Formed labels sticks) (verticalOf base left right analog)
   unfolding stackedOf
@@ -42,7 +43,7 @@ module _ (w h : Float) where
   base-formed true true k = psp-formed w h
   base-formed true false k = analog-formed w h
   base-formed false true k = absurd (k tt)
-  base-formed false false k = (arranged-inputs w h false, arranged-arrays w h false)
+  base-formed false false k = arranged-formed w h false
 
   pub controls-formed : (game : Rect) (analog psp : Bool) (holes : List Rect) (l : Layout) → (T psp → T analog) → controlsOf w h game analog psp holes ≡ some l → Formed (bandLabels analog psp) (bandSticks analog psp) l
   controls-formed game analog psp holes l k e =

@@ -7,6 +7,7 @@ use Rattle.float.specs.MinMax.{maxOf}
 use Rattle.geometry.specs.declared.Rect.{Rect}
 use Rattle.geometry.specs.Choice.{either}
 use Rattle.layout.specs.declared.Layout.{Layout}
+use Rattle.layout.specs.LabelLaws.{set-elements-formed}
 use Rattle.layout.specs.Layout.{elementsOf}
 use Rattle.settings.specs.declared.Preset.{Preset}
 use Rattle.settings.specs.Settings.{savedList}
@@ -15,7 +16,6 @@ use Rattle.saved.specs.SavedLaws.{length-restored}
 use Rattle.toolbar.specs.Toolbar.{anchorToolbarOf}
 use Rattle.band.specs.Band.{aspectOf}
 use Rattle.band.specs.BandLabels.{bandLabels, bandSticks}
-use Rattle.defaults.specs.DefaultLabels.{set-elements-formed}
 use Rattle.cutouts.specs.Cutouts.{avoidCutoutsOf}
 use Rattle.landscape.specs.LandscapeLaws.{landscape-formed}
 use Rattle.chosen.specs.Chosen.{reusableTop}

@@ -10,7 +10,7 @@ use layout::Cutouts;
 use layout::Elements;
 use layout::Layout;
 
-const TOOLBAR_HEIGHT: f32 = 18.0;
+pub const TOOLBAR_HEIGHT: f32 = 18.0;
 
 // What the toolbar must not overlap: the first `count` of the array.
 pub struct Obstacles {

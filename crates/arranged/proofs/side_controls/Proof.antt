@@ -5,23 +5,16 @@ use Rattle.arranged.proofs.side_controls.Tie as tie
 
 returns : tie.Need-returns
 unfolding sideControlsOf
-returns c =
-    let p = c .before .before in
-    let k = c .docked .ensures in
-    (rw (← p .before .requested .ensures, ← p .narrowed .ensures, ← k .0, c .before .if1 .taken), k .1, k .2)
+returns c = let k = c .docked .ensures in (rw (← c .before .before .cluster .ensures, ← k .0, c .before .if1 .taken), k .1, k .2)
 
 returns-2 : tie.Need-returns-2
 unfolding sideControlsOf
-returns-2 c =
-    let p = c .before .before in
-    let k = c .railed .ensures in
-    (rw (← p .before .requested .ensures, ← p .narrowed .ensures, ← k .0, c .before .if1 .left), k .1, k .2)
+returns-2 c = let k = c .railed .ensures in (rw (← c .before .before .cluster .ensures, ← k .0, c .before .if1 .left), k .1, k .2)
 
 pub side-controls-spec : {M : Type 1} → statement M
 side-controls-spec =
     tie.close
     (tie.spec
-    (λ c κs. search needs)
     (λ c κs. search needs)
     (λ c κs. search needs)
     returns

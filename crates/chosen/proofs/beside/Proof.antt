@@ -4,7 +4,7 @@ use mathlib.Core.Path.{_≡_, _∙_}
 use mathlib.Core.Logic.{⊎-elim}
 use Rattle.layout.specs.Layout.{cutoutList}
 use Rattle.band.specs.Band.{controllerBandOf}
-use Rattle.defaults.specs.DefaultLabels.{band-formed}
+use Rattle.band.specs.BandLabels.{band-formed}
 use borrow.Author.Needs.{needs}
 use Rattle.chosen.proofs.beside.Statement.{statement}
 use Rattle.chosen.proofs.beside.Tie as tie

@@ -1,9 +1,10 @@
 use borrow.Author.Needs.{needs}
 use Rattle.layout.specs.Layout.{cutoutList}
 use Rattle.layout.specs.Labels.{standardLabels}
-use Rattle.arranged.specs.Controls.{arranged-finished}
+use Rattle.layout.specs.LabelLaws.{with-counts}
+use Rattle.arranged.specs.ControlLaws.{arranged-finished}
 use Rattle.defaults.specs.Defaults.{defaultInOf}
-use Rattle.defaults.specs.DefaultLabels.{default-formed, with-counts}
+use Rattle.defaults.specs.DefaultLabels.{default-formed}
 use Rattle.defaults.proofs.default_in.Statement.{statement}
 use Rattle.defaults.proofs.default_in.Tie as tie
 

@@ -7,7 +7,7 @@ use Rattle.layout.specs.Layout.{anyRect}
 use Rattle.layout.specs.Lists.{mapFirst}
 use Rattle.layout.proofs.Loops.{sized, mapFirst-zero, mapFirst-step}
 use Rattle.defaults.specs.Defaults.{scaledRectOf}
-use Rattle.defaults.specs.DefaultLabels.{take-mapFirst}
+use Rattle.layout.specs.ListLaws.{take-mapFirst}
 use Rattle.defaults.proofs.scaled.Statement.{statement}
 use Rattle.defaults.proofs.scaled.Tie as tie
 
