@@ -161,7 +161,7 @@ fn first(
     layout
 }
 
-// The toolbar's keys lie the same over every layout.
+// The area that the game gets. The toolbar's keys lie the same over every layout.
 pub fn area(maximum: bool, w: f32, h: f32, cutouts: Cutouts, picture: Rect) -> Rect
     requires { ⌜ cutouts .count ≤ 16 ⌝ }
     ensures { λ r. ⌜ r ≡ areaOf maximum (anchorToolbarOf blankOf w h (reusableTop picture) k0 (cutoutList cutouts)) picture ⌝ }
@@ -194,6 +194,7 @@ fn around(
     first(psp, analog, true, w, h, cutouts, picture)
 }
 
+// The arrangement for that area. free: nothing was saved and no overlap asked for, so that others than the first may be tried.
 pub fn arrangement(
     maximum: bool,
     free: bool,

@@ -1,4 +1,4 @@
--- `Preset::layout_in` and `layout_with_cutouts` of input.rs, and `PlayerViewport::layout`. Definitions only.
+-- `Preset::layout_in` and `layout_with_cutouts` of input.rs, and `PlayerViewport::layout`; the first steps are in crate `chosen`. Definitions only.
 use mathlib.Core.Bool.{Bool, true, false, cond, not, _&&_, _||_}
 use mathlib.Core.List.{List}
 use lib.Ieee.{Float, lt}
@@ -19,8 +19,6 @@ use Rattle.cutouts.specs.Cutouts.{avoidCutoutsOf}
 use Rattle.landscape.specs.Landscape.{fitLandscapeControlsOf}
 use Rattle.chosen.specs.Chosen.{reusableTop, firstOf, areaOf, arrangementOf}
 
--- ---- `layout_in`, after the arrangement is chosen
-
 -- the elements where they stay: the saved ones at their places, all clear of cutouts, the toolbar anchored
 unfoldable pub settledOf : Layout → Float → Float → Rect → List Rect → List Rect → Layout
 settledOf arrangement w h picture cutouts saved =
@@ -36,6 +34,7 @@ isMaximum KeepClear = false
 abbrev pub maximumOf : Preset → Bool
 maximumOf p = isMaximum (pictureFitOf p)
 
+-- nothing was saved, and no overlap asked for
 abbrev pub freeOf : Preset → Bool
 freeOf p = isEmpty (savedList p) && not (p .overlap)
 

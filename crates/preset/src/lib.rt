@@ -1,4 +1,4 @@
-// `Preset::layout_in` and `layout_with_cutouts` of input.rs, and `PlayerViewport::layout`.
+// `Preset::layout_in` and `layout_with_cutouts` of input.rs, and `PlayerViewport::layout`; the first steps are in crate `chosen`.
 ghost use mathlib.Core.Path.{_≡_};
 ghost use Prim.Native.Nat.{_≤_};
 ghost use lib.ListN.{take};
