@@ -1,6 +1,6 @@
 -- Every step of `layout_in` keeps the labels, the counts and the arrays of its mode.
-use mathlib.Core.Path.{_≡_, refl, ap}
-use mathlib.Core.Bool.{Bool, true, false, cond, _||_}
+use mathlib.Core.Path.{_≡_, refl, ap, _∙_}
+use mathlib.Core.Bool.{Bool, true, false, _||_}
 use mathlib.Core.List.{List, [], _∷_}
 use mathlib.Core.Option.{Option, some}
 use Prim.Native.Nat.{suc, _≤_}
@@ -14,7 +14,6 @@ use Rattle.geometry.specs.declared.Rect.{Rect}
 use Rattle.geometry.specs.Choice.{either}
 use Rattle.layout.specs.declared.Layout.{Layout}
 use Rattle.layout.specs.Actions.{actionElementsOf}
-use Rattle.layout.specs.Label.{isFaceOf}
 use Rattle.layout.specs.Labels.{Formed}
 use Rattle.layout.specs.LabelLaws.{set-elements-formed}
 use Rattle.layout.specs.Layout.{elementsOf}
@@ -25,7 +24,7 @@ use Rattle.settings.specs.Settings.{savedList}
 use Rattle.toolbar.specs.Toolbar.{anchorToolbarOf}
 use Rattle.arranged.specs.Arranged.{middle}
 use Rattle.band.specs.Band.{aspectOf}
-use Rattle.band.specs.BandLabels.{bandLabels, bandSticks, band-formed}
+use Rattle.band.specs.BandLabels.{bandLabels, bandSticks, band-faces, band-counts, band-formed}
 use Rattle.defaults.specs.DefaultLabels.{default-formed, analog-formed, psp-formed}
 use Rattle.cutouts.specs.Cutouts.{avoidCutoutsOf}
 use Rattle.cutouts.specs.CutoutLaws.{face-count}
@@ -46,14 +45,10 @@ pub record Few (l : Layout) : Type 0 where
   pub faces : length (actionElementsOf l) ≤ 4
 
 pub few : (analog psp : Bool) (l : Layout) → OfMode analog psp l → Few l
-unfolding isFaceOf
-few analog true l f = let n : l .count ≡ 8 = f .0 .1 in let m = f .0 .2 in let k : length (actionElementsOf l) ≡ 4 = face-count l _ (f .0 .0) in record { count = omega arith; stickcount = sticks analog (f .0 .2); faces = omega arith }
-  where
-    sticks : (analog : Bool) → l .stickcount ≡ cond analog 1 0 → l .stickcount ≤ 2
-    sticks true e = omega arith
-    sticks false e = omega arith
-few true false l f = let n : l .count ≡ 12 = f .0 .1 in let m : l .stickcount ≡ 2 = f .0 .2 in let k : length (actionElementsOf l) ≡ 4 = face-count l _ (f .0 .0) in record { count = omega arith; stickcount = omega arith; faces = omega arith }
-few false false l f = let n : l .count ≡ 10 = f .0 .1 in let m : l .stickcount ≡ 0 = f .0 .2 in let k : length (actionElementsOf l) ≡ 4 = face-count l _ (f .0 .0) in record { count = omega arith; stickcount = omega arith; faces = omega arith }
+few analog psp l f =
+    let n = band-counts analog psp l (f .0) in
+    let k : length (actionElementsOf l) ≡ 4 = face-count l _ (f .0 .0) ∙ band-faces analog psp in
+    record { count = n .0; stickcount = n .1; faces = omega arith }
 
 pub length-restored : (w h : Float) (rs es : List Rect) → length (restoredOf w h rs es) ≡ length es
 unfolding restoredOf
