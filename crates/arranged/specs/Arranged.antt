@@ -25,9 +25,13 @@ use Rattle.arranged.specs.Places.{capOf, placeFacesOf, placedOf}
 abbrev pub middle : Offset
 middle = record { x = k0·5; y = k0·5 }
 
--- with the toolbar at its place and the largest game that is clear of all elements: what arrangements end with
+-- with the toolbar at its place
+abbrev pub anchoredOf : Layout → Float → Float → Layout
+anchoredOf l w h = anchorToolbarOf l w h k0 k0 []
+
+-- and the largest game that is clear of all elements: what arrangements end with
 unfoldable pub finishedOf : Layout → Float → Float → Layout
-finishedOf l w h = placeGameOf (anchorToolbarOf l w h k0 k0 []) w h false k1 middle
+finishedOf l w h = placeGameOf (anchoredOf l w h) w h false k1 middle
 
 -- ---- `arranged`: the controls in a dock of their own below the picture
 

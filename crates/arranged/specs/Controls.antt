@@ -1,24 +1,20 @@
 -- Inner functions of the code that the Rust does not have: controls whose toolbar and game are put in place afterwards. `dockedOf` has those of
 -- `arranged`; finished, these are `side_rails` (`side-finished` of ControlLaws). Definitions only.
 use mathlib.Core.Bool.{false, cond}
-use mathlib.Core.List.{List, []}
+use mathlib.Core.List.{List}
 use lib.Ieee.{Float, lt}
-use Rattle.float.specs.Float.{k0, k16, k122}
+use Rattle.float.specs.Float.{k16, k122}
 use Rattle.geometry.specs.declared.Rect.{Rect}
 use Rattle.geometry.specs.Rect.{newOf, emptyRect}
 use Rattle.layout.specs.declared.Layout.{Layout}
 use Rattle.layout.specs.Layout.{withGame, withDpad}
-use Rattle.toolbar.specs.Toolbar.{withToolbar, anchorToolbarOf}
+use Rattle.toolbar.specs.Toolbar.{withToolbar}
 use Rattle.arranged.specs.Places.{placedOf}
 use Rattle.arranged.specs.Arranged.{dockedOf, measureRailsOf, railPlacesOf, clusterOf}
 
 -- the layout without toolbar and game
 abbrev pub bareOf : Layout → Layout
 bareOf l = withGame (withToolbar l emptyRect emptyRect emptyRect emptyRect) emptyRect
-
--- the first step of `finishedOf`
-abbrev pub anchoredOf : Layout → Float → Float → Layout
-anchoredOf l w h = anchorToolbarOf l w h k0 k0 []
 
 unfoldable pub railControlsOf : Float → Float → Float → Layout
 railControlsOf w h cluster =

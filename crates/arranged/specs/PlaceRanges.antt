@@ -1,7 +1,6 @@
 -- Places in range: the cap of a well, the faces about a centre, and a layout whose controls are put at such places.
 use mathlib.Core.Bool.{_&&_}
-use mathlib.Core.List.{List, [], _∷_}
-use Prim.Native.Nat.{ℕ, zero, suc}
+use Prim.Native.Nat.{ℕ}
 use lib.Dec.{T, leb}
 use lib.Ieee.{Float}
 use lib.Ieee.Fits.{and-l, and-r}
@@ -9,14 +8,12 @@ use Rattle.geometry.specs.declared.Rect.{Rect}
 use Rattle.layout.specs.declared.Label.{Label}
 use Rattle.layout.specs.declared.Label.the-variants.{Tri, O, X, Sq, L1, L2, R2, R1, Select, Start, L3, R3}
 use Rattle.layout.specs.declared.Layout.{Layout}
-use Rattle.layout.specs.Lists.{mapFirst}
 use Rattle.numerics.specs.Rects.{OnScreen, margin}
 use Rattle.numerics.specs.Range.{In, at, minus}
-use Rattle.numerics.specs.Each.{Each}
-use Rattle.numerics.specs.Lists.{each-imp}
 use Rattle.numerics.specs.Ranges.{in-more, add-in, sub-in, div-in, placed-in}
 use Rattle.numerics.specs.Literals.{i4√2, f1√2, f2}
 use Rattle.search.specs.Bounded.{Every}
+use Rattle.search.proofs.Changes.{each-mapFirst}
 use Rattle.arranged.specs.declared.Faces.{Faces}
 use Rattle.arranged.specs.declared.Places.{Places}
 use Rattle.arranged.specs.Places.{capOf, placeFacesOf, atOf, moved, placedOf}
@@ -84,14 +81,6 @@ at-in P Select = P .select
 at-in P Start = P .start
 at-in P L3 = P .l3
 at-in P R3 = P .r3
-
--- the first elements are changed, so that D holds; of the others C holds still
-module _ {A : Type 0} (C D : A → Type 0) (g : A → A) (made : (x : A) → C x → D (g x)) (kept : (x : A) → C x → D x) where
-  pub each-mapFirst : (n : ℕ) (xs : List A) → Each C xs → Each D (mapFirst g n xs)
-  unfolding mapFirst
-  each-mapFirst zero xs e = each-imp C D kept xs e
-  each-mapFirst (suc n) [] e = tt
-  each-mapFirst (suc n) (x ∷ xs) e = (made x (e .0), each-mapFirst n xs (e .1))
 
 -- what holds at the place of every label
 pub every-placed : {C D : Rect → Type 0} {l : Layout} (p : Places) → Every C D l → ((label : Label) → C (atOf p label)) → Every C D (placedOf l p)

@@ -6,16 +6,17 @@ use mathlib.Core.Option.{some}
 use Prim.Native.Nat.{ℕ, _+_, _≤_}
 use native.Mathlib.Omega.{arith}
 use lib.Ieee.{Float}
-use lib.ListN.{length, take, set, length-set}
+use lib.ListN.{length, length-set}
 use Rattle.geometry.specs.declared.Rect.{Rect}
 use Rattle.layout.specs.declared.Control.{Control}
 use Rattle.layout.specs.declared.Label.{Label}
 use Rattle.layout.specs.declared.Label.the-variants.{L3, R3}
 use Rattle.layout.specs.declared.Layout.{Layout}
-use Rattle.layout.specs.Label.{idOf, maskOf, onPspOf}
-use Rattle.layout.specs.Labels.{standardLabels, analogLabels, pspLabels, Formed}
+use Rattle.layout.specs.Label.{idOf, maskOf, isFaceOf, onPspOf}
+use Rattle.layout.specs.Labels.{standardLabels, analogLabels, pspLabels, Inputs, Formed}
 use Rattle.layout.specs.LabelLaws.{psp-inputs-formed}
 use Rattle.layout.specs.Layout.{controlList}
+use Rattle.layout.specs.Lists.{retain}
 use Rattle.layout.specs.Psp.{atMostOneOf, pspInputsOf}
 use Rattle.layout.proofs.Stores.{stored}
 use Rattle.search.specs.Search.{placeGameInAspectOf}
@@ -24,7 +25,7 @@ use Rattle.arranged.specs.Arranged.{control, arrangedOf}
 use Rattle.arranged.specs.ArrangedLabels.{placed-formed, arranged-formed}
 use Rattle.band.specs.declared.Band.{Band}
 use Rattle.band.specs.Band.{measureBandOf, withAnalogOf, bandedOf, controllerBandOf}
-use Rattle.band.specs.BandCases.{bandRoom, bandLayout, bandAnchored, controller-band-case}
+use Rattle.band.specs.BandCases.{bandRoom, bandAnchored, controller-band-case}
 
 -- with sticks or without, and of those what a psp has
 abbrev pub bandLabels : Bool → Bool → List Label
@@ -32,6 +33,19 @@ bandLabels analog psp = cond psp pspLabels (cond analog analogLabels standardLab
 
 abbrev pub bandSticks : Bool → Bool → ℕ
 bandSticks analog psp = cond psp (cond analog 1 0) (cond analog 2 0)
+
+-- four faces in each
+pub band-faces : (analog psp : Bool) → length (retain isFaceOf (bandLabels analog psp)) ≡ 4
+unfolding isFaceOf
+band-faces analog true = refl
+band-faces true false = refl
+band-faces false false = refl
+
+pub band-counts : (analog psp : Bool) (l : Layout) → Inputs (bandLabels analog psp) (bandSticks analog psp) l → (l .count ≤ 12) × (l .stickcount ≤ 2)
+band-counts true true l i = let n = i .1 in let s = i .2 in (omega arith, omega arith)
+band-counts true false l i = let n = i .1 in let s = i .2 in (omega arith, omega arith)
+band-counts false true l i = let n = i .1 in let s = i .2 in (omega arith, omega arith)
+band-counts false false l i = let n = i .1 in let s = i .2 in (omega arith, omega arith)
 
 -- L3 and R3 after the other controls
 pub with-analog-controls : (l : Layout) (l3 r3 left right : Rect) → l .count + 2 ≤ length (l .controls) → controlList (withAnalogOf l l3 r3 left right) ≡ controlList l ++ (control l3 L3 ∷ control r3 R3 ∷ [])

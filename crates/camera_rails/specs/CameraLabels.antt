@@ -13,30 +13,18 @@ use Rattle.geometry.specs.Choice.{either}
 use Rattle.layout.specs.declared.Label.{Label}
 use Rattle.layout.specs.declared.Layout.{Layout}
 use Rattle.layout.specs.Actions.{actionElementsOf}
-use Rattle.layout.specs.Label.{isFaceOf}
-use Rattle.layout.specs.Labels.{analogLabels, Inputs, Formed}
+use Rattle.layout.specs.Labels.{analogLabels, Formed}
 use Rattle.layout.specs.LabelLaws.{set-elements-formed}
-use Rattle.layout.specs.Lists.{retain}
 use Rattle.search.specs.Search.{placeGameInAspectOf}
 use Rattle.toolbar.specs.Toolbar.{anchorToolbarOf}
 use Rattle.arranged.specs.ArrangedLabels.{placed-formed}
-use Rattle.band.specs.BandLabels.{bandLabels, bandSticks, with-inputs-formed}
+use Rattle.band.specs.BandLabels.{bandLabels, bandSticks, band-faces, band-counts, with-inputs-formed}
 use Rattle.defaults.specs.Defaults.{analogDefaultOf}
 use Rattle.defaults.specs.DefaultLabels.{analog-formed}
 use Rattle.cutouts.specs.Cutouts.{withAreaOf, avoidCutoutsOf}
 use Rattle.cutouts.specs.CutoutLaws.{length-after, face-count}
 use Rattle.camera_rails.specs.CameraRails.{cameraPlacesOf, cameraRailedOf, anchoredRailsOf, analogCameraRailsOf}
 use Rattle.camera_rails.specs.CameraCases.{cameraRail, cameraFace, camera-case}
-
--- four face controls in either kind of layout
-four : (psp : Bool) → length (retain isFaceOf (bandLabels true psp)) ≡ 4
-unfolding isFaceOf
-four true = refl
-four false = refl
-
-counts : (psp : Bool) (l : Layout) → Inputs (bandLabels true psp) (bandSticks true psp) l → (l .count ≤ 12) × (l .stickcount ≤ 2)
-counts true l i = let n : l .count ≡ 8 = i .1 in let m : l .stickcount ≡ 1 = i .2 in (omega arith, omega arith)
-counts false l i = let n : l .count ≡ 12 = i .1 in let m : l .stickcount ≡ 2 = i .2 in (omega arith, omega arith)
 
 -- the cutout pass keeps labels, counts and arrays
 pub avoid-formed : (labels : List Label) (sticks : ℕ) (w h : Float) (l : Layout) → l .count ≤ 12 → l .stickcount ≤ 2 → (cutouts : List Rect) → Formed labels sticks l → Formed labels sticks (avoidCutoutsOf l w h cutouts)
@@ -64,13 +52,13 @@ module _ (w h rail face : Float) where
       anchored = anchoredRailsOf w h picture cutouts psp rail face
 
       pub anchored-faces : length (actionElementsOf anchored) ≡ 4
-      anchored-faces = face-count anchored (bandLabels true psp) (anchored-formed psp .0 .0) ∙ four psp
+      anchored-faces = face-count anchored (bandLabels true psp) (anchored-formed psp .0 .0) ∙ band-faces true psp
 
       -- the arrays hold what is counted
       pub anchored-holds : (anchored .count ≤ length (anchored .controls)) × (anchored .stickcount ≤ length (anchored .sticks))
       anchored-holds =
           let f = anchored-formed psp in
-          let n = counts psp anchored (f .0) in
+          let n = band-counts true psp anchored (f .0) in
           let c = n .0 in
           let s = n .1 in
           let cs = f .1 .0 in
@@ -78,10 +66,10 @@ module _ (w h rail face : Float) where
           (omega arith, omega arith)
 
       pub cleared-formed : Formed (bandLabels true psp) (bandSticks true psp) (avoidCutoutsOf anchored w h cutouts)
-      cleared-formed = let n = counts psp anchored (anchored-formed psp .0) in avoid-formed (bandLabels true psp) (bandSticks true psp) w h anchored (n .0) (n .1) cutouts (anchored-formed psp)
+      cleared-formed = let n = band-counts true psp anchored (anchored-formed psp .0) in avoid-formed (bandLabels true psp) (bandSticks true psp) w h anchored (n .0) (n .1) cutouts (anchored-formed psp)
 
       pub cleared-counts : (avoidCutoutsOf anchored w h cutouts .count ≤ 12) × (avoidCutoutsOf anchored w h cutouts .stickcount ≤ 2)
-      cleared-counts = counts psp (avoidCutoutsOf anchored w h cutouts) (cleared-formed .0)
+      cleared-counts = band-counts true psp (avoidCutoutsOf anchored w h cutouts) (cleared-formed .0)
 
 module _ (w h : Float) (picture : Rect) (cutouts : List Rect) (psp : Bool) where
   pub camera-rails-formed : (l : Layout) → analogCameraRailsOf w h picture cutouts psp ≡ some l → Formed (bandLabels true psp) (bandSticks true psp) l

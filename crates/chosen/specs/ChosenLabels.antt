@@ -1,6 +1,6 @@
 -- Every arrangement that may be chosen has the labels, the counts and the arrays of its mode; every step of `layout_in` keeps them.
-use mathlib.Core.Path.{_≡_}
-use mathlib.Core.Bool.{Bool, true, false, cond, _||_}
+use mathlib.Core.Path.{_≡_, _∙_}
+use mathlib.Core.Bool.{Bool, true, false, _||_}
 use mathlib.Core.List.{List}
 use mathlib.Core.Option.{Option, some}
 use Prim.Native.Nat.{_≤_}
@@ -13,14 +13,13 @@ use Rattle.geometry.specs.declared.Rect.{Rect}
 use Rattle.geometry.specs.Choice.{either}
 use Rattle.layout.specs.declared.Layout.{Layout}
 use Rattle.layout.specs.Actions.{actionElementsOf}
-use Rattle.layout.specs.Label.{isFaceOf}
 use Rattle.layout.specs.Labels.{Formed}
 use Rattle.search.specs.declared.Offset.{Offset}
 use Rattle.search.specs.Search.{placeGameInAspectOf}
 use Rattle.toolbar.specs.Toolbar.{anchorToolbarOf}
 use Rattle.arranged.specs.Arranged.{middle}
 use Rattle.band.specs.Band.{aspectOf}
-use Rattle.band.specs.BandLabels.{bandLabels, bandSticks, band-formed}
+use Rattle.band.specs.BandLabels.{bandLabels, bandSticks, band-faces, band-counts, band-formed}
 use Rattle.defaults.specs.DefaultLabels.{default-formed, analog-formed, psp-formed}
 use Rattle.cutouts.specs.Cutouts.{avoidCutoutsOf}
 use Rattle.cutouts.specs.CutoutLaws.{face-count}
@@ -40,14 +39,10 @@ pub record Few (l : Layout) : Type 0 where
   pub faces : length (actionElementsOf l) ≤ 4
 
 pub few : (analog psp : Bool) (l : Layout) → OfMode analog psp l → Few l
-unfolding isFaceOf
-few analog true l f = let n : l .count ≡ 8 = f .0 .1 in let m = f .0 .2 in let k : length (actionElementsOf l) ≡ 4 = face-count l _ (f .0 .0) in record { count = omega arith; stickcount = sticks analog (f .0 .2); faces = omega arith }
-  where
-    sticks : (analog : Bool) → l .stickcount ≡ cond analog 1 0 → l .stickcount ≤ 2
-    sticks true e = omega arith
-    sticks false e = omega arith
-few true false l f = let n : l .count ≡ 12 = f .0 .1 in let m : l .stickcount ≡ 2 = f .0 .2 in let k : length (actionElementsOf l) ≡ 4 = face-count l _ (f .0 .0) in record { count = omega arith; stickcount = omega arith; faces = omega arith }
-few false false l f = let n : l .count ≡ 10 = f .0 .1 in let m : l .stickcount ≡ 0 = f .0 .2 in let k : length (actionElementsOf l) ≡ 4 = face-count l _ (f .0 .0) in record { count = omega arith; stickcount = omega arith; faces = omega arith }
+few analog psp l f =
+    let n = band-counts analog psp l (f .0) in
+    let k : length (actionElementsOf l) ≡ 4 = face-count l _ (f .0 .0) ∙ band-faces analog psp in
+    record { count = n .0; stickcount = n .1; faces = omega arith }
 
 module _ (w h : Float) (cutouts : List Rect) (picture : Rect) where
   pub start-mode : (psp analog : Bool) → OfMode (analog || psp) psp (startOf psp analog w h cutouts picture)

@@ -9,8 +9,8 @@ use Rattle.geometry.specs.Rect.{newOf}
 use Rattle.layout.specs.declared.Layout.{Layout}
 use Rattle.layout.specs.Layout.{elementsOf}
 use Rattle.search.specs.Search.{placeGameInAspectOf}
-use Rattle.arranged.specs.Arranged.{finishedOf}
-use Rattle.arranged.specs.Controls.{bareOf, anchoredOf}
+use Rattle.arranged.specs.Arranged.{anchoredOf, finishedOf}
+use Rattle.arranged.specs.Controls.{bareOf}
 use Rattle.arranged.specs.ControlLaws.{finished-anew}
 use Rattle.defaults.specs.declared.Size.{Size}
 use Rattle.defaults.specs.AnalogControls.{analogControlsOf}

@@ -54,7 +54,7 @@ above-zero {y} {a} i t = go (le k0 y) (λ n. none (lower i i0 (le-not 1 k0 y (ze
     go true f = tt
     go false f = absurd (f tt)
 
-pub screen-area : {w h : Float} → In w (at 1) (at 8192) → In h (at 1) (at 8192) → Area (newOf k0 k0 w h)
+screen-area : {w h : Float} → In w (at 1) (at 8192) → In h (at 1) (at 8192) → Area (newOf k0 k0 w h)
 screen-area W H =
     let zero = most-more zero-most maxArea tt in
     record { x = zero; y = zero; w = range-most maxArea W tt; h = range-most maxArea H tt; w0 = above-zero W tt; h0 = above-zero H tt }

@@ -1,8 +1,7 @@
 -- `fit_landscape_controls` keeps a layout in range, on screens up to 8192 by 8192, and its game the widest.
 use mathlib.Core.Bool.{Bool, true, false, cond, not, _||_}
 use mathlib.Core.List.{List, [], _∷_}
-use Prim.Native.Nat.{ℕ, zero, _+_, _≤_, _<_}
-use native.Mathlib.Omega.{arith}
+use Prim.Native.Nat.{ℕ, _+_, _≤_, _<_}
 use lib.Dec.{T, ltb}
 use lib.Ieee.{Float, lt}
 use lib.ListN.{length, getD, set}
@@ -22,20 +21,19 @@ use Rattle.numerics.specs.Value.{AtMost}
 use Rattle.numerics.specs.Rects.{Area, Element, OnScreen, maxArea, maxCorner, maxSide}
 use Rattle.numerics.specs.Range.{In, at, minus}
 use Rattle.numerics.specs.Each.{Each}
-use Rattle.numerics.specs.Lists.{each-take, each-set, each-imp, fold-ind}
+use Rattle.numerics.specs.Lists.{each-take, each-at, each-set, each-imp, fold-ind}
 use Rattle.numerics.specs.Bounds.{lt-not, most-more}
 use Rattle.numerics.specs.Ranges.{in-more, most-in, add-in, sub-in, sub-back, div-in, times-in, min-in, raise, range-most, element-in, placed-element}
 use Rattle.numerics.specs.Literals.{i0, i0·5, i1, i4, i8, i16, i18, i24, i48, i64, i72, i104, i120, i122, f2}
 use Rattle.numerics.specs.Shrunk.{shrunkMargin}
 use Rattle.search.specs.Bounded.{Every, Bounded, BoundedGame}
 use Rattle.search.specs.Widest.{Widest, centredWidth}
-use Rattle.search.proofs.Changes.{every-imp}
+use Rattle.search.proofs.Changes.{each-mapFirst, every-imp}
 use Rattle.search.proofs.Layouts.{place-bounded, place-game-in, place-widest}
 use Rattle.search.proofs.Placement.{each-filter}
 use Rattle.search.proofs.Shapes.{Shape}
 use Rattle.toolbar.specs.Toolbar.{toolbarHeight}
 use Rattle.arranged.specs.Arranged.{middle}
-use Rattle.arranged.specs.PlaceRanges.{each-mapFirst}
 use Rattle.moves.specs.declared.Move.the-variants.{Go}
 use Rattle.moves.specs.Moves.{movedOf}
 use Rattle.landscape.specs.declared.Row.{Row}
@@ -164,11 +162,7 @@ module _ (l : Layout) (cs : l .count ≤ length (l .controls)) (ss : 0 < length 
       }
 
   stick-in : AtMost (getD (l .sticks) 0 anyRect .w) (maxArea + shrunkMargin)
-  stick-in = go (l .sticks) ss (L .sticks)
-    where
-      go : (sticks : List Rect) → 0 < length sticks → Each Old sticks → AtMost (getD sticks 0 anyRect .w) (maxArea + shrunkMargin)
-      go [] h e = absurd (let z : ⊥ = omega arith in z)
-      go (s ∷ sticks) h e = e .0 .w
+  stick-in = each-at Old 0 (l .sticks) anyRect ss (L .sticks) .w
 
   module _ {w h : Float} (W : In w (at 1) (at 8192)) (H : In h (at 1) (at 8192)) where
     row-bounded : T (not (tightOf (rowOf l w h))) → Bounded (rowedOf l (rowOf l w h))

@@ -33,7 +33,7 @@ module _ (l : Layout) where
       (boxes-from cs (suc j) (λ k p. let q : suc (suc j + k) ≡ suc (j + suc k) = omega arith in ap (elementOf l) q ∙ h (suc k) (omega arith)))
 
   -- the elements that `action_elements` names are the face controls
-  pub action-boxes : l .count ≤ length (l .controls) → map (elementOf l) (actionElementsOf l) ≡ filterMap (λ c. isFaceOf (c .label)) (λ c. c .bounds) (controlList l)
+  action-boxes : l .count ≤ length (l .controls) → map (elementOf l) (actionElementsOf l) ≡ filterMap (λ c. isFaceOf (c .label)) (λ c. c .bounds) (controlList l)
   unfolding actionElementsOf
   action-boxes h =
       let n : length (controlList l) ≡ l .count = length-take-le (l .count) (l .controls) h in

@@ -54,7 +54,7 @@ module _ (l : Layout) (cs : l .count ≤ length (l .controls)) (ss : l .stickcou
       let p : i ≡ suc (length (boundsOf l) + k) = omega arith in
       ap (λ (j : ℕ). getD (elementsOf l) j anyRect) p ∙ getD-append-add (boundsOf l) (lastOf l) k anyRect
 
-  pub element-at : (i : ℕ) → i < elementCountOf l → getD (elementsOf l) i anyRect ≡ elementOf l i
+  element-at : (i : ℕ) → i < elementCountOf l → getD (elementsOf l) i anyRect ≡ elementOf l i
   unfolding elementOf elementsOf
   element-at i h =
       let n = l .count in
@@ -67,7 +67,7 @@ module _ (l : Layout) (cs : l .count ≤ length (l .controls)) (ss : l .stickcou
       (λ f. last-at i (suc (suc (suc (suc (i - n - 5))))) (omega arith) ∙ getD-take (l .stickcount) (l .sticks) (i - n - 5) anyRect (omega arith)))))))
 
   -- `element` at each of k indices from a on
-  pub elements-part : (a k : ℕ) → a + k ≤ elementCountOf l → map (elementOf l) (countFrom a k) ≡ take k (drop a (elementsOf l))
+  elements-part : (a k : ℕ) → a + k ≤ elementCountOf l → map (elementOf l) (countFrom a k) ≡ take k (drop a (elementsOf l))
   elements-part a zero h = refl
   elements-part a (suc k) h =
       let n = length-elements in

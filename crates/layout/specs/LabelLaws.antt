@@ -1,5 +1,5 @@
 -- Changes of a layout and what they leave of its labels, counts and arrays: its controls changed in place, new rectangles for its elements, the inputs of a psp.
-use mathlib.Core.Path.{_≡_, refl, ap, sym, _∙_}
+use mathlib.Core.Path.{_≡_, ap, sym, _∙_}
 use mathlib.Core.List.{List, map, map-map, zipWith}
 use Prim.Native.Nat.{ℕ, _+_, _≤_}
 use native.Mathlib.Omega.{arith}

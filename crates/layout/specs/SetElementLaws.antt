@@ -24,7 +24,7 @@ module _ {A : Type 0} where
   drop-next : (l : List A) (n j : ℕ) (d : A) → n + j < length l → drop (n + j) l ≡ getD l (n + j) d ∷ drop (n + suc j) l
   drop-next l n j d h = rw add-suc (drop-cons l (n + j) d h)
 
-  pub take-replaceFirst : (n : ℕ) (new old : List A) → n ≤ length new → take n (replaceFirst n new old) ≡ take n new
+  take-replaceFirst : (n : ℕ) (new old : List A) → n ≤ length new → take n (replaceFirst n new old) ≡ take n new
   take-replaceFirst n new old h = take-at (take n new) (drop n old) n (length-take-le n new h)
 
 module _ {A B C : Type 0} (f : A → B → C) where

@@ -10,7 +10,7 @@ use Rattle.geometry.specs.declared.Rect.{Rect}
 use Rattle.layout.specs.declared.Control.{Control}
 use Rattle.layout.specs.declared.Layout.{Layout}
 use Rattle.layout.specs.Layout.{anyRect, withBounds, withDpad, stickList, elementsOf}
-use Rattle.layout.specs.Lists.{retain, compact}
+use Rattle.layout.specs.Lists.{mapFirst, retain, compact}
 use Rattle.layout.specs.Elements.{replaceFirst, boundsOf, setElementsOf}
 use Rattle.layout.specs.ElementLaws.{length-bounds}
 use Rattle.layout.specs.Psp.{onPsp, pspInputsOf}
@@ -31,6 +31,14 @@ module _ {A : Type 0} (C : A → Type 0) where
   each-compact p n xs e =
       let kept = retain p (take n xs) in
       each-append C kept (drop (length kept) xs) (each-filter p (λ x. x) C C (λ x c. c) (take n xs) (each-take C n xs e)) (each-drop C (length kept) xs e)
+
+-- the first elements are changed, so that D holds; of the others C holds still
+module _ {A : Type 0} (C D : A → Type 0) (g : A → A) (made : (x : A) → C x → D (g x)) (kept : (x : A) → C x → D x) where
+  pub each-mapFirst : (n : ℕ) (xs : List A) → Each C xs → Each D (mapFirst g n xs)
+  unfolding mapFirst
+  each-mapFirst zero xs e = each-imp C D kept xs e
+  each-mapFirst (suc n) [] e = tt
+  each-mapFirst (suc n) (x ∷ xs) e = (made x (e .0), each-mapFirst n xs (e .1))
 
 each-bounds : (C : Rect → Type 0) (cs : List Control) (rs : List Rect) → Each C rs → Each (λ c. C (c .bounds)) (zipWith withBounds cs rs)
 unfolding zipWith
