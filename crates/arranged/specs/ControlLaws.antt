@@ -2,22 +2,19 @@
 use mathlib.Core.Path.{_≡_, refl}
 use mathlib.Core.Bool.{Bool, true, false, cond}
 use mathlib.Core.List.{List, []}
-use lib.Ieee.{Float, lt, ofBits}
+use lib.Ieee.{Float, lt}
 use Rattle.float.specs.Float.{k0, k122}
 use Rattle.geometry.specs.declared.Rect.{Rect}
 use Rattle.layout.specs.declared.Layout.{Layout}
 use Rattle.layout.specs.Layout.{elementsOf, withGame, withDpad}
 use Rattle.search.specs.declared.Offset.{Offset}
 use Rattle.search.specs.Search.{placeGameInAspectOf}
-use Rattle.toolbar.specs.Toolbar.{avoidedOf, anchorToolbarOf}
+use Rattle.toolbar.specs.Toolbar.{anchorToolbarOf}
+use Rattle.toolbar.specs.ToolbarRanges.{uncovered}
 use Rattle.arranged.specs.declared.Places.{Places}
 use Rattle.arranged.specs.Places.{placedOf}
 use Rattle.arranged.specs.Arranged.{finishedOf, dockedOf, arrangedOf, railedOf, clusterOf, sideRailsOf}
 use Rattle.arranged.specs.Controls.{bareOf, railControlsOf, sideControlsOf}
-
-uncovered : (l : Layout) (cutouts : List Rect) → avoidedOf l k0 cutouts ≡ cutouts
-unfolding avoidedOf lt ofBits
-uncovered l cutouts = refl
 
 module _ (w h top : Float) (cutouts : List Rect) where
   bare-anchored : (l : Layout) → anchorToolbarOf l w h top k0 cutouts ≡ withGame (anchorToolbarOf (bareOf l) w h top k0 cutouts) (l .game)

@@ -11,8 +11,8 @@ use lib.Seq.{drop-cons, getD-append-add, getD-take, length-take-le, take-at, tak
 use Rattle.geometry.specs.declared.Rect.{Rect}
 use Rattle.layout.specs.declared.Control.{Control}
 use Rattle.layout.specs.declared.Layout.{Layout}
-use Rattle.layout.specs.Layout.{anyRect, anyControl, controlList, stickList, elementCountOf, elementOf, elementsOf}
-use Rattle.layout.specs.Elements.{boundsOf, countFrom, controllerElementsOf}
+use Rattle.layout.specs.Layout.{anyRect, anyControl, controlList, stickList, elementCountOf, elementOf, boundsOf, elementsOf}
+use Rattle.layout.specs.Elements.{countFrom, controllerElementsOf}
 
 module _ {A : Type 0} where
   -- a claim about a branch, by its two sides

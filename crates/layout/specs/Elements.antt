@@ -1,19 +1,15 @@
 -- Lists of a layout's elements, as indices and as rectangles. Definitions only.
-use mathlib.Core.List.{List, [], _∷_, _++_, map, zipWith}
+use mathlib.Core.List.{List, [], _∷_, _++_, zipWith}
 use Prim.Native.Nat.{ℕ, zero, suc, _+_, _-_}
 use lib.ListN.{take, drop, getD}
 use Rattle.geometry.specs.declared.Rect.{Rect}
 use Rattle.layout.specs.declared.Layout.{Layout}
-use Rattle.layout.specs.Layout.{anyRect, withBounds, controlList, elementCountOf}
+use Rattle.layout.specs.Layout.{anyRect, withBounds, elementCountOf}
 
 module _ {A : Type 0} where
   -- the first n elements from one list, the others from another
   abbrev pub replaceFirst : ℕ → List A → List A → List A
   replaceFirst n new old = take n new ++ drop n old
-
--- the controls' rectangles
-abbrev pub boundsOf : Layout → List Rect
-boundsOf l = map (λ c. c .bounds) (controlList l)
 
 -- k numbers from a on
 abbrev pub countFrom : ℕ → ℕ → List ℕ

@@ -88,7 +88,10 @@ setElementOf l i r =
     (cond (ltb i (n + 5)) (withMute l r)
     (withSticks l (set (l .sticks) (i - n - 5) r)))))))
 
+-- the controls' rectangles
+abbrev pub boundsOf : Layout → List Rect
+boundsOf l = map (λ c. c .bounds) (controlList l)
+
 -- all elements, in the order of their indices
 unfoldable pub elementsOf : Layout → List Rect
-elementsOf l =
-    l .dpad ∷ (map (λ c. c .bounds) (controlList l) ++ (l .pause ∷ l .playback ∷ l .speed ∷ l .mute ∷ stickList l))
+elementsOf l = l .dpad ∷ (boundsOf l ++ (l .pause ∷ l .playback ∷ l .speed ∷ l .mute ∷ stickList l))

@@ -10,8 +10,8 @@ use Rattle.geometry.specs.declared.Rect.{Rect}
 use Rattle.layout.specs.declared.Control.{Control}
 use Rattle.layout.specs.declared.Label.{Label}
 use Rattle.layout.specs.declared.Layout.{Layout}
-use Rattle.layout.specs.Layout.{anyRect, withBounds, elementCountOf, elementsOf}
-use Rattle.layout.specs.Elements.{replaceFirst, boundsOf, setElementsOf}
+use Rattle.layout.specs.Layout.{anyRect, withBounds, elementCountOf, boundsOf, elementsOf}
+use Rattle.layout.specs.Elements.{replaceFirst, setElementsOf}
 use Rattle.layout.specs.Labels.{labelsOf}
 
 module _ {A : Type 0} where

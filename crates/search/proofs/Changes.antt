@@ -9,9 +9,9 @@ use lib.Seq.{getD-append-add, drop-append-add}
 use Rattle.geometry.specs.declared.Rect.{Rect}
 use Rattle.layout.specs.declared.Control.{Control}
 use Rattle.layout.specs.declared.Layout.{Layout}
-use Rattle.layout.specs.Layout.{anyRect, withBounds, withDpad, stickList, elementsOf}
+use Rattle.layout.specs.Layout.{anyRect, withBounds, withDpad, stickList, boundsOf, elementsOf}
 use Rattle.layout.specs.Lists.{mapFirst, retain, compact}
-use Rattle.layout.specs.Elements.{replaceFirst, boundsOf, setElementsOf}
+use Rattle.layout.specs.Elements.{replaceFirst, setElementsOf}
 use Rattle.layout.specs.ElementLaws.{length-bounds}
 use Rattle.layout.specs.Psp.{onPsp, pspInputsOf}
 use Rattle.numerics.specs.Each.{Each}

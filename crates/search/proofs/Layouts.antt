@@ -1,5 +1,5 @@
 -- Layouts in range: their elements, demand 3, and the range of the game.
-use mathlib.Core.List.{List, [], map}
+use mathlib.Core.List.{List, []}
 use mathlib.Core.Bool.{Bool, true, false}
 use Prim.Native.Nat.{ℕ, _+_, _*_}
 use native.Mathlib.Nat.{zero-lt-suc}
@@ -8,7 +8,7 @@ use lib.Ieee.{Float}
 use Rattle.float.specs.Float.{k1}
 use Rattle.geometry.specs.declared.Rect.{Rect}
 use Rattle.layout.specs.declared.Layout.{Layout}
-use Rattle.layout.specs.Layout.{controlList, elementsOf}
+use Rattle.layout.specs.Layout.{controlList, boundsOf, elementsOf}
 use Rattle.numerics.specs.Value.{Whole, AtMost}
 use Rattle.numerics.specs.Rects.{maxArea, Element, Area}
 use Rattle.numerics.specs.Each.{Each, _&_}
@@ -26,11 +26,14 @@ use Rattle.search.proofs.Clearance.{Inside}
 use Rattle.search.proofs.Placement.{game-is, obstacles-fair, picture-found}
 use Rattle.search.proofs.Demand.{game-widest}
 
+pub bounds-in : {C D : Rect → Type 0} (l : Layout) → Every C D l → Each C (boundsOf l)
+bounds-in {C} l B = each-map C (λ c. c .bounds) (controlList l) (each-take (λ c. C (c .bounds)) (l .count) (l .controls) (B .controls))
+
 pub elements-in : {C : Rect → Type 0} (l : Layout) → Every C C l → Each C (elementsOf l)
 unfolding elementsOf
 elements-in {C} l B =
     B .dpad
-    & each-append C (map (λ c. c .bounds) (controlList l)) _ (each-map C (λ c. c .bounds) (controlList l) (each-take (λ c. C (c .bounds)) (l .count) (l .controls) (B .controls)))
+    & each-append C (boundsOf l) _ (bounds-in l B)
     (B .pause & B .playback & B .speed & B .mute & each-take C (l .stickcount) (l .sticks) (B .sticks))
 
 pub layout-widest : {a : Float} {p q : ℕ} → Shape a p q → (l : Layout) → Bounded l → {b : Rect} → Area b → (offset : Offset) → Whole (offset .x) → Whole (offset .y)

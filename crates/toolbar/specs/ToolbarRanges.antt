@@ -1,4 +1,5 @@
 -- The toolbar's keys are in range: `anchor_toolbar` keeps a layout in range.
+use mathlib.Core.Path.{_≡_, refl}
 use mathlib.Core.Bool.{Bool, true, false, cond, not, _&&_}
 use mathlib.Core.List.{List, [], _∷_, _++_, map}
 use Prim.Native.Nat.{ℕ, zero, suc, _+_, _≤_}
@@ -10,19 +11,20 @@ use Rattle.float.specs.Float.{_⊕_, _⊖_, _⊘_, k0, k0·01, k2, k8, k320}
 use Rattle.geometry.specs.declared.Rect.{Rect}
 use Rattle.geometry.specs.Rect.{overlapsOf}
 use Rattle.layout.specs.declared.Layout.{Layout}
-use Rattle.layout.specs.Layout.{elementOf, controlList, stickList}
-use Rattle.layout.specs.Elements.{boundsOf, controllerElementsOf}
+use Rattle.layout.specs.Layout.{elementOf, stickList, boundsOf}
+use Rattle.layout.specs.Elements.{controllerElementsOf}
 use Rattle.layout.specs.ElementLaws.{controller-elements}
 use Rattle.layout.specs.Lists.{anyOf, find}
 use Rattle.numerics.specs.Rects.{Element, Key, margin}
 use Rattle.numerics.specs.Range.{In, at, minus}
 use Rattle.numerics.specs.Each.{Each, _&_}
-use Rattle.numerics.specs.Lists.{each-take, each-append, each-map}
+use Rattle.numerics.specs.Lists.{each-take, each-append}
 use Rattle.numerics.specs.Bounds.{lt-law}
 use Rattle.numerics.specs.Ranges.{in-reach, in-more, most-in, add-in, sub-in, sub-back, times-in, mul-in, div-in, min-in, max-in, clamp-in, cond-in, neg-in, raise, moved-in, placed-in}
 use Rattle.numerics.specs.Products.{product-most}
 use Rattle.numerics.specs.Literals.{i0, i0·01, i1, i1·4, i8, i18, i28, i40, f0·01, f0·055, f2, f3, f4}
 use Rattle.search.specs.Bounded.{Every, Bounded}
+use Rattle.search.proofs.Layouts.{bounds-in}
 use Rattle.toolbar.specs.Toolbar.{besideOf, roomOf, belowOf, moved, pass, pairOf, avoidedOf, anchorToolbarOf}
 
 -- what is found holds
@@ -94,16 +96,19 @@ module _ (l : Layout) (coveredTop : Float) (cutouts : List Rect) where
       controls : Each Element (map (elementOf l) (controllerElementsOf l))
       controls =
           rw (controller-elements l cs ss)
-          (L .dpad & each-append Element (boundsOf l) (stickList l) (each-map Element (λ c. c .bounds) (controlList l) (each-take (λ c. Element (c .bounds)) (l .count) (l .controls) (L .controls))) (each-take Element (l .stickcount) (l .sticks) (L .sticks)))
+          (L .dpad & each-append Element (boundsOf l) (stickList l) (bounds-in l L) (each-take Element (l .stickcount) (l .sticks) (L .sticks)))
 
       go : (b : Bool) → Each Element (cond b (cutouts ++ map (elementOf l) (controllerElementsOf l)) cutouts)
       go true = each-append Element cutouts (map (elementOf l) (controllerElementsOf l)) O controls
       go false = O
 
 -- where no decoration shows, only the cutouts
-pub uncovered-in : (l : Layout) (cutouts : List Rect) → Each Element cutouts → Each Element (avoidedOf l k0 cutouts)
+pub uncovered : (l : Layout) (cutouts : List Rect) → avoidedOf l k0 cutouts ≡ cutouts
 unfolding avoidedOf lt ofBits
-uncovered-in l cutouts O = O
+uncovered l cutouts = refl
+
+pub uncovered-in : (l : Layout) (cutouts : List Rect) → Each Element cutouts → Each Element (avoidedOf l k0 cutouts)
+uncovered-in l cutouts O = rw uncovered O
 
 -- ---- the keys
 pub anchor-in : {C D : Rect → Type 0} (l : Layout) {w h reusableTop coveredTop : Float} (cutouts : List Rect)

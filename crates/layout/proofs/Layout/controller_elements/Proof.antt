@@ -6,8 +6,7 @@ use native.Mathlib.Omega.{arith}
 use lib.ListN.{length, length-map, take, getD}
 use lib.Seq.{take-take}
 use Rattle.geometry.specs.declared.Rect.{Rect}
-use Rattle.layout.specs.Layout.{anyRect}
-use Rattle.layout.specs.Elements.{boundsOf}
+use Rattle.layout.specs.Layout.{anyRect, boundsOf}
 use Rattle.layout.specs.ElementLaws.{first-elements, controller-elements}
 use Rattle.layout.proofs.Loops.{sized}
 use Rattle.layout.proofs.Stores.{stored, two}

@@ -2,10 +2,9 @@ use native.Mathlib.Omega.{arith}
 use mathlib.Core.Path.{_≡_, refl, ap, _∙_}
 use Prim.Native.Nat.{_+_, _-_, _≤_, suc}
 use Rattle.geometry.specs.declared.Rect.{Rect}
-use Rattle.layout.specs.Elements.{boundsOf}
 use mathlib.Core.List.{List, [], _∷_, _++_, map}
 use lib.ListN.{length, length-map, take, getD, length-set}
-use Rattle.layout.specs.Layout.{anyRect, elementsOf, elementCountOf}
+use Rattle.layout.specs.Layout.{anyRect, boundsOf, elementsOf, elementCountOf}
 use Rattle.layout.proofs.Loops.{sized}
 use Rattle.layout.proofs.Stores.{map-put, stored, two}
 use Rattle.layout.proofs.Layout.elements.Statement.{statement}
