@@ -15,6 +15,7 @@ use arranged::placed;
 use band::aspect;
 use band::with_inputs;
 use cutouts::avoid_cutouts;
+use cutouts::hit;
 use defaults::analog_default;
 use float::max;
 use float::min;
@@ -144,16 +145,10 @@ fn hits(elements: Elements, cutouts: Cutouts) -> bool
     requires { ⌜ (elements .count ≤ 19) × (cutouts .count ≤ 16) ⌝ }
     ensures { λ r. ⌜ r ≡ hitsOf (elementList elements) (cutoutList cutouts) ⌝ }
 {
-    let element = elements.at;
     let n = elements.count;
-    let cutout = cutouts.at;
-    let count = cutouts.count;
     for i in 0..n {
-        let r = element[i];
-        for k in 0..count {
-            if r.overlaps(cutout[k]) {
-                return true;
-            }
+        if hit(elements.at[i], cutouts) {
+            return true;
         }
     }
     false

@@ -10,7 +10,6 @@ use lib.Ieee.{Float}
 use lib.ListN.{length, take, drop, getD, set, length-append, take-append-drop}
 use lib.Seq.{getD-take, length-take-le, take-all, take-set-lt}
 use Rattle.geometry.specs.declared.Rect.{Rect}
-use Rattle.geometry.specs.Rect.{overlapsOf}
 use Rattle.layout.specs.Elements.{countFrom, range}
 use Rattle.layout.specs.declared.Control.{Control}
 use Rattle.layout.specs.declared.Layout.{Layout}
@@ -20,11 +19,11 @@ use Rattle.layout.specs.Layout.{anyRect, anyControl, controlList}
 use Rattle.layout.specs.Lists.{allOf, anyOf, filterMap, enumerateFrom}
 use Rattle.layout.proofs.Filters.{one-more}
 use Rattle.layout.proofs.Loops.{filterMap-append}
-use Rattle.cutouts.specs.Cutouts.{settleOf, belowAll}
+use Rattle.cutouts.specs.Cutouts.{hitOf, settleOf, belowAll}
 use Rattle.cutouts.specs.CutoutLaws.{both}
 
 -- an element on no cutout stays
-pub missed : (w h : Float) (holes at : List Rect) (n i : ℕ) → i < n → anyOf (overlapsOf (getD at i anyRect)) holes ≡ false → settleOf w h holes (take n at) (i ∷ []) ≡ take n at
+pub missed : (w h : Float) (holes at : List Rect) (n i : ℕ) → i < n → hitOf (getD at i anyRect) holes ≡ false → settleOf w h holes (take n at) (i ∷ []) ≡ take n at
 unfolding settleOf anyOf
 missed w h holes at n i k e = rw (getD-take n at i anyRect k, e)
 

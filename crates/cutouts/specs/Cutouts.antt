@@ -37,9 +37,13 @@ membersOf elements group = map (λ i. getD elements i anyRect) group
 abbrev pub othersOf : List Rect → List ℕ → List Rect
 othersOf elements group = filterMap (λ i. not (inGroupOf group i)) (λ i. getD elements i anyRect) (range 0 (length elements))
 
--- some rectangle overlaps a cutout
+-- the rectangle overlaps a cutout
+abbrev pub hitOf : Rect → List Rect → Bool
+hitOf r holes = anyOf (overlapsOf r) holes
+
+-- some rectangle does
 abbrev pub hitsOf : List Rect → List Rect → Bool
-hitsOf original holes = anyOf (λ r. anyOf (overlapsOf r) holes) original
+hitsOf original holes = anyOf (λ r. hitOf r holes) original
 
 abbrev pub shiftByOf : List Rect → List ℕ → Float → Float → List Rect
 shiftByOf elements group dx dy = foldl (λ es i. set es i (movedOf (Go dx dy) (getD elements i anyRect))) elements group

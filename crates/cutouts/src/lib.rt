@@ -5,10 +5,8 @@ ghost use mathlib.Core.List.{[], _∷_};
 ghost use Prim.Native.Nat.{_≤_};
 ghost use lib.ListN.{length, take};
 ghost use Rattle.layout.specs.Actions.{actionElementsOf};
-ghost use Rattle.geometry.specs.Rect.{overlapsOf};
 ghost use Rattle.layout.specs.Layout.{cutoutList, elementCountOf, elementList};
-ghost use Rattle.layout.specs.Lists.{anyOf};
-ghost use Rattle.cutouts.specs.Cutouts.{hasAreaOf, withAreaOf, inGroupOf, membersOf, othersOf, hitsOf, shiftByOf, shiftOf, settleOf, avoidOf, avoidCutoutsOf, groupList, belowAll};
+ghost use Rattle.cutouts.specs.Cutouts.{hasAreaOf, withAreaOf, inGroupOf, membersOf, othersOf, hitOf, hitsOf, shiftByOf, shiftOf, settleOf, avoidOf, avoidCutoutsOf, groupList, belowAll};
 use geometry::Rect;
 use layout::Cutouts;
 use layout::Elements;
@@ -93,18 +91,27 @@ fn others(elements: Elements, group: Group) -> Elements
     Elements { at: out, count }
 }
 
+// The rectangle overlaps a cutout.
+pub fn hit(r: Rect, holes: Cutouts) -> bool
+    requires { ⌜ holes .count ≤ 16 ⌝ }
+    ensures { λ b. ⌜ b ≡ hitOf r (cutoutList holes) ⌝ }
+{
+    let n = holes.count;
+    for k in 0..n {
+        if r.overlaps(holes.at[k]) {
+            return true;
+        }
+    }
+    false
+}
+
 fn hits(original: [Rect; 4], m: usize, holes: Cutouts) -> bool
     requires { ⌜ (m ≤ 4) × (holes .count ≤ 16) ⌝ }
     ensures { λ r. ⌜ r ≡ hitsOf (take m original) (cutoutList holes) ⌝ }
 {
-    let hole = holes.at;
-    let holecount = holes.count;
     for i in 0..m {
-        let r = original[i];
-        for k in 0..holecount {
-            if r.overlaps(hole[k]) {
-                return true;
-            }
+        if hit(original[i], holes) {
+            return true;
         }
     }
     false
@@ -160,20 +167,6 @@ fn single(i: usize) -> Group
         at: [i; 4],
         count: 1,
     }
-}
-
-// A cutout overlaps the rectangle.
-fn hit(r: Rect, holes: Cutouts) -> bool
-    requires { ⌜ holes .count ≤ 16 ⌝ }
-    ensures { λ b. ⌜ b ≡ anyOf (overlapsOf r) (cutoutList holes) ⌝ }
-{
-    let n = holes.count;
-    for k in 0..n {
-        if r.overlaps(holes.at[k]) {
-            return true;
-        }
-    }
-    false
 }
 
 // The faces as one group, then every other element: later groups see the earlier ones moved. Most elements lie on no cutout

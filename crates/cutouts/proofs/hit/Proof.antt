@@ -3,15 +3,14 @@ use native.Mathlib.Omega.{arith}
 use mathlib.Core.Path.{_≡_, refl}
 use Prim.Native.Nat.{_-_, _≤_}
 use lib.ListN.{length, take, drop}
-use Rattle.geometry.specs.Rect.{overlapsOf}
 use Rattle.layout.proofs.Loops.{sized, next-of, none-left, any-hit, any-miss, any-end}
 use Rattle.layout.specs.Layout.{anyRect}
-use Rattle.layout.specs.Lists.{anyOf}
+use Rattle.cutouts.specs.Cutouts.{hitOf}
 use Rattle.cutouts.proofs.hit.Statement.{statement}
 use Rattle.cutouts.proofs.hit.Tie as tie
 
 abbrev Inv-loop : tie.InvT-loop
-Inv-loop r holes n k₀ k = (k ≤ n) × (anyOf (overlapsOf r) (drop k (take n (holes .at))) ≡ anyOf (overlapsOf r) (take n (holes .at)))
+Inv-loop r holes n k₀ k = (k ≤ n) × (hitOf r (drop k (take n (holes .at))) ≡ hitOf r (take n (holes .at)))
 
 abbrev μ-loop : tie.MeasureT-loop
 μ-loop r holes n k₀ k = n - k
