@@ -10,6 +10,7 @@ use lib.Ieee.{Float}
 use lib.ListN.{length, take, drop, getD, set, length-append, take-append-drop}
 use lib.Seq.{getD-take, length-take-le, take-all, take-set-lt}
 use Rattle.geometry.specs.declared.Rect.{Rect}
+use Rattle.geometry.specs.Choice.{both}
 use Rattle.geometry.specs.Rect.{overlapsOf}
 use Rattle.layout.specs.Elements.{countFrom, range}
 use Rattle.layout.specs.declared.Control.{Control}
@@ -21,7 +22,6 @@ use Rattle.layout.specs.Lists.{allOf, anyOf, filterMap, enumerateFrom}
 use Rattle.layout.proofs.Filters.{one-more}
 use Rattle.layout.proofs.Loops.{filterMap-append}
 use Rattle.cutouts.specs.Cutouts.{settleOf, belowAll}
-use Rattle.cutouts.specs.CutoutLaws.{both}
 
 -- an element on no cutout stays
 pub missed : (w h : Float) (holes at : List Rect) (n i : ℕ) → i < n → anyOf (overlapsOf (getD at i anyRect)) holes ≡ false → settleOf w h holes (take n at) (i ∷ []) ≡ take n at

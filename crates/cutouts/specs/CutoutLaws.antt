@@ -1,15 +1,16 @@
 -- Laws of the cutout pass: game, counts and labels stay; each element stays, or lies on the screen in its old size; the number of faces.
-use mathlib.Core.Path.{_≡_, refl, ap, sym, subst, _∙_}
-use mathlib.Core.Bool.{Bool, true, false, _&&_, cond}
+use mathlib.Core.Path.{_≡_, refl, ap, _∙_}
+use mathlib.Core.Bool.{Bool, true, false, cond}
 use mathlib.Core.List.{List, [], _∷_, map, foldl}
 use mathlib.Core.Logic.{_⊎_, inl, inr}
 use Prim.Native.Nat.{ℕ, zero, suc, _≤_}
 use native.Mathlib.Omega.{arith}
-use lib.Dec.{T, eqb}
+use lib.Dec.{eqb}
 use lib.Ieee.{Float, binary32}
 use lib.Ieee.Fits.{add-fits}
 use lib.ListN.{length, getD, set}
 use Rattle.geometry.specs.declared.Rect.{Rect}
+use Rattle.geometry.specs.Choice.{both}
 use Rattle.layout.specs.declared.Layout.{Layout}
 use Rattle.layout.specs.Actions.{actionElementsOf}
 use Rattle.layout.specs.Elements.{setElementsOf}
@@ -25,12 +26,7 @@ use Rattle.moves.specs.declared.Move.{Move}
 use Rattle.moves.specs.declared.Move.the-variants.{Stay, Go}
 use Rattle.moves.specs.Moves.{movedOf, insideOf, clearOf, allClearOf, candidatesOf, orderedOf, searchOf}
 use Rattle.cutouts.specs.Cutouts.{withAreaOf, membersOf, othersOf, hitsOf, shiftOf, settleOf, singlesOf, avoidOf, avoidCutoutsOf}
-use Rattle.cutouts.specs.Settled.{Settled, Each}
-
--- both sides of a test that passes
-pub both : (a b : Bool) → (a && b) ≡ true → (a ≡ true) × (b ≡ true)
-both true b e = (refl, e)
-both false b e = absurd (subst T (sym e) tt)
+use Rattle.cutouts.specs.Settled.{Settled, AllSettled, none, next}
 
 -- the answer of a search is none, or passes the test
 find-passes : (p : Move → Bool) (ms : List Move) → (find p (λ m. m) Stay ms ≡ Stay) ⊎ (p (find p (λ m. m) Stay ms) ≡ true)
@@ -41,77 +37,71 @@ find-passes p (x ∷ ms) = go (p x) refl (find p (λ m. m) Stay ms) (find-passes
     go true e r q = inr e
     go false e r q = q
 
-each-length : (R : Rect → Rect → Type 0) (xs ys : List Rect) → Each R xs ys → length ys ≡ length xs
-each-length R [] [] e = refl
-each-length R [] (y ∷ ys) e = absurd e
-each-length R (x ∷ xs) [] e = absurd e
-each-length R (x ∷ xs) (y ∷ ys) e = ap suc (each-length R xs ys (e .1))
+module _ {w h : Float} where
+  all-length : {xs ys : List Rect} → AllSettled w h xs ys → length ys ≡ length xs
+  all-length none = refl
+  all-length (next s e) = ap suc (all-length e)
 
--- one element anew
-each-set : (R : Rect → Rect → Type 0) (xs ys : List Rect) (i : ℕ) (v : Rect) → Each R xs ys → R (getD xs i anyRect) v → Each R xs (set ys i v)
-each-set R [] [] i v e r = tt
-each-set R [] (y ∷ ys) i v e r = absurd e
-each-set R (x ∷ xs) [] i v e r = absurd e
-each-set R (x ∷ xs) (y ∷ ys) zero v e r = (r, e .1)
-each-set R (x ∷ xs) (y ∷ ys) (suc i) v e r = (e .0, each-set R xs ys i v (e .1) r)
+  -- one element anew
+  all-set : {xs ys : List Rect} (i : ℕ) (v : Rect) → AllSettled w h xs ys → Settled w h (getD xs i anyRect) v → AllSettled w h xs (set ys i v)
+  all-set i v none r = none
+  all-set zero v (next s e) r = next r e
+  all-set (suc i) v (next s e) r = next s (all-set i v e r)
+
+  then : {a b c : Rect} → Settled w h a b → Settled w h b c → Settled w h a c
+  then p (inl e) = rw e p
+  then (inl e) (inr q) = inr (rw e at q)
+  then (inr p) (inr q) = inr (record { inside = q .inside; fitsx = q .fitsx; fitsy = q .fitsy; width = q .width ∙ p .width; height = q .height ∙ p .height })
+
+  all-same : (xs : List Rect) → AllSettled w h xs xs
+  all-same [] = none
+  all-same (x ∷ xs) = next (inl refl) (all-same xs)
+
+  all-then : {xs ys zs : List Rect} → AllSettled w h xs ys → AllSettled w h ys zs → AllSettled w h xs zs
+  all-then none none = none
+  all-then (next s p) (next t q) = next (then s t) (all-then p q)
 
 module _ (w h : Float) where
-  then : (a b c : Rect) → Settled w h a b → Settled w h b c → Settled w h a c
-  then a b c p (inl e) = rw e p
-  then a b c (inl e) (inr q) = inr (rw e at q)
-  then a b c (inr p) (inr q) = inr (record { inside = q .inside; fitsx = q .fitsx; fitsy = q .fitsy; width = q .width ∙ p .width; height = q .height ∙ p .height })
-
-  each-same : (xs : List Rect) → Each (Settled w h) xs xs
-  each-same [] = tt
-  each-same (x ∷ xs) = (inl refl, each-same xs)
-
-  each-then : (xs ys zs : List Rect) → Each (Settled w h) xs ys → Each (Settled w h) ys zs → Each (Settled w h) xs zs
-  each-then [] [] zs p q = q
-  each-then [] (y ∷ ys) zs p q = absurd p
-  each-then (x ∷ xs) [] zs p q = absurd p
-  each-then (x ∷ xs) (y ∷ ys) [] p q = absurd q
-  each-then (x ∷ xs) (y ∷ ys) (z ∷ zs) p q = (then x y z (p .0) (q .0), each-then xs ys zs (p .1) (q .1))
-
   module _ (holes others elements : List Rect) where
     -- a move that leaves the group clear
-    each-move : (dx dy : Float) (group : List ℕ) (es : List Rect) → Each (Settled w h) elements es → allClearOf w h holes others (membersOf elements group) (Go dx dy) ≡ true
-        → Each (Settled w h) elements (foldl (λ es i. set es i (movedOf (Go dx dy) (getD elements i anyRect))) es group)
+    all-move : (dx dy : Float) (group : List ℕ) (es : List Rect) → AllSettled w h elements es → allClearOf w h holes others (membersOf elements group) (Go dx dy) ≡ true
+        → AllSettled w h elements (foldl (λ es i. set es i (movedOf (Go dx dy) (getD elements i anyRect))) es group)
     unfolding allOf clearOf
-    each-move dx dy [] es e a = e
-    each-move dx dy (i ∷ group) es e a =
+    all-move dx dy [] es e a = e
+    all-move dx dy (i ∷ group) es e a =
         let r = getD elements i anyRect in
         let b = both (clearOf w h holes others (movedOf (Go dx dy) r)) (allClearOf w h holes others (membersOf elements group) (Go dx dy)) a in
         let c = both (insideOf (movedOf (Go dx dy) r) w h) _ (b .0) in
-        each-move dx dy group (set es i (movedOf (Go dx dy) r)) (each-set (Settled w h) elements es i (movedOf (Go dx dy) r) e (inr (record { inside = c .0; fitsx = add-fits binary32 (r .x) dx; fitsy = add-fits binary32 (r .y) dy; width = refl; height = refl }))) (b .1)
+        all-move dx dy group (set es i (movedOf (Go dx dy) r)) (all-set i (movedOf (Go dx dy) r) e (inr (record { inside = c .0; fitsx = add-fits binary32 (r .x) dx; fitsy = add-fits binary32 (r .y) dy; width = refl; height = refl }))) (b .1)
 
-    each-shift : (group : List ℕ) (m : Move) → (m ≡ Stay) ⊎ (allClearOf w h holes others (membersOf elements group) m ≡ true) → Each (Settled w h) elements (shiftOf elements group m)
+    all-shift : (group : List ℕ) (m : Move) → (m ≡ Stay) ⊎ (allClearOf w h holes others (membersOf elements group) m ≡ true) → AllSettled w h elements (shiftOf elements group m)
     unfolding shiftOf
-    each-shift group Stay q = each-same elements
-    each-shift group (Go dx dy) (inl e) = let z : _≡_ {A = ℕ} 0 1 = cc in absurd (let y : ⊥ = omega arith in y)
-    each-shift group (Go dx dy) (inr a) = each-move dx dy group elements (each-same elements) a
+    all-shift group Stay q = all-same elements
+    all-shift group (Go dx dy) (inl e) = let z : _≡_ {A = ℕ} 0 1 = cc in absurd (let y : ⊥ = omega arith in y)
+    all-shift group (Go dx dy) (inr a) = all-move dx dy group elements (all-same elements) a
 
-  each-settle : (holes elements : List Rect) (group : List ℕ) → Each (Settled w h) elements (settleOf w h holes elements group)
+  all-settle : (holes elements : List Rect) (group : List ℕ) → AllSettled w h elements (settleOf w h holes elements group)
   unfolding settleOf searchOf
-  each-settle holes elements group = go (hitsOf (membersOf elements group) holes)
+  all-settle holes elements group = go (hitsOf (membersOf elements group) holes)
     where
-      go : (b : Bool) → Each (Settled w h) elements (cond b (shiftOf elements group (searchOf w h holes (othersOf elements group) (membersOf elements group))) elements)
-      go true = each-shift holes (othersOf elements group) elements group _ (find-passes (allClearOf w h holes (othersOf elements group) (membersOf elements group)) (orderedOf (candidatesOf (membersOf elements group) holes)))
-      go false = each-same elements
+      go : (b : Bool) → AllSettled w h elements (cond b (shiftOf elements group (searchOf w h holes (othersOf elements group) (membersOf elements group))) elements)
+      go true = all-shift holes (othersOf elements group) elements group _ (find-passes (allClearOf w h holes (othersOf elements group) (membersOf elements group)) (orderedOf (candidatesOf (membersOf elements group) holes)))
+      go false = all-same elements
 
-  each-group : (holes old es : List Rect) (groups : List (List ℕ)) → Each (Settled w h) old es → Each (Settled w h) old (foldl (settleOf w h holes) es groups)
-  each-group holes old es [] e = e
-  each-group holes old es (g ∷ groups) e = each-group holes old (settleOf w h holes es g) groups (each-then old es (settleOf w h holes es g) e (each-settle holes es g))
+  all-group : (holes old es : List Rect) (groups : List (List ℕ)) → AllSettled w h old es → AllSettled w h old (foldl (settleOf w h holes) es groups)
+  all-group holes old es [] e = e
+  all-group holes old es (g ∷ groups) e = all-group holes old (settleOf w h holes es g) groups (all-then e (all-settle holes es g))
 
   module _ (l : Layout) (cutouts : List Rect) (cs : l .count ≤ length (l .controls)) (ss : l .stickcount ≤ length (l .sticks)) where
     -- the elements after the pass
     abbrev pub after : List Rect
     after = avoidOf w h (withAreaOf cutouts) (actionElementsOf l) (elementsOf l)
 
-    pub each-after : Each (Settled w h) (elementsOf l) after
-    each-after = each-group (withAreaOf cutouts) (elementsOf l) (elementsOf l) (actionElementsOf l ∷ singlesOf (actionElementsOf l) (length (elementsOf l))) (each-same (elementsOf l))
+    pub all-after : AllSettled w h (elementsOf l) after
+    all-after = all-group (withAreaOf cutouts) (elementsOf l) (elementsOf l) (actionElementsOf l ∷ singlesOf (actionElementsOf l) (length (elementsOf l))) (all-same (elementsOf l))
 
     pub length-after : length after ≡ length (elementsOf l)
-    length-after = each-length (Settled w h) (elementsOf l) _ each-after
+    length-after = all-length all-after
 
     -- of the layout, for the reader: no proof cites this law and the next
     pub avoid-cutouts-kept : Kept l (avoidCutoutsOf l w h cutouts)
@@ -122,13 +112,13 @@ module _ (w h : Float) where
         go true = record { game = refl; count = refl; stickcount = refl; labels = refl }
         go false = set-elements-kept l _ cs (length-after ∙ length-elements l cs ss)
 
-    pub avoid-cutouts-settled : Each (Settled w h) (elementsOf l) (elementsOf (avoidCutoutsOf l w h cutouts))
+    pub avoid-cutouts-settled : AllSettled w h (elementsOf l) (elementsOf (avoidCutoutsOf l w h cutouts))
     unfolding avoidCutoutsOf
     avoid-cutouts-settled = go (eqb (length (withAreaOf cutouts)) 0)
       where
-        go : (b : Bool) → Each (Settled w h) (elementsOf l) (elementsOf (cond b l (setElementsOf l after)))
-        go true = each-same (elementsOf l)
-        go false = rw (set-elements-list l after cs (length-after ∙ length-elements l cs ss)) each-after
+        go : (b : Bool) → AllSettled w h (elementsOf l) (elementsOf (cond b l (setElementsOf l after)))
+        go true = all-same (elementsOf l)
+        go false = rw (set-elements-list l after cs (length-after ∙ length-elements l cs ss)) all-after
 
 -- ---- how many faces a layout has, by its labels
 count-faces : (j : ℕ) (cs : List Control)

@@ -1,12 +1,13 @@
 -- The cutout pass keeps the range of a layout's elements: an element moves only to where it lies on the screen.
-use mathlib.Core.Path.{_≡_, refl, _∙_, sym, subst}
+use mathlib.Core.Path.{_≡_, refl, _∙_}
 use mathlib.Core.Bool.{Bool, true, false, not, _&&_, cond}
-use mathlib.Core.List.{List, [], _∷_}
+use mathlib.Core.List.{List}
 use mathlib.Core.Logic.{_⊎_, inl, inr}
 use Prim.Native.Nat.{ℕ, _+_, _-_, _*_, _^_, _≤_, _<_}
 use native.Mathlib.Nat.{le-of-lt, mul-le-mul-right, le-of-mul-le-mul-right, mul-pos}
 use native.Mathlib.Omega.{arith}
 use lib.Dec.{T, eqb, leb, ltb, leb→le, nleb→lt, ltb→lt}
+use denote.Floats.{passes}
 use lib.ListN.{length}
 use lib.Pow.{pow-pos}
 use lib.Ieee.{Float, nan, inf, fin, binary32, up, down, ofBits, round, sum, add, le, fits}
@@ -17,7 +18,6 @@ use Rattle.geometry.specs.declared.Rect.{Rect}
 use Rattle.layout.specs.declared.Layout.{Layout}
 use Rattle.layout.specs.Elements.{setElementsOf}
 use Rattle.layout.specs.ElementLaws.{length-elements}
-use Rattle.layout.specs.Layout.{elementsOf}
 use Rattle.moves.specs.Moves.{insideOf}
 use Rattle.numerics.specs.Each.{Each}
 use Rattle.numerics.specs.Value.{magnitude, Whole, eps, posPart, AtMost, P}
@@ -31,9 +31,8 @@ use Rattle.search.specs.Bounded.{Bounded}
 use Rattle.search.proofs.Layouts.{elements-in}
 use Rattle.search.proofs.Changes.{set-elements-in}
 use Rattle.cutouts.specs.Cutouts.{withAreaOf, avoidCutoutsOf}
-use Rattle.cutouts.specs.Settled
-use Rattle.cutouts.specs.Settled.{Settled}
-use Rattle.cutouts.specs.CutoutLaws.{after, each-after, length-after}
+use Rattle.cutouts.specs.Settled.{Settled, AllSettled, none, next}
+use Rattle.cutouts.specs.CutoutLaws.{after, all-after, length-after}
 
 -- ---- a move may be of any length, so the tests alone bound where it ends
 -- a sum of 32768 at least and a side
@@ -105,18 +104,16 @@ module _ {w h : Float} (W : In w (at 0) (at 8192)) (H : In h (at 0) (at 8192)) w
       let t2 : Bool = le k0 (new .y) in
       let t3 : Bool = le (new .x ⊕ new .w) w in
       let t4 : Bool = le (new .y ⊕ new .h) h in
-      let t : T (t1 && (t2 && (t3 && t4))) = subst T (sym (m .inside)) tt in
+      let t : T (t1 && (t2 && (t3 && t4))) = passes _ (m .inside) in
       let u = and-r t1 (t2 && (t3 && t4)) t in
       let v = and-r t2 (t3 && t4) u in
       let wide : AtMost (new .w) maxSide = rw (m .width) (E .w) in
       let high : AtMost (new .h) maxSide = rw (m .height) (E .h) in
       record { x = side-in (m .fitsx) wide W (and-l t1 (t2 && (t3 && t4)) t) (and-l t3 t4 v); y = side-in (m .fitsy) high H (and-l t2 (t3 && t4) u) (and-r t3 t4 v); w = wide; h = high }
 
-  each-settled-in : (olds news : List Rect) → Settled.Each (Settled w h) olds news → Each Element olds → Each Element news
-  each-settled-in [] [] s e = tt
-  each-settled-in [] (y ∷ ys) s e = absurd s
-  each-settled-in (x ∷ xs) [] s e = absurd s
-  each-settled-in (x ∷ xs) (y ∷ ys) s e = (settled-in x y (s .0) (e .0), each-settled-in xs ys (s .1) (e .1))
+  all-settled-in : {olds news : List Rect} → AllSettled w h olds news → Each Element olds → Each Element news
+  all-settled-in none e = tt
+  all-settled-in (next s t) e = (settled-in _ _ s (e .0), all-settled-in t (e .1))
 
   pub avoid-bounded : (l : Layout) (cutouts : List Rect) → l .count ≤ length (l .controls) → l .stickcount ≤ length (l .sticks) → Bounded l → Bounded (avoidCutoutsOf l w h cutouts)
   unfolding avoidCutoutsOf
@@ -126,4 +123,4 @@ module _ {w h : Float} (W : In w (at 0) (at 8192)) (H : In h (at 0) (at 8192)) w
       go true = L
       go false =
           let n = length-after w h l cutouts cs ss ∙ length-elements l cs ss in
-          set-elements-in (after w h l cutouts cs ss) (omega (arith, n)) L (each-settled-in (elementsOf l) _ (each-after w h l cutouts cs ss) (elements-in l L))
+          set-elements-in (after w h l cutouts cs ss) (omega (arith, n)) L (all-settled-in (all-after w h l cutouts cs ss) (elements-in l L))

@@ -20,8 +20,6 @@ abbrev pub Settled : Float → Float → Rect → Rect → Type 0
 Settled w h old new = (new ≡ old) ⊎ Moved w h old new
 
 -- two lists of one length, element by element
-abbrev pub Each : (Rect → Rect → Type 0) → List Rect → List Rect → Type 0
-Each R [] [] = Unit
-Each R [] (y ∷ ys) = ⊥
-Each R (x ∷ xs) [] = ⊥
-Each R (x ∷ xs) (y ∷ ys) = R x y × Each R xs ys
+pub data AllSettled (w h : Float) : List Rect → List Rect → Type 0 where
+  none : AllSettled w h [] []
+  next : {x y : Rect} {xs ys : List Rect} → Settled w h x y → AllSettled w h xs ys → AllSettled w h (x ∷ xs) (y ∷ ys)

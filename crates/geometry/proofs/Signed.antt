@@ -1,10 +1,11 @@
--- Signed integers: the machine reads back what it stored.
+-- Signed integers: the machine reads back what it stored, also with the sign changed.
 use mathlib.Core.Path.{_≡_, _∙_}
-use Prim.Native.Nat.{_^_, _<_}
-use lib.IntN.{ℤ}
+use Prim.Native.Nat.{ℕ, zero, suc, _^_, _<_}
+use native.Mathlib.Omega.{arith}
+use lib.IntN.{ℤ, pos, negsuc, negℤ, natAbs, _-ℤ_, +ℤ-idl}
 use lib.Signed.{mag}
 use mir.Syntax.{w32}
-use mir.Val.{toZ, ofZ, hbits}
+use mir.Val.{SFits, toZ, ofZ, hbits}
 use mir.Facts.{toZ-ofZ}
 use borrow.Author.Needs.{sfits-of}
 
@@ -12,5 +13,24 @@ use borrow.Author.Needs.{sfits-of}
 abbrev pub back : ℤ → ℤ
 back z = toZ w32 (ofZ w32 z)
 
+pub kept : (z : ℤ) → mag z < 2 ^ hbits w32 → back z ≡ z
+kept z h = toZ-ofZ (sfits-of h)
+
 pub stored : {z y : ℤ} → mag z < 2 ^ hbits w32 → z ≡ y → back z ≡ y
-stored p e = toZ-ofZ (sfits-of p) ∙ e
+stored {z} h e = kept z h ∙ e
+
+-- ---- the sign changed
+small : (z : ℤ) (k : ℕ) → natAbs z < k → (mag z < k) × (mag (negℤ z) < k)
+small (pos zero) k h = omega arith
+small (pos (suc n)) k h = omega arith
+small (negsuc n) k h = omega arith
+
+module _ (z : ℤ) (h : natAbs z < 2 ^ hbits w32) where
+  negative : pos 0 -ℤ back z ≡ negℤ z
+  negative = rw (kept z (small z _ h .0)) (+ℤ-idl (negℤ z))
+
+  pub minus-fits : SFits w32 (pos 0 -ℤ back z)
+  minus-fits = rw negative (sfits-of (small z _ h .1))
+
+  pub minus-is : back (pos 0 -ℤ back z) ≡ negℤ z
+  minus-is = stored (rw negative (small z _ h .1)) negative

@@ -5,6 +5,7 @@ use mathlib.Core.List.{List, [], _∷_}
 use Prim.Native.Nat.{ℕ, _*_}
 use native.Mathlib.Omega.{arith}
 use borrow.Author.Tests.{eqb-true}
+use denote.Floats.{passes}
 use lib.Dec.{T, eqb}
 use lib.Ieee.{Float, nan, inf, fin, binary32, ofBits, up, down, fits, le, eq}
 use lib.Ieee.Back.{whole-unique}
@@ -12,6 +13,7 @@ use lib.Ieee.Bits.{ofBits-fits}
 use lib.Ieee.Fits.{down-pos}
 use Rattle.float.specs.Float.{k0, k1, k8192}
 use Rattle.geometry.specs.declared.Rect.{Rect}
+use Rattle.geometry.specs.Choice.{both}
 use Rattle.layout.specs.Layout.{cutoutList}
 use Rattle.layout.specs.Lists.{allOf}
 use Rattle.numerics.specs.Range.{In, at, minus}
@@ -21,14 +23,11 @@ use Rattle.numerics.specs.Ranges.{max-in, neg-in, tested, range-most, element-i
 use Rattle.numerics.specs.Literals.{i0, i1, i8192}
 use Rattle.settings.specs.declared.Settings.{Settings}
 use Rattle.settings.specs.Settings.{least, inLimitsOf, screenInLimitsOf, rectInLimitsOf, placeInLimitsOf, cutoutsInLimitsOf, acceptedOf, rectIsF32, IsF32}
-use Rattle.settings.specs.Accepted.{both, accepted-parts}
+use Rattle.settings.specs.Accepted.{accepted-parts}
 use Rattle.limits.specs.InRange.{InRange}
 
 least-in : In least (minus 8192) (minus 8192)
 least-in = neg-in i8192 tt
-
-holds : {b : Bool} → b ≡ true → T b
-holds e = rw e tt
 
 -- a number that passed the tests, from low to 8192
 record Limited (low : Float) (a : ℕ) (x : Float) : Type 0 where
@@ -39,7 +38,7 @@ limited : {low x : Float} {a b : ℕ} → In low a b → fits binary32 x ≡ tru
 unfolding inLimitsOf
 limited {low} {x} i f e =
     let b = both (le low x) (le x k8192) e in
-    record { range = tested x (holds f) i i8192 (holds (b .0)) (holds (b .1)); above = holds (b .0) }
+    record { range = tested x (passes _ f) i i8192 (passes _ (b .0)) (passes _ (b .1)); above = passes _ (b .0) }
 
 -- a rectangle whose w and h are from low
 record LimitedRect (low : Float) (a : ℕ) (r : Rect) : Type 0 where
@@ -86,7 +85,7 @@ is-one (inf s) f e = cc
 is-one (fin s m g) f e =
     let h = both (eqb (m * up g * 1) (1 * down g)) (Bool·beq s false || eqb (m * up g * 1) 0) e in
     let v = eqb-true _ _ (h .0) in
-    whole-unique binary32 (fin s m g) k1 false 1 (holds f) (ofBits-fits binary32 0x3f80_0000) (plus s v (h .1), v) (refl, refl)
+    whole-unique binary32 (fin s m g) k1 false 1 (passes _ f) (ofBits-fits binary32 0x3f80_0000) (plus s v (h .1), v) (refl, refl)
   where
     plus : (t : Bool) → m * up g * 1 ≡ 1 * down g → (Bool·beq t false || eqb (m * up g * 1) 0) ≡ true → t ≡ false
     plus false v k = refl

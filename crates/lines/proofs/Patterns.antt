@@ -2,19 +2,19 @@
 use mathlib.Core.Path.{_≡_, refl, sym, ap, _∙_}
 use mathlib.Core.Bool.{Bool, true, false, not, cond}
 use Prim.Native.Nat.{ℕ, zero, suc, _+_, _-_, _*_, _/_, _%_, _^_, _<_, _≤_}
-use native.Mathlib.Nat.{sub-zero, div-eq-of-lt, mul-assoc, add-mul, one-mul, mul-div-cancel, mul-le-mul, lt-of-lt-of-le}
+use native.Mathlib.Nat.{sub-zero, div-eq-of-lt, mul-assoc, add-mul, one-mul, mul-le-mul, lt-of-lt-of-le}
 use native.Mathlib.Omega.{arith}
 use borrow.Author.Tests.{ne-eqb, lt-leb, le-leb, leb-true, leb-false, ltb-true, ltb-false}
 use lib.Arith.{mul-pred, digits-div}
 use lib.Dec.{T, lit≤, lit<, leb, ltb, eqb}
 use lib.IntN.{pos, negℤ}
-use lib.Ieee.{Float, nan, inf, fin, binary32, ofBits, toBits, ofFields, odd, down, fits, isNan}
+use lib.Ieee.{Float, nan, inf, fin, binary32, ofBits, toBits, ofFields, odd, fits, isNan}
 use lib.Ieee.Bits.{ofBits-toBits}
 use lib.Ieee.Exact.{HasValue, odd-sign}
-use lib.Ieee.Fits.{down-pos}
 use lib.Pow.{pow-pos, pow-mono, pow-add, shl-lt, shl-exact, shl-shr, shr-shr, ones-lt}
 use Rattle.numerics.specs.Bounds.{eps-pos, most-magnitude}
-use Rattle.numerics.specs.Value.{magnitude, sign, Whole, eps, AtMost}
+use Rattle.numerics.specs.Operations.{value-is}
+use Rattle.numerics.specs.Value.{sign, Whole, eps, AtMost}
 use Rattle.lines.specs.Line.{most, tenthsOf, tenthsSizeOf}
 use Rattle.lines.specs.LineLaws.{tenths-is, size-most}
 
@@ -51,15 +51,9 @@ tiny : (g less : ℕ) → g < 2 ^ 133 → (20 * g + 2 ^ 149 - less) / 2 ^ 150 �
 tiny g less h = div-eq-of-lt (under g less (2 ^ 133) (2 ^ 149) (2 ^ 150) h (lit≤ tt) refl)
 
 -- ---- values
-measured : (x : Float) (s : Bool) (g : ℕ) → HasValue x s g (2 ^ 149) → (magnitude x ≡ g) × (sign x ≡ s)
-unfolding magnitude
-measured nan s g v = absurd v
-measured (inf t) s g v = absurd v
-measured (fin t m e) s g v = (ap (λ (y : ℕ). y / down e) (v .1) ∙ mul-div-cancel g (down-pos e), v .0)
-
 sized : (x : Float) (s : Bool) (g : ℕ) → HasValue x s g (2 ^ 149) → tenthsSizeOf x ≡ (20 * g + 2 ^ 149 - cond s 1 0) / 2 ^ 150
 unfolding tenthsSizeOf
-sized x s g v = let m = measured x s g v in rw (m .0, m .1)
+sized x s g v = let m = value-is x s g v in rw (m .1, m .2)
 
 fields : (n : ℕ) → ofBits binary32 n ≡ ofFields binary32 (leb 2147483648 n) (n % 2147483648 / 8388608) (n % 8388608)
 unfolding ofBits
@@ -126,9 +120,9 @@ high-fields s (suc x) t h k a = go (ltb (suc x) 255) refl
   where
     go : (b : Bool) → ltb (suc x) 255 ≡ b → ⊥
     go true e =
-        let m = measured (ofFields binary32 s (suc x) t) s ((8388608 + t) * 2 ^ x) (normal s x t (ltb-true (suc x) 255 e)) in
+        let m = value-is (ofFields binary32 s (suc x) t) s ((8388608 + t) * 2 ^ x) (normal s x t (ltb-true (suc x) 255 e)) in
         let b : 8388608 * 2 ^ 149 ≤ (8388608 + t) * 2 ^ x = mul-le-mul {n₁ = 8388608} {m₁ = 2 ^ 149} {n₂ = 8388608 + t} {m₂ = 2 ^ x} (omega arith) (pow-mono {i = 149} {j = x} (omega arith)) in
-        too-large ((8388608 + t) * 2 ^ x) eps (8388608 * 2 ^ 149) eps-pos large b (rw (m .0) at (most-magnitude a))
+        too-large ((8388608 + t) * 2 ^ x) eps (8388608 * 2 ^ 149) eps-pos large b (rw (m .1) at (most-magnitude a))
     go false e = let p : x ≡ 254 = omega (arith, ltb-false (suc x) 255 e) in no-finite s t (rw p at (a .whole))
 
 pub exponent-small : (n : ℕ) → AtMost (ofBits binary32 n) most → n % 2147483648 / 8388608 < 150
@@ -141,8 +135,8 @@ exponent-small n a = go (ltb (n % 2147483648 / 8388608) 150) refl
 -- ---- what `tenths` returns
 sign-fields : (s : Bool) (e t : ℕ) → e < 150 → sign (ofFields binary32 s e t) ≡ s
 unfolding ofFields
-sign-fields s zero t h = measured (odd 24 s t 0 149) s (t * 2 ^ 0) (odd-sign 24 s t 0 149) .1
-sign-fields s (suc x) t h = measured (ofFields binary32 s (suc x) t) s ((8388608 + t) * 2 ^ x) (normal s x t (omega arith)) .1
+sign-fields s zero t h = value-is (odd 24 s t 0 149) s (t * 2 ^ 0) (odd-sign 24 s t 0 149) .2
+sign-fields s (suc x) t h = value-is (ofFields binary32 s (suc x) t) s ((8388608 + t) * 2 ^ x) (normal s x t (omega arith)) .2
 
 pub not-nan : (x : Float) → Whole x → T (not (isNan x))
 unfolding isNan

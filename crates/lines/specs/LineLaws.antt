@@ -94,7 +94,7 @@ size-most x a =
     div-lt-iff-lt-mul {k = 2 ^ 150} {x = 20 * magnitude x + 2 ^ 149 - cond (sign x) 1 0} {y = mostTenths} (pow-pos 150) .1
     (few-units (magnitude x) (cond (sign x) 1 0) (2 ^ 149) (2 ^ 150) (2 ^ 141) eps-pos (most-magnitude a) refl refl)
 
-pub mag-signed : (b : Bool) (n k : ℕ) → n < k → mag (cond b (negℤ (pos n)) (pos n)) < k
+mag-signed : (b : Bool) (n k : ℕ) → n < k → mag (cond b (negℤ (pos n)) (pos n)) < k
 mag-signed true zero k h = h
 mag-signed true (suc n) k h = omega arith
 mag-signed false n k h = h

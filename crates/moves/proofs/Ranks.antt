@@ -1,18 +1,18 @@
 -- Ranks: the code's cases of a number are those of its bit pattern.
-use mathlib.Core.Path.{_≡_, sym, subst}
+use mathlib.Core.Path.{_≡_}
 use mathlib.Core.Bool.{true}
 use Prim.Native.Nat.{_+_, _-_, _<_, _≤_}
 use lib.Dec.{T}
 use native.Mathlib.Omega.{arith}
 use lib.Ieee.{Float, binary32, ne, toBits, fits}
 use lib.Ieee.Bits.{toBits-lt}
-use lib.Ieee.Compare.{differs-from-itself}
 use borrow.Author.Tests.{lt-ltb, le-ltb}
+use Rattle.float.proofs.Nan.{is-nan}
 use Rattle.moves.specs.Moves.{rankOf}
 
 pub rank-nan : (x : Float) → ne x x ≡ true → 0xffc0_0000 ≡ rankOf x
 unfolding rankOf toBits
-rank-nan x e = rw (differs-from-itself x (subst T (sym e) tt))
+rank-nan x e = rw (is-nan x e)
 
 pub rank-up : (x : Float) → toBits binary32 x < 0x8000_0000 → toBits binary32 x + 0x8000_0000 ≡ rankOf x
 unfolding rankOf

@@ -166,9 +166,21 @@ pub or-case : (a b : Bool) → {C : Type 0} → (T a → C) → (T b → C) → 
 or-case true b f g t = f tt
 or-case false b f g t = g t
 
+pub or-l : (a b : Bool) → T a → T (a || b)
+or-l true b t = tt
+or-l false b t = absurd t
+
+pub or-r : (a b : Bool) → T b → T (a || b)
+or-r true b t = tt
+or-r false b t = t
+
 pub nor-l : (a b : Bool) → T (not (a || b)) → T (not a)
 nor-l true b t = t
 nor-l false b t = tt
+
+pub nor-r : (a b : Bool) → T (not (a || b)) → T (not b)
+nor-r true b t = absurd t
+nor-r false b t = t
 
 pub le-law : (d : ℕ) (x y : Float) → Whole x → Whole y → T (le x y) → Le d x y
 unfolding le

@@ -54,7 +54,7 @@ pub record Near (x : Float) (P Q W e : ℕ) : Type 0 where
 shifted : (x : Float) (P Q W e P' Q' : ℕ) → Near x P Q W e → P + Q' ≡ P' + Q → Near x P' Q' W e
 shifted x P Q W e P' Q' h q = record { whole = h .whole; over = omega arith; under = omega arith }
 
-value-is : (x : Float) (s : Bool) (g : ℕ) → HasValue x s g (2 ^ 149) → Whole x × (magnitude x ≡ g) × (sign x ≡ s)
+pub value-is : (x : Float) (s : Bool) (g : ℕ) → HasValue x s g (2 ^ 149) → Whole x × (magnitude x ≡ g) × (sign x ≡ s)
 unfolding magnitude
 value-is nan s g h = absurd h
 value-is (inf t) s g h = absurd h

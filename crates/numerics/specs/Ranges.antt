@@ -6,7 +6,7 @@ use native.Mathlib.Nat.{min-eq-left, min-eq-right, min-le-left, min-le-right, ma
 use native.Mathlib.Omega.{arith}
 use mathlib.Core.Bool.{Bool, true, false, not, _&&_, cond}
 use mathlib.Core.Logic.{_⊎_, inl, inr}
-use lib.Dec.{T, leb, ltb, leb→le, nleb→lt}
+use lib.Dec.{T, T-not, leb, ltb, leb→le, nleb→lt}
 use lib.Ieee.{Float, nan, inf, fin, binary32, prec, emax, low, up, down, unlike, odd, units, round, neg, mul, lt, le, fits, isNan}
 use lib.Ieee.Order.{drop, kept}
 use lib.Ieee.Fits.{and-l, and-r, mul-fits, round-is}
@@ -198,10 +198,6 @@ clamp-ind x l h C p q r = go (lt x l) r
     go true k = end (lt h l) l (λ t. p)
     go false k = end (lt h x) x (k tt)
 
-clash : (b : Bool) → T b → T (not b) → ⊥
-clash true t n = n
-clash false t n = t
-
 -- a value that is no NaN, finite or not, is brought into the range; a b of the lower end, a' b' of the upper
 pub clamp-any-in : (x : Float) {l h : Float} {a b a' b' : ℕ} → T (not (isNan x)) → T (fits binary32 x) → In l a b → In h a' b' → In (clampOf x l h) (min a a') (max b b')
 clamp-any-in x {l} {h} {a} {b} {a'} {b'} n f i j =
@@ -209,8 +205,8 @@ clamp-any-in x {l} {h} {a} {b} {a'} {b'} n f i j =
   where
     own : (x : Float) → T (not (isNan x)) → T (fits binary32 x) → T (not (lt x l)) → T (not (lt h x)) → In x (min a a') (max b b')
     own nan n f s t = absurd (unfold isNan in n)
-    own (inf true) n f s t = absurd (clash (lt (inf true) l) (inf-low l (i .whole)) s)
-    own (inf false) n f s t = absurd (clash (lt h (inf false)) (inf-high h (j .whole)) t)
+    own (inf true) n f s t = absurd (T-not (lt (inf true) l) s (inf-low l (i .whole)))
+    own (inf false) n f s t = absurd (T-not (lt h (inf false)) t (inf-high h (j .whole)))
     own (fin g m e) n f s t = in-le _ _ (between {x = fin g m e} (fits-whole (fin g m e) tt f) i j s t) (min-le-left a a') (le-max-right b b')
 
 -- a finite value
@@ -261,9 +257,9 @@ low-le (inf s) p = absurd p
 low-le (fin s m e) p = tt
 
 pub tested : (x : Float) {l h : Float} {a b a' b' : ℕ} → T (fits binary32 x) → In l a b → In h a' b' → T (le l x) → T (le x h) → In x a b'
-tested nan {l} f i j s t = absurd (clash (le l nan) s (nan-le l))
-tested (inf true) {l} f i j s t = absurd (clash (le l (inf true)) s (low-le l (i .whole)))
-tested (inf false) {h = h} f i j s t = absurd (clash (le (inf false) h) t (high-le h (j .whole)))
+tested nan {l} f i j s t = absurd (T-not (le l nan) (nan-le l) s)
+tested (inf true) {l} f i j s t = absurd (T-not (le l (inf true)) (low-le l (i .whole)) s)
+tested (inf false) {h = h} f i j s t = absurd (T-not (le (inf false) h) (high-le h (j .whole)) t)
 tested (fin g m e) {l} {h} f i j s t =
     let x = fin g m e in
     let p = fits-whole x tt f in

@@ -14,7 +14,7 @@ use Rattle.float.specs.Float.{k0, k1}
 use Rattle.float.specs.MinMax.{maxOf}
 use Rattle.geometry.specs.declared.Rect.{Rect}
 use Rattle.geometry.specs.Answer.{Answer, accepted, refused}
-use Rattle.geometry.specs.Choice.{either}
+use Rattle.geometry.specs.Choice.{either, both}
 use Rattle.geometry.specs.Rect.{newOf, emptyRect}
 use Rattle.layout.specs.declared.Cutouts.{Cutouts}
 use Rattle.layout.specs.Layout.{cutoutList}
@@ -22,7 +22,6 @@ use Rattle.layout.specs.Lists.{allOf}
 use Rattle.search.specs.declared.Offset.{Offset}
 use Rattle.settings.specs.declared.Settings.{Settings}
 use Rattle.settings.specs.Settings.{defaultOf, least, inLimitsOf, screenInLimitsOf, rectInLimitsOf, placeInLimitsOf, cutoutsInLimitsOf, acceptedOf, rectIsF32, IsF32}
-use Rattle.settings.specs.Accepted.{both}
 use Rattle.reader.specs.declared.Tag.{Tag}
 use Rattle.reader.specs.declared.Tag.the-variants as Tag
 use Rattle.reader.specs.Order.{must, andThen, shortOf, numberAtOf, rectAtOf, rects, filled, readScreenOf, readPictureOf, readModeOf, readFitOf, readPlaceOf, readCutoutsOf, readSavedOf, fromByteOf, readFieldOf, fields, blankOf, readOrderOf}

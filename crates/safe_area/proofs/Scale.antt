@@ -1,6 +1,6 @@
 -- Document 01's limits keep differences and casts in range, and tests of what is read back are tests of what was stored.
 use mathlib.Core.Path.{_≡_, refl, _∙_}
-use mathlib.Core.Bool.{Bool, true, false, _&&_, and-true, and-eq-true-iff}
+use mathlib.Core.Bool.{Bool, true, false, _&&_, and-true}
 use mathlib.Core.List.{List, [], _∷_}
 use Prim.Native.Nat.{ℕ, zero, suc, _+_, _-_, _^_, _≤_}
 use native.Mathlib.Omega.{arith}
@@ -13,8 +13,8 @@ use mir.Val.{SFits, ofZ}
 use mir.Facts.{toZ-ofZ}
 use borrow.Author.Needs.{sfits-of}
 use borrow.Author.Tests.{leb-true, eqb-true, eqb-false, eq-eqb, ne-eqb}
-use Rattle.geometry.specs.Choice.{either}
-use Rattle.geometry.proofs.Signed.{back}
+use Rattle.geometry.specs.Choice.{either, both}
+use Rattle.geometry.proofs.Signed.{back, kept}
 use Rattle.safe_area.specs.Safe.{at, eqZ, maxOf, clampOf, withinLimitsOf, onScaleOf, allOnScaleOf, sameSizeOf, currentEdgesOf}
 
 -- ---- tests
@@ -45,8 +45,8 @@ within-mag (negsuc n) h = let k : n ≤ 8191 = leb-true n 8191 (rw and-true at h
 pub within-at : (xs : List ℤ) (i : ℕ) → onScaleOf xs ≡ true → withinLimitsOf (at xs i) ≡ true
 unfolding onScaleOf withinLimitsOf
 within-at [] i h = refl
-within-at (x ∷ xs) zero h = and-eq-true-iff (withinLimitsOf x) (onScaleOf xs) .0 h .0
-within-at (x ∷ xs) (suc i) h = within-at xs i (and-eq-true-iff (withinLimitsOf x) (onScaleOf xs) .0 h .1)
+within-at (x ∷ xs) zero h = both (withinLimitsOf x) (onScaleOf xs) h .0
+within-at (x ∷ xs) (suc i) h = within-at xs i (both (withinLimitsOf x) (onScaleOf xs) h .1)
 
 mag-subℕ : (a b : ℕ) → mag (subℕ a b) ≤ a + b
 mag-subℕ a b = either (λ z. mag z ≤ a + b) (ltb a b) (omega arith) (omega arith)
@@ -59,16 +59,13 @@ mag-sub (negsuc a) (pos zero) = omega (arith, mag-subℕ 0 (suc a))
 mag-sub (negsuc a) (pos (suc b)) = omega arith
 mag-sub (negsuc a) (negsuc b) = omega (arith, mag-subℕ (suc b) (suc a))
 
-back-small : (z : ℤ) → mag z ≤ 65536 → back z ≡ z
-back-small z h = toZ-ofZ (sfits-of (omega arith))
-
 in-float : (z : ℤ) → mag z ≤ 65536 → T (inFloat binary32 z)
 unfolding inFloat
 in-float (pos n) h = le→leb n (2 ^ 24) (omega arith)
 in-float (negsuc n) h = lt→ltb n (2 ^ 24) (omega arith)
 
 pub cast-small : (z : ℤ) → mag z ≤ 65536 → T (inFloat binary32 (back z))
-cast-small z h = rw (back-small z h) (in-float z h)
+cast-small z h = rw (kept z (omega arith)) (in-float z h)
 
 max-mag : (k : ℕ) (a b : ℤ) → mag a ≤ k → mag b ≤ k → mag (maxOf a b) ≤ k
 unfolding maxOf
@@ -91,25 +88,25 @@ module _ {whole near far least start end : ℤ} where
       let hw = within-mag whole w in
       let hn = within-mag near n in
       let hf = within-mag far f in
-      let bw = back-small whole (omega arith) in
+      let bw = kept whole (omega arith) in
       let l : least ≡ maxOf whole (pos 0) = el ∙ rw bw in
       let hl : mag least ≤ 8192 = rw l (max-mag 8192 whole (pos 0) hw (omega arith)) in
-      let s : start ≡ clampOf near (pos 0) least = es ∙ rw (back-small near (omega arith), back-small least (omega arith)) in
+      let s : start ≡ clampOf near (pos 0) least = es ∙ rw (kept near (omega arith), kept least (omega arith)) in
       let hs : mag start ≤ 8192 = rw s (either (λ z. mag z ≤ 8192) (ltZ near (pos 0)) (omega arith) (either (λ z. mag z ≤ 8192) (ltZ least near) hl hn)) in
-      let e : end ≡ maxOf far (pos 0) = ee ∙ rw (back-small far (omega arith)) in
+      let e : end ≡ maxOf far (pos 0) = ee ∙ rw (kept far (omega arith)) in
       let he : mag end ≤ 8192 = rw e (max-mag 8192 far (pos 0) hf (omega arith)) in
-      let bs = back-small start (omega arith) in
-      let be = back-small end (omega arith) in
+      let bs = kept start (omega arith) in
+      let be = kept end (omega arith) in
       let h1 = mag-sub whole start in
       let h2 = mag-sub (whole -ℤ start) end in
-      let b1 = back-small (whole -ℤ start) (omega arith) in
+      let b1 = kept (whole -ℤ start) (omega arith) in
       record {
         start-is = s ∙ rw l;
         start-small = hs;
         first = rw (bw, bs) (sfits-of (omega arith));
         second = rw (bw, bs, b1, be) (sfits-of (omega arith));
         rest-small = rw (← e) (omega arith);
-        rest-is = rw (bw, bs, b1, be, back-small (whole -ℤ start -ℤ end) (omega arith), e);
+        rest-is = rw (bw, bs, b1, be, kept (whole -ℤ start -ℤ end) (omega arith), e);
       }
 
 module _ {whole near far start end extent : ℤ} (m : Measured whole near far start end) (e : extent ≡ maxOf (back (back (back whole -ℤ back start) -ℤ back end)) (pos 1)) where
@@ -122,8 +119,8 @@ module _ {whole near far start end extent : ℤ} (m : Measured whole near far st
 pub sizes-and-edges : (a b c : List ℤ) → allOnScaleOf a b c ≡ true → (onScaleOf a ≡ true) × (onScaleOf c ≡ true)
 unfolding allOnScaleOf
 sizes-and-edges a b c h =
-    let k = and-eq-true-iff (onScaleOf a) (onScaleOf b && onScaleOf c) .0 h in
-    (k .0, and-eq-true-iff (onScaleOf b) (onScaleOf c) .0 (k .1) .1)
+    let k = both (onScaleOf a) (onScaleOf b && onScaleOf c) h in
+    (k .0, both (onScaleOf b) (onScaleOf c) (k .1) .1)
 
 pub current-on-scale : (size inset edges : List ℤ) {current : List ℤ} → current ≡ currentEdgesOf size inset edges → onScaleOf edges ≡ true → onScaleOf current ≡ true
 unfolding currentEdgesOf onScaleOf withinLimitsOf

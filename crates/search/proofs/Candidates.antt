@@ -27,10 +27,11 @@ Good d Y0 y = P d y ≤ Y0 + N d y + E d * 2
 abbrev pub Under : ℕ → ℕ → Float → Float → Float → Type 0
 Under d Y0 h y b = T (withinOf b h) → Good d Y0 b → Le d b y
 
-not-and : (a b c : Bool) → T (not (a && (b && c))) → T a → T b → T (not c)
-not-and true true c n s t = n
-not-and true false c n s t = absurd t
-not-and false b c n s t = absurd s
+-- of three tests that do not all pass, the last fails where the others pass
+last-fails : (a b c : Bool) → T (not (a && (b && c))) → T a → T b → T (not c)
+last-fails true true c n s t = n
+last-fails true false c n s t = absurd t
+last-fails false b c n s t = absurd s
 
 -- the place 0 is a candidate
 pub zero-within : (h : Float) → T (le k0 h) → T (withinOf k0 h)
@@ -85,7 +86,7 @@ module _ (d : ℕ) (D : 0 < d) {h : Float} (hm : AtMost h maxArea) (Y0 : ℕ) wh
           (and-l v (b && le y x) s, leb→le (P d x) (Y0 + N d x + E d * 2) (and-l b (le y x) u), le-law d y x (f .whole) (e .0 .whole) (and-r b (le y x) u))
 
       no : T (not (withinOf x h && (leb (P d x) (Y0 + N d x + E d * 2) && le y x))) → T (withinOf x h) → Good d Y0 x → Le d x y
-      no s v b = le-not d y x (f .whole) (e .0 .whole) (not-and (withinOf x h) (leb (P d x) (Y0 + N d x + E d * 2)) (le y x) s v (le→leb (P d x) (Y0 + N d x + E d * 2) b))
+      no s v b = le-not d y x (f .whole) (e .0 .whole) (last-fails (withinOf x h) (leb (P d x) (Y0 + N d x + E d * 2)) (le y x) s v (le→leb (P d x) (Y0 + N d x + E d * 2) b))
 
       go : (s : Bool) → (T s → T (withinOf x h) × Good d Y0 x × Le d y x) → (T (not s) → T (withinOf x h) → Good d Y0 x → Le d x y)
           → Last R xs y → (T (withinOf x h) → Good d Y0 x → R x → Last R xs x) → Last R (x ∷ xs) y

@@ -19,14 +19,14 @@ use Rattle.numerics.specs.Each.{Each}
 use Rattle.numerics.specs.Lists.{each-imp, each-both}
 use Rattle.numerics.specs.Integers.{le-parts, parts-le, nle-parts, nlt-parts, add-parts, neg-parts, mul-parts, eq-parts, value-parts, scaled-parts}
 use Rattle.numerics.specs.Operations.{lt-true}
-use Rattle.numerics.specs.Bounds.{zero-most}
+use Rattle.numerics.specs.Bounds.{or-l, or-r, zero-most}
 use Rattle.search.specs.declared.Offset.{Offset}
 use Rattle.search.specs.Search.{gameOf, obstaclesOf}
 use Rattle.search.specs.Widest.{Exact, over, rightEdge, lowerEdge, meets, middle, lesser, greater, meetAcross, meetDown, sixteenth, centredWidth, Rival, Widest}
 use Rattle.search.proofs.Shapes.{Shape}
 use Rattle.search.proofs.Clearance as O
 use Rattle.search.proofs.Clearance.{Misses, isLeft, isRight, isAbove, isBelow, Apart, narrow, flat}
-use Rattle.search.proofs.Placement.{not-and, obstacles-fair, centred-width, the-game, game-apart, game-wide}
+use Rattle.search.proofs.Placement.{one-fails, obstacles-fair, centred-width, the-game, game-apart, game-wide}
 
 -- ---- a rectangle that does not meet an element misses it
 above-zero : (a : ℤ) → T (ltZ (pos 0) a) → below a ≡ 0
@@ -40,7 +40,7 @@ missed d r e f w0 h0 t =
     let y = scaled-parts d (e .y) (f .y .whole) in
     let w = scaled-parts d (e .w) (f .w .whole) in
     let h = scaled-parts d (e .h) (f .h .whole) in
-    not-and (ltZ (r .x) (rightEdge o)) (ltZ (o .x) (rightEdge r)) (ltZ (r .y) (lowerEdge o)) (ltZ (o .y) (lowerEdge r))
+    one-fails (ltZ (r .x) (rightEdge o)) (ltZ (o .x) (rightEdge r)) (ltZ (r .y) (lowerEdge o)) (ltZ (o .y) (lowerEdge r))
     (λ k. isRight (omega (arith, nlt-parts (r .x) (rightEdge o) k, add-parts (o .x) (o .w), x, w)))
     (λ k. isLeft (omega (arith, nlt-parts (o .x) (rightEdge r) k, add-parts (r .x) (r .w), x, w0)))
     (λ k. isBelow (omega (arith, nlt-parts (r .y) (lowerEdge o) k, add-parts (o .y) (o .h), y, h)))
@@ -92,14 +92,6 @@ module _ (a b c d : ℤ) (s : ℕ) where
 
   meet-thin : above a + below c ≤ above c + below a + s → T (leZ (lesser a b -ℤ greater c d) (pos s))
   meet-thin h = meet-by (omega (arith, lesser-first a b, greater-first c d))
-
-or-l : (a b : Bool) → T a → T (a || b)
-or-l true b t = tt
-or-l false b t = absurd t
-
-or-r : (a b : Bool) → T b → T (a || b)
-or-r true b t = tt
-or-r false b t = t
 
 sixteen : E 1 * 16 ≡ sixteenth
 unfolding E eps sixteenth

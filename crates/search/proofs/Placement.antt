@@ -164,12 +164,13 @@ game-law d {b} {g} ox oy B I p q =
     }
 
 -- ---- an element that the search saw, and one that it did not
-pub not-and : (s t u v : Bool) {C : Type 0} → (T (not s) → C) → (T (not t) → C) → (T (not u) → C) → (T (not v) → C) → T (not (s && (t && (u && v)))) → C
-not-and true true true true i j k l h = absurd h
-not-and true true true false i j k l h = l tt
-not-and true true false v i j k l h = k tt
-not-and true false u v i j k l h = j tt
-not-and false t u v i j k l h = i tt
+-- of four tests that do not all pass, one fails
+pub one-fails : (s t u v : Bool) {C : Type 0} → (T (not s) → C) → (T (not t) → C) → (T (not u) → C) → (T (not v) → C) → T (not (s && (t && (u && v)))) → C
+one-fails true true true true i j k l h = absurd h
+one-fails true true true false i j k l h = l tt
+one-fails true true false v i j k l h = k tt
+one-fails true false u v i j k l h = j tt
+one-fails false t u v i j k l h = i tt
 
 module _ (d : ℕ) {b g G : Rect} (B : Area b) (I : Inside d (b .w) (b .h) g) (L : Game d b g G) where
   seen : (e : Rect) → Element e → Apart d 5 g (newOf (e .x ⊖ b .x) (e .y ⊖ b .y) (e .w) (e .h)) → Apart d 16 G e
@@ -186,7 +187,7 @@ module _ (d : ℕ) {b g G : Rect} (B : Area b) (I : Inside d (b .w) (b .h) g) (L
       let sx = add-most (B .x) (B .w) tt in
       let sy = add-most (B .y) (B .h) tt in
       let s = hundredth d in
-      not-and (lt (e .x) (b .x ⊕ b .w ⊖ k0·01)) (lt (b .x ⊕ k0·01) (e .x ⊕ e .w)) (lt (e .y) (b .y ⊕ b .h ⊖ k0·01)) (lt (b .y ⊕ k0·01) (e .y ⊕ e .h))
+      one-fails (lt (e .x) (b .x ⊕ b .w ⊖ k0·01)) (lt (b .x ⊕ k0·01) (e .x ⊕ e .w)) (lt (e .y) (b .y ⊕ b .h ⊖ k0·01)) (lt (b .y ⊕ k0·01) (e .y ⊕ e .h))
       (λ k. left (omega (arith, lt-not d (e .x) (b .x ⊕ b .w ⊖ k0·01) (f .x .whole) (sub-most sx hundredth-most tt .whole) k, sub-law d sx hundredth-most tt, add-law d (B .x) (B .w) tt, s .high, s .none, I .toright, L .x-over, L .w-over)))
       (λ k. right (omega (arith, lt-not d (b .x ⊕ k0·01) (e .x ⊕ e .w) (add-most (B .x) hundredth-most tt .whole) (add-most (f .x) (f .w) tt .whole) k, add-law d (B .x) hundredth-most tt, add-law d (f .x) (f .w) tt, s .high, s .none, I .fromleft, L .x-under)))
       (λ k. above (omega (arith, lt-not d (e .y) (b .y ⊕ b .h ⊖ k0·01) (f .y .whole) (sub-most sy hundredth-most tt .whole) k, sub-law d sy hundredth-most tt, add-law d (B .y) (B .h) tt, s .high, s .none, I .tobottom, L .y-over, L .h-over)))

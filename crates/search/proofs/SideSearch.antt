@@ -16,16 +16,12 @@ use Rattle.numerics.specs.Value.{AtMost, P, N, Le}
 use Rattle.numerics.specs.Rects.{maxArea}
 use Rattle.numerics.specs.Each.{Each}
 use Rattle.numerics.specs.Lists.{each-imp, each-both, each-unmap, fold-ind, fold-each}
-use Rattle.numerics.specs.Bounds.{sub-law, sub-most, most-more, le-law, or-case, nor-l, max-ind, max-law, max-most, zero-most, zero-parts}
+use Rattle.numerics.specs.Bounds.{sub-law, sub-most, most-more, le-law, or-case, nor-l, nor-r, max-ind, max-law, max-most, zero-most, zero-parts}
 use Rattle.search.specs.Search.{bottomOf, rightOf, bottoms, rights, withinOf, narrowSideOf, sideWidthAt, trySideAt, tryColumn, sideOf}
 use Rattle.search.proofs.Shapes.{width, left-end, Shape, times-most, over-most, falls}
 use Rattle.search.proofs.Candidates.{Edge, Good, Under, within-low, within-high, zero-within, find-last}
 use Rattle.search.proofs.Widths.{Wide, first-most, first-wide, first-low, under-first, above-end, Cuts, narrow-most, narrow-less, narrow-cuts, narrow-wide, Turn, turn, turn-ind}
 use Rattle.search.proofs.Clearance.{Obstacle, Misses, isLeft, isRight, isAbove, isBelow, Apart, left, narrow, Found, none-found, bottoms-most, rights-most, passed-below, passed-right, thin-below, thin-right, drop-most, drop-grows, drop-above}
-
-nor-r : (a b : Bool) → T (not (a || b)) → T (not b)
-nor-r true b t = absurd t
-nor-r false b t = t
 
 module _ (d : ℕ) (D : 0 < d) {a : Float} {p q : ℕ} (S : Shape a p q) {w h : Float} (wm : AtMost w maxArea) (hm : AtMost h maxArea) where
   abbrev limit : Float → Float → Rect → Float

@@ -24,11 +24,11 @@ module _ (edge : Rect → Float) (l : List Rect) (k : ℕ) where
   later-start h n p = p ∙ getD-first edge k0 k0 l k anyRect (λ e. omega arith) (omega (arith, length-map l edge))
 
 -- the game, from its obstacles, the clear picture, and the three numbers between their limits
-pub game-is : (elements : List Rect) (bounds : Rect) (factor : Float) (offset : Offset) (aspect : Float) {obstacles : List Rect} {area : Rect} {scale across down : Float}
+pub game-returned : (elements : List Rect) (bounds : Rect) (factor : Float) (offset : Offset) (aspect : Float) {obstacles : List Rect} {area : Rect} {scale across down : Float}
     → obstacles ≡ obstaclesOf bounds elements
     → area ≡ cond (eq aspect (k4 ⊘ k3)) (clearPictureOf (bounds .w) (bounds .h) obstacles) (clearPictureAspectOf (bounds .w) (bounds .h) obstacles aspect)
     → scale ≡ clampOf factor k0·25 k1 → across ≡ clampOf (offset .x) k0 k1 → down ≡ clampOf (offset .y) k0 k1
     → newOf (bounds .x ⊕ area .x ⊕ area .w ⊗ (k1 ⊖ scale) ⊗ across) (bounds .y ⊕ area .y ⊕ area .h ⊗ (k1 ⊖ scale) ⊗ down) (area .w ⊗ scale) (area .h ⊗ scale)
     ≡ gameOf elements bounds factor offset aspect
 unfolding gameOf
-game-is elements bounds factor offset aspect o a s x y = rw (← o, ← a, ← s, ← x, ← y)
+game-returned elements bounds factor offset aspect o a s x y = rw (← o, ← a, ← s, ← x, ← y)

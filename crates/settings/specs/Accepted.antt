@@ -1,8 +1,9 @@
 -- What accepted settings hold, part by part.
-use mathlib.Core.Path.{_≡_, refl}
-use mathlib.Core.Bool.{Bool, true, false, _&&_}
+use mathlib.Core.Path.{_≡_}
+use mathlib.Core.Bool.{true}
 use lib.Dec.{leb}
 use Rattle.float.specs.Float.{k0}
+use Rattle.geometry.specs.Choice.{both}
 use Rattle.settings.specs.declared.Settings.{Settings}
 use Rattle.settings.specs.Settings.{screenInLimitsOf, rectInLimitsOf, placeInLimitsOf, cutoutsInLimitsOf, acceptedOf}
 
@@ -13,10 +14,6 @@ pub record Accepted (s : Settings) : Type 0 where
   pub few-cutouts : leb (s .cutouts .count) 16 ≡ true
   pub cutouts : cutoutsInLimitsOf (s .cutouts) ≡ true
   pub few-saved : leb (s .preset .count) 32 ≡ true
-
-pub both : (a b : Bool) → (a && b) ≡ true → (a ≡ true) × (b ≡ true)
-both true b e = (refl, e)
-both false b e = (e, cc)
 
 pub accepted-parts : (s : Settings) → acceptedOf s ≡ true → Accepted s
 unfolding acceptedOf

@@ -19,13 +19,6 @@ pub stores2 : (l : List ℕ) (i a b : ℕ) → set (set l i a) (i + 1) b ≡ sto
 unfolding stored
 stores2 l i a b = rw add-one
 
-pub stores3 : (l : List ℕ) (i a b c : ℕ) → set (set (set l i a) (i + 1) b) (i + 2) c ≡ stored l i (a ∷ b ∷ c ∷ [])
-unfolding stored
-stores3 l i a b c =
-    let e : i + 1 ≡ suc i = omega arith in
-    let f : i + 2 ≡ suc (suc i) = omega arith in
-    rw (e, f)
-
 pub stores4 : (l : List ℕ) (i a b c d : ℕ) → set (set (set (set l i a) (i + 1) b) (i + 2) c) (i + 3) d ≡ stored l i (a ∷ b ∷ c ∷ d ∷ [])
 unfolding stored
 stores4 l i a b c d =

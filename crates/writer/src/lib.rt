@@ -83,8 +83,7 @@ fn put_head(out: &mut [u8], at: usize, tag: u8, n: usize)
     ensures { λ _. ⌜ now (out .exit) ≡ stored (now (out .entry)) at (headBytes tag n) ⌝ }
 {
     out[at] = tag;
-    out[at + 1] = (n / 256) as u8;
-    out[at + 2] = (n % 256) as u8;
+    put_short(out, at + 1, n);
 }
 
 pub fn write_layout(l: Layout, out: &mut [u8]) -> Written

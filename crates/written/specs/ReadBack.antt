@@ -15,6 +15,7 @@ use lib.ListN.{length, getD}
 use lib.Seq.{getD-append-add, take-at, drop-at}
 use Rattle.float.specs.Float.{k0}
 use Rattle.geometry.specs.declared.Rect.{Rect}
+use Rattle.geometry.specs.Choice.{both}
 use Rattle.layout.specs.declared.Layout.{Layout}
 use Rattle.layout.specs.Layout.{elementsOf}
 use Rattle.layout.specs.Lists.{flatMap}
@@ -23,7 +24,6 @@ use Rattle.numerics.specs.Each.{Each}
 use Rattle.numerics.specs.Bounds.{zero-most}
 use Rattle.reader.specs.Order.{shortOf, numberAtOf, rectAtOf, rects}
 use Rattle.settings.specs.Settings.{rectIsF32}
-use Rattle.settings.specs.Accepted.{both}
 use Rattle.writer.specs.Bytes.{shortBytes, patternOf, numberBytes, rectBytes, headBytes, layoutBytes}
 use Rattle.writer.specs.Length.{length-rect, length-items}
 use Rattle.written.specs.Written.{fieldValue, writtenGame, writtenElements, plusZero, plusZeroRect, LayoutIsF32}

@@ -1,5 +1,5 @@
 use Rattle.lines.proofs.Patterns.{not-nan, exponent, size-is, tenths-plus, tenths-minus}
-use Rattle.lines.proofs.Numbers.{kept, negated}
+use Rattle.geometry.proofs.Signed.{stored, minus-fits, minus-is}
 use Prim.Native.Nat.{ℕ}
 use mathlib.Core.Path.{sym, ap, _∙_}
 use lib.IntN.{pos, negℤ}
@@ -17,19 +17,19 @@ cast-size : tie.Need-cast-size
 cast-size c = sfits-of (size-is _ (search needs) (c .before .pre) (c .tenths-size .ensures) .1)
 
 sub-result : tie.Need-sub-result
-sub-result c = negated _ (size-is _ (search needs) (c .before .before .pre) (c .before .tenths-size .ensures) .1) .0
+sub-result c = minus-fits (pos _) (size-is _ (search needs) (c .before .before .pre) (c .before .tenths-size .ensures) .1)
 
 returns : tie.Need-returns
 returns c =
     let a = c .before .before in
     let s = size-is (a .args .x) (search needs) (a .pre) (c .before .tenths-size .ensures) in
-    kept (pos (c .before .tenths-size .result)) (s .1) ∙ ap pos (s .0) ∙ sym (tenths-plus (a .args .x) (search needs) (a .pre) (c .if1 .taken))
+    stored (s .1) (ap pos (s .0)) ∙ sym (tenths-plus (a .args .x) (search needs) (a .pre) (c .if1 .taken))
 
 returns-2 : tie.Need-returns-2
 returns-2 c =
     let a = c .before .before in
     let s = size-is (a .args .x) (search needs) (a .pre) (c .before .tenths-size .ensures) in
-    negated _ (s .1) .1 ∙ ap (λ (n : ℕ). negℤ (pos n)) (s .0) ∙ sym (tenths-minus (a .args .x) (search needs) (a .pre) (c .if1 .left))
+    minus-is (pos _) (s .1) ∙ ap (λ (n : ℕ). negℤ (pos n)) (s .0) ∙ sym (tenths-minus (a .args .x) (search needs) (a .pre) (c .if1 .left))
 
 pub tenths-spec : {M : Type 1} → statement M
 tenths-spec =

@@ -1,5 +1,5 @@
 use mathlib.Core.Logic.{⊎-elim}
-use Rattle.search.proofs.Steps.{game-is}
+use Rattle.search.proofs.Steps.{game-returned}
 use borrow.Author.Needs.{needs}
 use Rattle.search.proofs.game.Statement.{statement}
 use Rattle.search.proofs.game.Tie as tie
@@ -8,7 +8,7 @@ returns : tie.Need-returns
 returns c =
     let clamps = c .before .before .before .before .before .before .before .before in
     let b = clamps .before .before .before in
-    game-is _ _ _ _ _
+    game-returned _ _ _ _ _
     (b .before .obstacles .ensures .0)
     (⊎-elim
     (λ t. rw (t .0 .taken, t .2) (t .1 .ensures))

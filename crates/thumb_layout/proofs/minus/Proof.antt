@@ -1,5 +1,7 @@
-use Rattle.thumb_layout.proofs.Steps.{minus-fits, minus-is}
 use borrow.Author.Needs.{needs}
+use native.Mathlib.Omega.{arith}
+use lib.IntN.{pos}
+use Rattle.geometry.proofs.Signed.{minus-fits, minus-is}
 use Rattle.thumb_layout.proofs.minus.Statement.{statement}
 use Rattle.thumb_layout.proofs.minus.Tie as tie
 
@@ -7,10 +9,10 @@ cast-result : tie.Need-cast-result
 cast-result c = search needs
 
 sub-result : tie.Need-sub-result
-sub-result c = minus-fits (c .args .refusal) (search needs)
+sub-result c = minus-fits (pos (c .args .refusal)) (omega arith)
 
 returns : tie.Need-returns
-returns c = minus-is (c .args .refusal) (search needs)
+returns c = minus-is (pos (c .args .refusal)) (omega arith)
 
 pub minus-spec : {M : Type 1} → statement M
 minus-spec = tie.close (tie.spec cast-result sub-result returns)

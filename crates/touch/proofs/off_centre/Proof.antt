@@ -1,13 +1,14 @@
 -- `off_centre`: a distance is at least each of its sides.
 use borrow.Author.Needs.{needs}
-use mathlib.Core.Path.{_≡_, refl, sym, ap, _∙_, subst}
-use mathlib.Core.Bool.{Bool, true, false, _&&_, true≢false}
+use mathlib.Core.Path.{_≡_, refl, sym, ap, _∙_}
+use mathlib.Core.Bool.{Bool, true, _&&_}
 use Prim.Native.Nat.{_*_}
 use native.Mathlib.Nat.{add-comm}
 use lib.Dec.{T}
 use lib.Ieee.{Float, nan, inf, fin, binary32, fits, lt, eq}
-use lib.Ieee.Bits.{is-true}
+use denote.Floats.{passes, is-true}
 use Rattle.float.specs.MinMax.{absOf}
+use Rattle.geometry.specs.Choice.{both}
 use Rattle.hypot.specs.Hypot.{nearestRoot, whole, hypotOf}
 use Rattle.hypot.proofs.AtLeast.{at-least}
 use Rattle.touch.proofs.off_centre.Statement.{statement}
@@ -22,12 +23,7 @@ side t (inf s) b A B h k = h
 side t (fin s m e) b A B h k = at-least t b s m e A B k h
 
 over : (t a b : Float) {r : Bool} → T (fits binary32 a) → T (fits binary32 b) → r ≡ (lt t (absOf a) && eq b b) → r ≡ true → true ≡ lt t (hypotOf a b)
-over t a b A B p q = let h = split (lt t (absOf a)) (eq b b) (sym p ∙ q) in sym (is-true (lt t (hypotOf a b)) (side t a b A B (h .0) (h .1)))
-  where
-    split : (p q : Bool) → (p && q) ≡ true → T p × T q
-    split true true e = (tt, tt)
-    split true false e = absurd (true≢false (sym e))
-    split false q e = absurd (true≢false (sym e))
+over t a b A B p q = let h = both (lt t (absOf a)) (eq b b) (sym p ∙ q) in sym (is-true (lt t (hypotOf a b)) (side t a b A B (passes _ (h .0)) (passes _ (h .1))))
 
 swapped : (a b : Float) → hypotOf a b ≡ hypotOf b a
 unfolding hypotOf
@@ -44,12 +40,12 @@ swapped (fin s m e) (fin t n d) = ap nearestRoot (add-comm (whole m e * whole m 
 returns : tie.Need-returns
 returns c =
     let s = c .before .before in
-    over (s .args .radius) (s .args .dx) (s .args .dy) (subst T (sym (s .good .0 .1)) tt) (subst T (sym (s .good .1 .0 .1)) tt) (c .before .beyond .ensures) (c .if1 .taken)
+    over (s .args .radius) (s .args .dx) (s .args .dy) (passes _ (s .good .0 .1)) (passes _ (s .good .1 .0 .1)) (c .before .beyond .ensures) (c .if1 .taken)
 
 returns-2 : tie.Need-returns-2
 returns-2 c =
     let s = c .before .before .before .before in
-    over (s .args .radius) (s .args .dy) (s .args .dx) (subst T (sym (s .good .1 .0 .1)) tt) (subst T (sym (s .good .0 .1)) tt) (c .before .beyond2 .ensures) (c .if2 .taken)
+    over (s .args .radius) (s .args .dy) (s .args .dx) (passes _ (s .good .1 .0 .1)) (passes _ (s .good .0 .1)) (c .before .beyond2 .ensures) (c .if2 .taken)
     ∙ ap (lt (s .args .radius)) (swapped (s .args .dy) (s .args .dx))
 
 returns-3 : tie.Need-returns-3

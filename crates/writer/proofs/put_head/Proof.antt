@@ -1,51 +1,28 @@
 use native.Mathlib.Omega.{arith}
 use borrow.Author.Needs.{needs}
+use mathlib.Core.Path.{refl, ap, _∙_}
+use mathlib.Core.List.{[], _∷_}
+use Prim.Native.Nat.{_+_}
 use denote.Ref.{now}
-use Prim.Native.Nat.{_/_, _%_}
-use lib.ListN.{length-set}
-use Rattle.writer.specs.Bytes.{headBytes, shortBytes}
-use Rattle.writer.proofs.Stores.{stores3}
+use lib.ListN.{length, length-set}
+use Rattle.writer.specs.Bytes.{stored, shortBytes, headBytes}
+use Rattle.writer.proofs.Stores.{then, length-stored}
 use Rattle.writer.proofs.put_head.Statement.{statement}
 use Rattle.writer.proofs.put_head.Tie as tie
 
-slice-write-out : tie.Need-slice-write-out
-slice-write-out c = search needs
-
-cast-out : tie.Need-cast-out
-cast-out c = search needs
-
-add-out : tie.Need-add-out
-add-out c = search needs
-
-slice-write-out-2 : tie.Need-slice-write-out-2
-slice-write-out-2 c = simp length-set (omega arith)
-
-cast-out-2 : tie.Need-cast-out-2
-cast-out-2 c = search needs
-
-add-out-2 : tie.Need-add-out-2
-add-out-2 c = search needs
-
-slice-write-out-3 : tie.Need-slice-write-out-3
-slice-write-out-3 c = simp length-set (omega arith)
-
-same-length : tie.Need-same-length
-same-length c = search needs
+put-short-requires : tie.Need-put-short-requires
+put-short-requires c κs = simp length-set (omega arith)
 
 returns : tie.Need-returns
-unfolding headBytes shortBytes
-returns c = let a = c .args in stores3 (now (a .out)) (a .at) (a .tag) (a .n / 256) (a .n % 256)
+unfolding headBytes stored
+returns c =
+    let a = c .before .before .before .before .before .args in
+    then (now (a .out)) (a .at) (a .at + 1) (a .tag ∷ []) (shortBytes (a .n)) refl (c .before .before .put-short .ensures) refl
+
+same-length : tie.Need-same-length
+same-length c = ap length (returns c) ∙ length-stored _ _ _
 
 pub put-head-spec : {M : Type 1} → statement M
 put-head-spec =
     tie.close
-    (tie.spec
-    slice-write-out
-    cast-out
-    add-out
-    slice-write-out-2
-    cast-out-2
-    add-out-2
-    slice-write-out-3
-    same-length
-    returns)
+    (tie.spec (λ c. search needs) (λ c. search needs) put-short-requires same-length returns)
