@@ -1,4 +1,5 @@
-use mathlib.Core.Path.{sym, _∙_, subst}
+use mathlib.Core.Path.{sym, _∙_}
+use denote.Floats.{passes}
 use native.Mathlib.Omega.{arith}
 use lib.Dec.{T}
 use lib.Ieee.{binary32, fits}
@@ -9,10 +10,10 @@ use Rattle.hypot.proofs.exact.Statement.{statement}
 use Rattle.hypot.proofs.exact.Tie as tie
 
 held-a : (c : tie.Start) → T (fits binary32 (c .args .a))
-held-a c = subst T (sym (c .good .0 .1)) tt
+held-a c = passes _ (c .good .0 .1)
 
 held-b : (c : tie.Start) → T (fits binary32 (c .args .b))
-held-b c = subst T (sym (c .good .1 .0 .1)) tt
+held-b c = passes _ (c .good .1 .0 .1)
 
 pattern-requires : tie.Need-pattern-requires
 pattern-requires c κs = search needs

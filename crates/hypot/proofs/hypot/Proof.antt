@@ -1,8 +1,8 @@
 -- `hypot` meets its contract: a settled candidate is the nearest f32.
+use denote.Floats.{passes}
 use borrow.Author.Needs.{needs}
 use native.Mathlib.Omega.{arith}
-use mathlib.Core.Path.{sym, subst}
-use lib.Dec.{T}
+use mathlib.Core.Path.{subst}
 use lib.Ieee.{Float, binary32}
 use Rattle.hypot.specs.Parts.{sumOfSquaresOf, Settled}
 use Rattle.hypot.proofs.Floats.{no-nan, no-nan-bits}
@@ -11,7 +11,7 @@ use Rattle.hypot.proofs.hypot.Statement.{statement}
 use Rattle.hypot.proofs.hypot.Tie as tie
 
 certain : (c : tie.Then3) → Settled (sumOfSquaresOf (c .before .before .before .before .before .before .before .args .a) (c .before .before .before .before .before .before .before .args .b)) (c .before .before .candidate .result)
-certain c = subst (λ (t : Float). Settled t (c .before .before .candidate .result)) (c .before .before .before .before .sum-of-squares .ensures) (c .before .settled .ensures (subst T (sym (c .if3 .taken)) tt))
+certain c = subst (λ (t : Float). Settled t (c .before .before .candidate .result)) (c .before .before .before .before .sum-of-squares .ensures) (c .before .settled .ensures (passes _ (c .if3 .taken)))
 
 exact-requires : tie.Need-exact-requires
 exact-requires c κs = search needs
@@ -49,7 +49,7 @@ float-from-bits-result c = no-nan-bits binary32 _ (omega (arith, certain c .leas
 returns-3 : tie.Need-returns-3
 returns-3 c =
     let s = c .before .before .before .before .before .before .before in
-    settled (s .args .a) (s .args .b) _ (subst T (sym (s .good .0 .1)) tt) (subst T (sym (s .good .1 .0 .1)) tt) (certain c)
+    settled (s .args .a) (s .args .b) _ (passes _ (s .good .0 .1)) (passes _ (s .good .1 .0 .1)) (certain c)
 
 exact-requires-3 : tie.Need-exact-requires-3
 exact-requires-3 c κs = search needs

@@ -1,15 +1,12 @@
-use mathlib.Core.Path.{_≡_, sym, ap, _∙_}
+use mathlib.Core.Path.{sym, ap, _∙_}
 use borrow.Author.Needs.{needs}
 use native.Mathlib.Numerals.{add-one}
 use native.Mathlib.Omega.{arith}
-use Prim.Native.Nat.{ℕ, _≤_, _<_, Ordering, Ordering·lt, Ordering·eq, Ordering·gt}
+use Prim.Native.Nat.{Ordering, Ordering·lt, Ordering·eq, Ordering·gt}
 use lib.Ieee.{nearest}
 use Rattle.hypot.proofs.Order.{cmp-is}
 use Rattle.hypot.proofs.nearer.Statement.{statement}
 use Rattle.hypot.proofs.nearer.Tie as tie
-
-more : (w h : ℕ) → h ≤ w → (w ≡ h → ⊥) → h < w
-more w h a b = omega arith
 
 returns : tie.Need-returns
 returns c =
@@ -30,7 +27,7 @@ returns-2 c =
 returns-3 : tie.Need-returns-3
 returns-3 c =
     let a = c .before .before .args in
-    add-one (a .c) ∙ sym (ap (λ (o : Ordering). nearest (a .c) o) (cmp-is Ordering·gt (a .w) (a .h) (more (a .w) (a .h) (c .before .if1 .left) (c .if2 .left))))
+    add-one (a .c) ∙ sym (ap (λ (o : Ordering). nearest (a .c) o) (cmp-is Ordering·gt (a .w) (a .h) (omega arith)))
 
 pub nearer-spec : {M : Type 1} → statement M
 nearer-spec = tie.close (tie.spec returns add-result add-result-2 returns-2 returns-3)

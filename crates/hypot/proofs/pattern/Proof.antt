@@ -1,8 +1,8 @@
 -- `pattern` meets its contract. What it gives for a NaN is what `toBits` has.
 use mathlib.Core.Path.{_≡_, refl, sym, subst}
 use Prim.Native.Nat.{_%_}
+use denote.Floats.{passes}
 use borrow.Author.Needs.{needs}
-use lib.Dec.{T}
 use lib.Ieee.{Float, nan, binary32, toBits}
 use lib.Ieee.Compare.{differs-from-itself}
 use Rattle.hypot.proofs.Floats.{no-nan}
@@ -18,7 +18,7 @@ float-to-bits-result c = no-nan (c .before .args .x) (c .if1 .left)
 
 returns : tie.Need-returns
 returns c =
-    let is-nan = differs-from-itself (c .before .args .x) (subst T (sym (c .if1 .taken)) tt) in
+    let is-nan = differs-from-itself (c .before .args .x) (passes _ (c .if1 .taken)) in
     subst (λ (x : Float). 2143289344 ≡ toBits binary32 x % 2147483648) (sym is-nan) nan-pattern
 
 returns-2 : tie.Need-returns-2

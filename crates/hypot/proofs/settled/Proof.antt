@@ -1,4 +1,5 @@
-use mathlib.Core.Path.{sym, subst}
+use mathlib.Core.Path.{subst}
+use denote.Floats.{passes}
 use borrow.Author.Needs.{needs}
 use lib.Dec.{T}
 use lib.Ieee.{Float, lt}
@@ -27,7 +28,7 @@ returns-3 c =
     λ h. record {
       least = c .before .before .before .before .if1 .left;
       most = c .before .before .before .if2 .left;
-      low = subst (λ (x : Float). T (lt (squareOf x) (s .args .t))) (c .before .before .midpoint .ensures) (subst T (sym (c .if3 .taken)) tt);
+      low = subst (λ (x : Float). T (lt (squareOf x) (s .args .t))) (c .before .before .midpoint .ensures) (passes _ (c .if3 .taken));
       high = subst (λ (x : Float). T (lt (s .args .t) (squareOf x))) (c .before .midpoint2 .ensures) h;
     }
 

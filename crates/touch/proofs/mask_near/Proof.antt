@@ -7,6 +7,7 @@ use Prim.Native.Nat.{_-_, _<_, _≤_}
 use lib.Bits.{bitOr}
 use lib.Ieee.{Float, nanBits}
 use lib.ListN.{length, take, length-map}
+use Rattle.geometry.specs.Choice.{both}
 use Rattle.geometry.specs.Rect.{containsOf}
 use Rattle.layout.specs.declared.Layout.{Layout}
 use Rattle.layout.specs.Layout.{controlList}
@@ -46,17 +47,15 @@ loop-again c =
 -- free space is outside the picture and the d-pad
 outside-of : (l : Layout) (x y : Float) → isFreeOf l x y ≡ true → (not (containsOf (l .game) x y) && not (containsOf (l .dpad) x y)) ≡ true
 unfolding isFreeOf
-outside-of l x y = go (not (containsOf (l .game) x y)) (not (containsOf (l .dpad) x y)) _
-  where
-    go : (a b c : Bool) → (a && (b && c)) ≡ true → (a && b) ≡ true
-    go true true c e = refl
-    go true false c e = e
-    go false b c e = e
+outside-of l x y e =
+    let a = both (not (containsOf (l .game) x y)) _ e in
+    let b = both (not (containsOf (l .dpad) x y)) _ (a .1) in
+    rw (a .0, b .0)
 
 -- the nearest of each kind, for the kind of space that it is
-either : (free outside : Bool) (f : Bool → Face) {p q : Face} → (free ≡ true → outside ≡ true) → p ≡ f outside → q ≡ f false → cond free (p .mask) (q .mask) ≡ f free .mask
-either true outside f o e k = ap (λ (x : Face). x .mask) (e ∙ ap f (o refl))
-either false outside f o e k = ap (λ (x : Face). x .mask) k
+by-space : (free outside : Bool) (f : Bool → Face) {p q : Face} → (free ≡ true → outside ≡ true) → p ≡ f outside → q ≡ f false → cond free (p .mask) (q .mask) ≡ f free .mask
+by-space true outside f o e k = ap (λ (x : Face). x .mask) (e ∙ ap f (o refl))
+by-space false outside f o e k = ap (λ (x : Face). x .mask) k
 
 returns : tie.Need-returns Inv-loop μ-loop
 unfolding maskNearOf
@@ -66,7 +65,7 @@ returns c =
     let e : l .loop .i ≡ s .l .count = omega arith in
     let v = rw e at (l .loop .inv) in
     let o = l .before .before .outside in
-    let f = either (isFreeOf (s .l) (s .x) (s .y)) (o .result) (λ b. nearest (s .x) (s .y) b (s .previous) (controlList (s .l))) (λ h. o .ensures ∙ outside-of (s .l) (s .x) (s .y) h) (v .2) (v .3) in
+    let f = by-space (isFreeOf (s .l) (s .x) (s .y)) (o .result) (λ b. nearest (s .x) (s .y) b (s .previous) (controlList (s .l))) (λ h. o .ensures ∙ outside-of (s .l) (s .x) (s .y) h) (v .2) (v .3) in
     rw (← c .before .dpad-mask .ensures, ← v .1) (ap (bitOr (bitOr (c .before .dpad-mask .result) (l .loop .others))) (c .face-mask .ensures ∙ f))
 
 pub mask-near-spec : {M : Type 1} → statement M
