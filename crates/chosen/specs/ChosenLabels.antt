@@ -88,11 +88,6 @@ module _ (w h : Float) (area : Rect) (cutouts : List Rect) where
     unfolding arrangementOf
     arrangement-mode maximum free = either (OfMode analog psp) free (either (OfMode analog psp) maximum around-mode (beside-mode analog psp first f)) f
 
--- a psp has a stick, whatever its other mark says
-pub stick-mode : (analog psp : Bool) → T psp → T (analog || psp)
-stick-mode true psp t = tt
-stick-mode false psp t = t
-
 module _ (w h : Float) (cutouts : List Rect) (picture : Rect) where
   pub first-mode : (psp analog maximum : Bool) → OfMode (analog || psp) psp (firstOf psp analog maximum w h cutouts picture)
   unfolding firstOf

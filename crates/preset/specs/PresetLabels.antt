@@ -9,6 +9,7 @@ use Rattle.geometry.specs.Choice.{either}
 use Rattle.layout.specs.declared.Layout.{Layout}
 use Rattle.layout.specs.LabelLaws.{set-elements-formed}
 use Rattle.layout.specs.Layout.{elementsOf}
+use Rattle.numerics.specs.Bounds.{or-r}
 use Rattle.settings.specs.declared.Preset.{Preset}
 use Rattle.settings.specs.Settings.{savedList}
 use Rattle.saved.specs.Saved.{isEmpty, withSavedOf}
@@ -19,7 +20,7 @@ use Rattle.band.specs.BandLabels.{bandLabels, bandSticks}
 use Rattle.cutouts.specs.Cutouts.{avoidCutoutsOf}
 use Rattle.landscape.specs.LandscapeLaws.{landscape-formed}
 use Rattle.chosen.specs.Chosen.{reusableTop}
-use Rattle.chosen.specs.ChosenLabels.{OfMode, few, anchor-mode, place-mode, avoid-mode, arrangement-mode, stick-mode, first-mode}
+use Rattle.chosen.specs.ChosenLabels.{OfMode, few, anchor-mode, place-mode, avoid-mode, arrangement-mode, first-mode}
 use Rattle.preset.specs.PresetCases.{firstFor, areaFor, arrangementFor, placedFor, laid-out-case}
 use Rattle.preset.specs.Preset.{settledOf, maximumOf, freeOf, hasSticks, laidOutOf, layoutInOf, viewportLayoutOf}
 
@@ -39,7 +40,7 @@ module _ (w h : Float) (cutouts : List Rect) (picture : Rect) where
 module _ (p : Preset) (w h : Float) (cutouts : List Rect) (picture : Rect) where
   pub arranged-mode : OfMode (hasSticks p) (p .psp) (arrangementFor p w h cutouts picture)
   arranged-mode =
-      arrangement-mode w h (areaFor p w h cutouts picture) cutouts (hasSticks p) (p .psp) (stick-mode (p .analog) (p .psp)) (firstFor p w h cutouts picture) (first-mode w h cutouts picture (p .psp) (p .analog) (maximumOf p)) (maximumOf p)
+      arrangement-mode w h (areaFor p w h cutouts picture) cutouts (hasSticks p) (p .psp) (or-r (p .analog) (p .psp)) (firstFor p w h cutouts picture) (first-mode w h cutouts picture (p .psp) (p .analog) (maximumOf p)) (maximumOf p)
       (freeOf p)
 
   pub placed-mode : OfMode (hasSticks p) (p .psp) (placedFor p w h cutouts picture)

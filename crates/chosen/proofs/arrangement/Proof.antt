@@ -1,7 +1,8 @@
 use mathlib.Core.Bool.{_||_}
 use Rattle.chosen.proofs.Kept.{holds}
 use Rattle.layout.specs.Layout.{cutoutList}
-use Rattle.chosen.specs.ChosenLabels.{OfMode, arrangement-mode, stick-mode, first-mode}
+use Rattle.numerics.specs.Bounds.{or-r}
+use Rattle.chosen.specs.ChosenLabels.{OfMode, arrangement-mode, first-mode}
 use borrow.Author.Tests.{not-true, not-false}
 use borrow.Author.Needs.{needs}
 use Rattle.chosen.proofs.arrangement.Statement.{statement}
@@ -18,7 +19,7 @@ returns-2 c =
     let a = c .before .before .before .args in
     let first = firstOf (a .psp) (a .analog) (a .maximum) (a .w) (a .h) (cutoutList (a .cutouts)) (a .picture) in
     holds (OfMode (a .analog || a .psp) (a .psp))
-    (arrangement-mode (a .w) (a .h) (a .area) (cutoutList (a .cutouts)) (a .analog || a .psp) (a .psp) (stick-mode (a .analog) (a .psp)) first (first-mode (a .w) (a .h) (cutoutList (a .cutouts)) (a .picture) (a .psp) (a .analog) (a .maximum)) (a .maximum) (a .free))
+    (arrangement-mode (a .w) (a .h) (a .area) (cutoutList (a .cutouts)) (a .analog || a .psp) (a .psp) (or-r (a .analog) (a .psp)) first (first-mode (a .w) (a .h) (cutoutList (a .cutouts)) (a .picture) (a .psp) (a .analog) (a .maximum)) (a .maximum) (a .free))
     (rw (not-false (a .free) (c .before .before .if1 .left), c .before .if2 .taken) (c .around .ensures))
 
 beside-requires : tie.Need-beside-requires
@@ -30,7 +31,7 @@ returns-3 c =
     let a = c .before .before .before .before .args in
     let first = firstOf (a .psp) (a .analog) (a .maximum) (a .w) (a .h) (cutoutList (a .cutouts)) (a .picture) in
     holds (OfMode (a .analog || a .psp) (a .psp))
-    (arrangement-mode (a .w) (a .h) (a .area) (cutoutList (a .cutouts)) (a .analog || a .psp) (a .psp) (stick-mode (a .analog) (a .psp)) first (first-mode (a .w) (a .h) (cutoutList (a .cutouts)) (a .picture) (a .psp) (a .analog) (a .maximum)) (a .maximum) (a .free))
+    (arrangement-mode (a .w) (a .h) (a .area) (cutoutList (a .cutouts)) (a .analog || a .psp) (a .psp) (or-r (a .analog) (a .psp)) first (first-mode (a .w) (a .h) (cutoutList (a .cutouts)) (a .picture) (a .psp) (a .analog) (a .maximum)) (a .maximum) (a .free))
     (rw (not-false (a .free) (c .before .before .before .if1 .left), c .before .before .if2 .left, ← c .before .first2 .ensures .0) (c .beside .ensures))
 
 pub arrangement-spec : {M : Type 1} → statement M
