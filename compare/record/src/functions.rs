@@ -6,7 +6,6 @@ use player::{
     Rect,
     access::{self, ControlData, LABELS, LayoutData, picture},
     order::{Answer, on_the_scale},
-    words::{Value, Word, words},
 };
 
 /// The functions; a list has their places here, from 1 on.
@@ -24,14 +23,38 @@ const FUNCTIONS: [&str; 16] = [
     "controller_band",
     "anchor_toolbar",
     "vertical",
-    "fits",
     "controls",
+    "fits",
     "mask_near",
 ];
 /// The elements of a layout that may be asked for; a list has their places here.
 const ELEMENTS: [&str; 6] = ["dpad", "pause", "playback", "speed", "mute", "stick"];
 /// Stands for none where a refusal has its number.
-const NONE: i32 = -1;
+const NONE: i32 = 255;
+
+/// What a function answers: a mask, or 1 for true and 0 for false; or one f32
+/// or a rectangle.
+#[derive(Debug)]
+enum Value {
+    Number(u16),
+    Floats(Vec<f32>),
+}
+
+impl From<bool> for Value {
+    fn from(truth: bool) -> Self {
+        Self::Number(truth.into())
+    }
+}
+impl From<f32> for Value {
+    fn from(n: f32) -> Self {
+        Self::Floats(vec![n])
+    }
+}
+impl From<Rect> for Value {
+    fn from(r: Rect) -> Self {
+        Self::Floats(vec![r.x, r.y, r.w, r.h])
+    }
+}
 
 /// The list of the calls. It panics where the Rust answers otherwise than the
 /// text.
@@ -65,71 +88,67 @@ fn call(list: &mut List, name: &str, line: &str) {
     let want = wanted(asked[0], &want);
     // The sign of the zero is open in Rust's pages of min and max, and nowhere else.
     let open = ["min", "max"].contains(&asked[0]);
-    let same = |(a, b): (&Word, &Word)| bits(a) == bits(b) || open && a.same(*b);
-    let agree = got.len() == want.len() && got.iter().zip(&want).all(same);
-    assert!(agree, "{name}: {got:?}");
-    let mut step: Vec<u32> = want.iter().map(bits).collect();
-    step.resize(5, 0);
-    step.extend(arguments.words);
-    list.function(function as u8 + 1, &step);
-}
-
-/// A word as a list has it.
-fn bits(word: &Word) -> u32 {
-    match *word {
-        Word::Float(n) => n.to_bits(),
-        Word::Byte(n) => n.into(),
-        Word::Number(n) => n as u32,
-    }
-}
-
-/// The answer that the text has, in words: a refusal's number, or 0 and the
-/// values.
-fn wanted(function: &str, text: &[&str]) -> Vec<Word> {
-    let whole = |text: &str| Word::Number(text.parse().expect("a whole number"));
-    let word = |text: &&str| match *text {
-        "true" => Word::Number(1),
-        "false" => Word::Number(0),
-        mask if function == "mask_near" => whole(mask),
-        number => Word::Float(number.parse().expect("a number")),
+    assert!(same(&got, &want, open), "{name}: {got:?}");
+    let (number, floats) = match want {
+        Ok(Value::Number(n)) => (Ok(n), Vec::new()),
+        Ok(Value::Floats(floats)) => (Ok(0), floats),
+        Err(refusal) => (Err(refusal), Vec::new()),
     };
-    match *text {
-        ["none"] => vec![Word::Number(NONE.into())],
-        ["refusal", number] => vec![whole(number)],
-        ref values => [Word::Number(0)]
-            .into_iter()
-            .chain(values.iter().map(word))
-            .collect(),
+    let mut words: Vec<u32> = floats.into_iter().map(f32::to_bits).collect();
+    words.resize(4, 0);
+    words.extend(arguments.words);
+    list.function(function as u8 + 1, number, &words);
+}
+
+fn same(a: &Answer<Value>, b: &Answer<Value>, open: bool) -> bool {
+    match (a, b) {
+        (Ok(Value::Number(a)), Ok(Value::Number(b))) => a == b,
+        (Ok(Value::Floats(a)), Ok(Value::Floats(b))) => {
+            let same = |(a, b): (&f32, &f32)| a.to_bits() == b.to_bits() || open && a == b;
+            a.len() == b.len() && a.iter().zip(b).all(same)
+        }
+        (Err(a), Err(b)) => a == b,
+        _ => false,
     }
 }
 
-/// What the Rust answers, in such words.
-fn answer(function: &str, a: &mut Arguments) -> Vec<Word> {
-    match function {
-        "min" => plain(a.float().min(a.float())),
-        "max" => plain(a.float().max(a.float())),
-        "clamp" => plain(a.float().clamp(a.float(), a.float())),
-        "abs" => plain(a.float().abs()),
-        "hypot" => plain(nearest_hypot(a.float(), a.float())),
-        "contains" => plain(access::contains(a.rect(), a.float(), a.float())),
-        "overlaps" => plain(access::overlaps(a.rect(), a.rect())),
-        "safe_content" => words(&safe_content(a)),
-        "safe_edges" => words(&safe_edges(a)),
+/// The answer that the text has.
+fn wanted(function: &str, text: &[&str]) -> Answer<Value> {
+    let float = |text: &&str| text.parse().expect("a number");
+    match *text {
+        ["none"] => Err(NONE),
+        ["refusal", number] => Err(number.parse().expect("a refusal")),
+        ["true"] => Ok(true.into()),
+        ["false"] => Ok(false.into()),
+        [mask] if function == "mask_near" => Ok(Value::Number(mask.parse().expect("a mask"))),
+        ref floats => Ok(Value::Floats(floats.iter().map(float).collect())),
+    }
+}
+
+/// The answer that the Rust gives.
+fn answer(function: &str, a: &mut Arguments) -> Answer<Value> {
+    let value = match function {
+        "min" => a.float().min(a.float()).into(),
+        "max" => a.float().max(a.float()).into(),
+        "clamp" => a.float().clamp(a.float(), a.float()).into(),
+        "abs" => a.float().abs().into(),
+        "hypot" => nearest_hypot(a.float(), a.float()).into(),
+        "contains" => access::contains(a.rect(), a.float(), a.float()).into(),
+        "overlaps" => access::overlaps(a.rect(), a.rect()).into(),
+        "safe_content" => safe_content(a)?.into(),
+        "safe_edges" => safe_edges(a)?.into(),
         "clear_picture_aspect" => {
             let [w, h, aspect] = a.floats();
-            plain(access::clear_picture_aspect(w, h, &a.rects(), aspect))
+            access::clear_picture_aspect(w, h, &a.rects(), aspect).into()
         }
         "fits" => {
             let ([w, h], game) = (a.floats(), a.rect());
-            plain(picture::fits(&a.layout(), w, h, game, &[]))
+            picture::fits(&a.layout(), w, h, game, &[]).into()
         }
-        "mask_near" => plain(mask_near(a)),
-        _ => words(&element(function, a)),
-    }
-}
-
-fn plain(value: impl Value) -> Vec<Word> {
-    words(&Ok(value))
+        "mask_near" => Value::Number(mask_near(a)),
+        _ => element(function, a)?.into(),
+    };
+    Ok(value)
 }
 
 fn safe_content(a: &mut Arguments) -> Answer<Rect> {
@@ -138,12 +157,14 @@ fn safe_content(a: &mut Arguments) -> Answer<Rect> {
     Ok(access::safe_content(size, inset_size, edges))
 }
 
-fn safe_edges(a: &mut Arguments) -> Answer<[f32; 4]> {
+/// The edges as a rectangle's numbers.
+fn safe_edges(a: &mut Arguments) -> Answer<Rect> {
     let edges = [a.wholes::<4>(), a.wholes(), a.wholes()];
     let local = a.flag();
     on_the_scale(&edges.concat())?;
     let [decoration, navigation, camera] = edges;
-    Ok(access::safe_edges(decoration, navigation, camera, local).map(|n| n as f32))
+    let [x, y, w, h] = access::safe_edges(decoration, navigation, camera, local).map(|n| n as f32);
+    Ok(Rect::new(x, y, w, h))
 }
 
 /// Here the Rust's answer does not depend on which hypot it takes.

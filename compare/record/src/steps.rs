@@ -114,12 +114,14 @@ impl List {
         });
         text
     }
-    /// A call of a function: the answer's words and those of its arguments.
-    pub fn function(&mut self, number: u8, words: &[u32]) {
+    /// A call of a function. Its words are the rectangle of the answer and the
+    /// arguments.
+    pub fn function(&mut self, function: u8, answer: Answer<u16>, words: &[u32]) {
         let bytes: Vec<u8> = words.iter().flat_map(|word| word.to_be_bytes()).collect();
         self.push(Step {
             kind: b'F',
-            mark: number,
+            mark: function,
+            answer: number(answer),
             bytes: &bytes,
             ..Step::default()
         });

@@ -1,6 +1,7 @@
-// Calls of the library's functions by number. Arguments and answers are words of 4 bytes (data/README.md): an f32 by its
-// bit pattern, a whole number, or 1 for yes and 0 for no.
+// Calls of single functions (data/README.md). Arguments are words of 4 bytes: an f32 by its bit pattern, a whole number, or
+// 1 for yes and 0 for no.
 ghost use Prim.Native.Nat.{_≤_};
+use super::answer_of;
 use super::layouts;
 use super::number;
 use super::word;
@@ -8,74 +9,51 @@ use geometry::Rect;
 use safe_area::SafeContent;
 use safe_area::SafeEdges;
 
-// Whether a function's answer is the first five words; its arguments are those after them.
-pub fn agrees(function: u8, bytes: &[u8]) -> bool {
-    let want = words(bytes, 0);
-    let got = answer(function, words(bytes, 20));
-    got[0] == want[0]
-        && (got[1] == want[1] && (got[2] == want[2] && (got[3] == want[3] && got[4] == want[4])))
+// A number as `answer_of` has it, and a rectangle; of one number, that is its x.
+pub struct Answer {
+    number: usize,
+    at: Rect,
 }
 
-// The words from a place on.
-fn words(bytes: &[u8], from: usize) -> [u32; 24]
-    requires { ⌜ from ≤ 20 ⌝ }
-{
-    let mut out = [0; 24];
-    for i in 0usize..24 {
-        out[i] = word_at(bytes, from + i * 4);
+// Before the arguments stands the rectangle that is to be answered.
+pub fn agrees(head: &[u8; 17], bytes: &[u8]) -> bool {
+    if bytes.len() < 16 {
+        return false;
     }
-    out
+    let got = call(head[11], &bytes[16..]);
+    let at = got.at;
+    (got.number == answer_of(head))
+        & (bits(at.x) == word_at(bytes, 0))
+        & (bits(at.y) == word_at(bytes, 1))
+        & (bits(at.w) == word_at(bytes, 2))
+        & (bits(at.h) == word_at(bytes, 3))
 }
 
-// Past the end there are zeros.
-fn word_at(bytes: &[u8], at: usize) -> u32
-    requires { ⌜ at ≤ 120 ⌝ }
-{
-    if at + 3 < bytes.len() {
-        word(bytes[at], bytes[at + 1], bytes[at + 2], bytes[at + 3])
-    } else {
-        0
-    }
-}
-
-// An answer: a refusal's number, or 2^32 - 1 for none, or 0 and up to four words.
-fn answer(function: u8, a: [u32; 24]) -> [u32; 5] {
+fn call(function: u8, a: &[u8]) -> Answer {
     match function {
-        1 => min(a),
-        2 => max(a),
-        3 => clamp(a),
-        4 => abs(a),
-        5 => hypot(a),
-        6 => contains(a),
-        7 => overlaps(a),
+        1..=5 => area(Rect::new(value(function, a), 0.0, 0.0, 0.0)),
+        6 => one(contains(a) as usize),
+        7 => one(overlaps(a) as usize),
         8 => safe_content(a),
         9 => safe_edges(a),
-        10 => layouts::clear_picture_aspect(a),
-        11 => layouts::controller_band(a),
-        12 => layouts::anchor_toolbar(a),
-        13 => layouts::vertical(a),
-        14 => layouts::fits(a),
-        15 => layouts::controls(a),
-        16 => layouts::mask_near(a),
-        // No function: the answer of none.
-        _ => refusal(255),
+        10 => area(layouts::clear_picture_aspect(a)),
+        11..=14 => layouts::element(word_at(a, 0), layouts::layout(function, a)),
+        15 => one(layouts::fits(a) as usize),
+        16 => one(layouts::mask_near(a) as usize),
+        // No function, and no list's answer.
+        _ => one(65535),
     }
 }
 
-fn refusal(n: u32) -> [u32; 5] {
-    [n, 0, 0, 0, 0]
+pub fn one(number: usize) -> Answer {
+    Answer {
+        number,
+        at: Rect::new(0.0, 0.0, 0.0, 0.0),
+    }
 }
 
-pub fn none() -> [u32; 5] {
-    refusal(0xffff_ffff)
-}
-
-pub fn one(n: u32) -> [u32; 5] {
-    [0, n, 0, 0, 0]
-}
-
-pub fn bounds(r: Rect) -> [u32; 5] {
-    [0, bits(r.x), bits(r.y), bits(r.w), bits(r.h)]
+pub fn area(at: Rect) -> Answer {
+    Answer { number: 0, at }
 }
 
 // All NaNs are one.
@@ -83,14 +61,32 @@ fn bits(x: f32) -> u32 {
     if x != x { 0x7fc0_0000 } else { f32::to_bits(x) }
 }
 
-pub fn rect(a: [u32; 24], i: usize) -> Rect
+// Past the end there are zeros.
+pub fn word_at(a: &[u8], i: usize) -> u32
+    requires { ⌜ i ≤ 23 ⌝ }
+{
+    let at = i * 4;
+    if at + 3 < a.len() {
+        word(a[at], a[at + 1], a[at + 2], a[at + 3])
+    } else {
+        0
+    }
+}
+
+pub fn float_at(a: &[u8], i: usize) -> f32
+    requires { ⌜ i ≤ 23 ⌝ }
+{
+    number(word_at(a, i))
+}
+
+pub fn rect_at(a: &[u8], i: usize) -> Rect
     requires { ⌜ i ≤ 20 ⌝ }
 {
     Rect::new(
-        number(a[i]),
-        number(a[i + 1]),
-        number(a[i + 2]),
-        number(a[i + 3]),
+        float_at(a, i),
+        float_at(a, i + 1),
+        float_at(a, i + 2),
+        float_at(a, i + 3),
     )
 }
 
@@ -100,69 +96,62 @@ fn whole(n: u32) -> i32 {
     if n < 0x8000_0000 { size } else { -size }
 }
 
-fn pair(a: [u32; 24], i: usize) -> [i32; 2]
-    requires { ⌜ i ≤ 20 ⌝ }
-{
-    [whole(a[i]), whole(a[i + 1])]
-}
-
-fn edges(a: [u32; 24], i: usize) -> [i32; 4]
+fn edges_at(a: &[u8], i: usize) -> [i32; 4]
     requires { ⌜ i ≤ 20 ⌝ }
 {
     [
-        whole(a[i]),
-        whole(a[i + 1]),
-        whole(a[i + 2]),
-        whole(a[i + 3]),
+        whole(word_at(a, i)),
+        whole(word_at(a, i + 1)),
+        whole(word_at(a, i + 2)),
+        whole(word_at(a, i + 3)),
     ]
 }
 
-fn min(a: [u32; 24]) -> [u32; 5] {
-    one(bits(float::min(number(a[0]), number(a[1]))))
+fn size_at(a: &[u8], i: usize) -> [i32; 2]
+    requires { ⌜ i ≤ 20 ⌝ }
+{
+    [whole(word_at(a, i)), whole(word_at(a, i + 1))]
 }
 
-fn max(a: [u32; 24]) -> [u32; 5] {
-    one(bits(float::max(number(a[0]), number(a[1]))))
+fn value(function: u8, a: &[u8]) -> f32 {
+    let x = float_at(a, 0);
+    let y = float_at(a, 1);
+    match function {
+        1 => float::min(x, y),
+        2 => float::max(x, y),
+        3 => float::clamp(x, y, float_at(a, 2)),
+        4 => float::abs(x),
+        _ => hypot::hypot(x, y),
+    }
 }
 
-fn clamp(a: [u32; 24]) -> [u32; 5] {
-    one(bits(float::clamp(number(a[0]), number(a[1]), number(a[2]))))
+fn contains(a: &[u8]) -> bool {
+    let r = rect_at(a, 0);
+    r.contains(float_at(a, 4), float_at(a, 5))
 }
 
-fn abs(a: [u32; 24]) -> [u32; 5] {
-    one(bits(float::abs(number(a[0]))))
+fn overlaps(a: &[u8]) -> bool {
+    let r = rect_at(a, 0);
+    r.overlaps(rect_at(a, 4))
 }
 
-fn hypot(a: [u32; 24]) -> [u32; 5] {
-    one(bits(hypot::hypot(number(a[0]), number(a[1]))))
-}
-
-fn contains(a: [u32; 24]) -> [u32; 5] {
-    let r = rect(a, 0);
-    one(r.contains(number(a[4]), number(a[5])) as u32)
-}
-
-fn overlaps(a: [u32; 24]) -> [u32; 5] {
-    let r = rect(a, 0);
-    one(r.overlaps(rect(a, 4)) as u32)
-}
-
-fn safe_content(a: [u32; 24]) -> [u32; 5] {
-    match safe_area::safe_content(pair(a, 0), pair(a, 2), edges(a, 4)) {
-        SafeContent::Area(r) => bounds(r),
-        SafeContent::OffScale => refusal(6),
+fn safe_content(a: &[u8]) -> Answer {
+    match safe_area::safe_content(size_at(a, 0), size_at(a, 2), edges_at(a, 4)) {
+        SafeContent::Area(r) => area(r),
+        SafeContent::OffScale => one(6 * 65536),
     }
 }
 
 // The edges are answered as f32.
-fn safe_edges(a: [u32; 24]) -> [u32; 5] {
-    match safe_area::safe_edges(edges(a, 0), edges(a, 4), edges(a, 8), a[12] > 0) {
-        SafeEdges::Merged(e) => bounds(Rect::new(
+fn safe_edges(a: &[u8]) -> Answer {
+    let local = word_at(a, 12) > 0;
+    match safe_area::safe_edges(edges_at(a, 0), edges_at(a, 4), edges_at(a, 8), local) {
+        SafeEdges::Merged(e) => area(Rect::new(
             std::num::nearest_i32_to_f32(e.left),
             std::num::nearest_i32_to_f32(e.top),
             std::num::nearest_i32_to_f32(e.right),
             std::num::nearest_i32_to_f32(e.bottom),
         )),
-        SafeEdges::OffScale => refusal(6),
+        SafeEdges::OffScale => one(6 * 65536),
     }
 }

@@ -1,11 +1,12 @@
-// Calls of the functions on layouts, of words as `functions` has them.
+// Calls of the functions on layouts.
 ghost use mathlib.Core.Path.{_≡_};
 ghost use Prim.Native.Nat.{_≤_};
-use super::functions::bounds;
-use super::functions::none;
+use super::functions::Answer;
+use super::functions::area;
+use super::functions::float_at;
 use super::functions::one;
-use super::functions::rect;
-use super::number;
+use super::functions::rect_at;
+use super::functions::word_at;
 use arranged::MaybeLayout;
 use geometry::Rect;
 use layout::Control;
@@ -14,20 +15,45 @@ use layout::Elements;
 use layout::Label;
 use layout::Layout;
 
-// The element that a call asks for.
-fn element(n: u32, l: Layout) -> [u32; 5] {
-    match n {
-        0 => bounds(l.dpad),
-        1 => bounds(l.pause),
-        2 => bounds(l.playback),
-        3 => bounds(l.speed),
-        4 => bounds(l.mute),
-        _ => bounds(l.sticks[0]),
+// The layout that a function answers with.
+pub fn layout(function: u8, a: &[u8]) -> MaybeLayout {
+    let w = float_at(a, 1);
+    let h = float_at(a, 2);
+    let analog = word_at(a, 3) > 0;
+    let psp = word_at(a, 4) > 0;
+    let r = rect_at(a, 5);
+    match function {
+        11 => band::controller_band(w, h, analog, psp, r),
+        12 => anchor_toolbar(a),
+        13 => picture::vertical(picture::base(w, h, analog, psp), r, rect_at(a, 9), analog),
+        _ => picture::controls(w, h, r, analog, psp, cutouts(0, r)),
     }
 }
 
-fn element_of(n: u32, m: MaybeLayout) -> [u32; 5] {
-    if m.some { element(n, m.layout) } else { none() }
+// On the layout that is arranged for the screen.
+fn anchor_toolbar(a: &[u8]) -> MaybeLayout {
+    let w = float_at(a, 1);
+    let h = float_at(a, 2);
+    let holes = cutouts(word_at(a, 5), rect_at(a, 6));
+    let l = arranged::arranged(w, h, false);
+    let layout = toolbar::anchor_toolbar(l, w, h, float_at(a, 3), float_at(a, 4), holes);
+    MaybeLayout { some: true, layout }
+}
+
+// The element of it that a call asks for, or 255 for none.
+pub fn element(n: u32, m: MaybeLayout) -> Answer {
+    let l = m.layout;
+    if !m.some {
+        return one(255 * 65536);
+    }
+    match n {
+        0 => area(l.dpad),
+        1 => area(l.pause),
+        2 => area(l.playback),
+        3 => area(l.speed),
+        4 => area(l.mute),
+        _ => area(l.sticks[0]),
+    }
 }
 
 // A rectangle alone, or none.
@@ -36,7 +62,7 @@ fn cutouts(n: u32, r: Rect) -> Cutouts
 {
     Cutouts {
         at: [r; 16],
-        count: if n > 0 { 1 } else { 0 },
+        count: (n % 2) as usize,
     }
 }
 
@@ -57,26 +83,26 @@ fn label(n: u32) -> Label {
     }
 }
 
-fn control(a: [u32; 24], i: usize) -> Control
+fn control_at(a: &[u8], i: usize) -> Control
     requires { ⌜ i ≤ 15 ⌝ }
 {
     Control {
-        label: label(a[i]),
-        bounds: rect(a, i + 1),
+        label: label(word_at(a, i)),
+        bounds: rect_at(a, i + 1),
     }
 }
 
 // A layout of a d-pad and two controls, with the game and every key of the toolbar at one place.
-fn bare(a: [u32; 24], i: usize) -> Layout
+fn layout_at(a: &[u8], i: usize) -> Layout
     requires { ⌜ i ≤ 6 ⌝ }
     ensures { λ r. ⌜ (r .count ≡ 2) × (r .stickcount ≡ 0) ⌝ }
 {
-    let mut controls = [control(a, i + 9); 12];
-    controls[0] = control(a, i + 4);
-    let key = rect(a, i + 14);
+    let mut controls = [control_at(a, i + 9); 12];
+    controls[0] = control_at(a, i + 4);
+    let key = rect_at(a, i + 14);
     Layout {
         game: key,
-        dpad: rect(a, i),
+        dpad: rect_at(a, i),
         controls,
         count: 2,
         pause: key,
@@ -88,74 +114,32 @@ fn bare(a: [u32; 24], i: usize) -> Layout
     }
 }
 
-// Of at most three obstacles.
-pub fn clear_picture_aspect(a: [u32; 24]) -> [u32; 5] {
-    let mut at = [rect(a, 4); 19];
-    at[1] = rect(a, 8);
-    at[2] = rect(a, 12);
-    let count = (a[3] % 4) as usize;
-    let obstacles = Elements { at, count };
-    bounds(search::clear_picture_aspect(number(a[0]), number(a[1]), obstacles, number(a[2])))
-}
-
-pub fn controller_band(a: [u32; 24]) -> [u32; 5] {
-    element_of(
-        a[0],
-        band::controller_band(number(a[1]), number(a[2]), a[3] > 0, a[4] > 0, rect(a, 5)),
+// Clear of at most three obstacles.
+pub fn clear_picture_aspect(a: &[u8]) -> Rect {
+    let mut at = [rect_at(a, 4); 19];
+    at[1] = rect_at(a, 8);
+    at[2] = rect_at(a, 12);
+    let count = (word_at(a, 3) % 4) as usize;
+    search::clear_picture_aspect(
+        float_at(a, 0),
+        float_at(a, 1),
+        Elements { at, count },
+        float_at(a, 2),
     )
 }
 
-// On the layout that is arranged for the screen.
-pub fn anchor_toolbar(a: [u32; 24]) -> [u32; 5] {
-    let w = number(a[1]);
-    let h = number(a[2]);
-    let l = arranged::arranged(w, h, false);
-    let holes = cutouts(a[5], rect(a, 6));
-    element(
-        a[0],
-        toolbar::anchor_toolbar(l, w, h, number(a[3]), number(a[4]), holes),
-    )
-}
-
-pub fn vertical(a: [u32; 24]) -> [u32; 5] {
-    let analog = a[3] > 0;
-    let base = picture::base(number(a[1]), number(a[2]), analog, a[4] > 0);
-    element_of(
-        a[0],
-        picture::vertical(base, rect(a, 5), rect(a, 9), analog),
-    )
-}
-
-// Without cutouts, as `controls`.
-pub fn fits(a: [u32; 24]) -> [u32; 5] {
-    let game = rect(a, 2);
-    let fit = fits::fits(
-        bare(a, 6),
-        number(a[0]),
-        number(a[1]),
+pub fn fits(a: &[u8]) -> bool {
+    let game = rect_at(a, 2);
+    fits::fits(
+        layout_at(a, 6),
+        float_at(a, 0),
+        float_at(a, 1),
         game,
         cutouts(0, game),
-    );
-    one(fit as u32)
-}
-
-pub fn controls(a: [u32; 24]) -> [u32; 5] {
-    let game = rect(a, 5);
-    element_of(
-        a[0],
-        picture::controls(
-            number(a[1]),
-            number(a[2]),
-            game,
-            a[3] > 0,
-            a[4] > 0,
-            cutouts(0, game),
-        ),
     )
 }
 
-pub fn mask_near(a: [u32; 24]) -> [u32; 5] {
-    let previous = (a[2] % 65536) as u16;
-    let mask = touch::mask_near(bare(a, 3), number(a[0]), number(a[1]), previous);
-    one(mask as u32)
+pub fn mask_near(a: &[u8]) -> u16 {
+    let previous = (word_at(a, 2) % 65536) as u16;
+    touch::mask_near(layout_at(a, 3), float_at(a, 0), float_at(a, 1), previous)
 }

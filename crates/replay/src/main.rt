@@ -64,7 +64,7 @@ fn agrees(head: &[u8; 17], order: &[u8], bytes: &[u8]) -> bool {
         b'V' => viewport_agrees(head, order, bytes),
         b'T' => touch_agrees(head, order),
         b'S' => sheet_agrees(order, bytes),
-        b'F' => functions::agrees(head[11], bytes),
+        b'F' => functions::agrees(head, bytes),
         _ => kind == b'N',
     }
 }
