@@ -11,7 +11,7 @@ use crate::{
 use ours::host;
 use player::{
     PictureFit, access,
-    order::{self, Answer, OFF_THE_SCALE, Settings, lent},
+    order::{self, Answer, Settings, lent, on_the_scale},
     sheet,
 };
 
@@ -139,12 +139,6 @@ fn edges() -> [Comparison; 2] {
             },
         ),
     ]
-}
-
-/// Refusal 6 of integers outside -8,192 to 8,192, which the Rust does not have.
-fn on_the_scale(numbers: &[i32]) -> Answer<()> {
-    let inside = numbers.iter().all(|n| (-8192..=8192).contains(n));
-    if inside { Ok(()) } else { Err(OFF_THE_SCALE) }
 }
 
 /// Just enough bytes or more, or seldom too few.

@@ -148,6 +148,15 @@ fn limited<const N: usize>(numbers: [f32; N]) -> Answer<[f32; N]> {
     Ok(numbers)
 }
 
+/// Refusal 6 of integers outside document 01's limits, which the Rust does not
+/// have.
+pub fn on_the_scale(integers: &[i32]) -> Answer<()> {
+    must(
+        integers.iter().all(|n| (-8192..=8192).contains(n)),
+        OFF_THE_SCALE,
+    )
+}
+
 fn at_least_0(numbers: &[f32]) -> Answer<()> {
     must(numbers.iter().all(|n| *n >= 0.), OFF_THE_SCALE)
 }

@@ -1,141 +1,15 @@
-//! The worked examples of document 01, asked of the unchanged Rust.
-use player::access::{self, ControlData, LABELS, LayoutData, picture};
+//! What document 01 says of the unchanged Rust, where crates/replay/data has no
+//! case of it.
+use player::access::{self, LayoutData, picture};
 use player::{PictureFit, PlayerViewport, Preset, Rect};
 
 fn rect(x: f32, y: f32, w: f32, h: f32) -> Rect {
     Rect::new(x, y, w, h)
 }
 
-/// A layout with nothing in it but its d-pad and the given controls.
-fn bare(dpad: Rect, controls: &[(&str, Rect)]) -> LayoutData {
-    let control = |&(name, bounds): &(&str, Rect)| ControlData {
-        bounds,
-        label: LABELS.iter().position(|(label, _)| *label == name).unwrap(),
-    };
-    LayoutData {
-        game: Rect::default(),
-        dpad,
-        controls: controls.iter().map(control).collect(),
-        pause: Rect::default(),
-        playback: Rect::default(),
-        speed: Rect::default(),
-        mute: Rect::default(),
-        sticks: Vec::new(),
-    }
-}
-
 fn elements(layout: &LayoutData) -> Vec<Rect> {
     let count = access::element_count(layout);
     (0..count).map(|i| access::element(layout, i)).collect()
-}
-
-#[test]
-fn contains_is_half_open() {
-    let r = rect(10., 20., 30., 40.);
-    assert!(access::contains(r, 10., 20.));
-    assert!(!access::contains(r, 40., 20.));
-}
-
-#[test]
-fn overlaps_has_slack() {
-    let r = rect(0., 0., 10., 10.);
-    assert!(!access::overlaps(r, rect(10., 0., 10., 10.)));
-    assert!(access::overlaps(r, rect(9.5, 0., 10., 10.)));
-}
-
-#[test]
-fn clear_picture_aspect_over_a_square() {
-    let search = |obstacles: &[Rect]| access::clear_picture_aspect(100., 100., obstacles, 1.);
-    assert_eq!(search(&[]), rect(0., 0., 100., 100.));
-    assert_eq!(search(&[rect(0., 0., 100., 20.)]), rect(10., 20., 80., 80.));
-    assert_eq!(search(&[rect(40., 0., 20., 100.)]), rect(0., 0., 40., 40.));
-    assert_eq!(search(&[rect(0., 0., 100., 100.)]), Rect::default());
-    // Width 40 at both y = 30 and y = 10, which comes later.
-    let tie = [
-        rect(90., 0., 10., 30.),
-        rect(0., 0., 100., 10.),
-        rect(70., 0., 30., 100.),
-    ];
-    assert_eq!(search(&tie), rect(30., 10., 40., 40.));
-}
-
-#[test]
-fn controller_band_at_its_limits() {
-    let band = |w, h| access::controller_band(w, h, false, false, rect(0., 0., w, h));
-    assert_eq!(band(800., 800.).unwrap().dpad, rect(28., 618., 178., 178.));
-    assert!(band(800., 600.).is_none());
-    // The picture starts far above, so that the height left is enough for a face of 122.
-    let raised = |w, h| access::controller_band(w, h, false, false, rect(0., -400., w, h));
-    assert!(raised(800., 600.).is_some());
-    assert!(raised(799.9, 600.).is_none());
-    assert!(raised(800., 599.9).is_none());
-    assert!(raised(810., 600.).is_some());
-    assert!(raised(810.1, 600.).is_none());
-    // face = 800 - (y + 18 + 600) - 4
-    let face = |y| access::controller_band(800., 800., false, false, rect(0., y, 800., 800.));
-    assert_eq!(face(56.).unwrap().dpad.w, 122.);
-    assert!(face(56.01).is_none());
-}
-
-#[test]
-fn anchor_toolbar_with_and_without_a_cutout() {
-    let anchored = |cutouts: &[Rect]| {
-        let layout = access::arranged(1000., 800., false);
-        access::anchor_toolbar(&layout, 1000., 800., 0., 0., cutouts)
-    };
-    let layout = anchored(&[]);
-    assert_eq!(layout.playback, rect(28., 0., 40., 18.));
-    assert_eq!(layout.speed, rect(76., 0., 56., 18.));
-    assert_eq!(layout.mute, rect(884., 0., 40., 18.));
-    assert_eq!(layout.pause, rect(932., 0., 40., 18.));
-    assert_eq!(anchored(&[rect(0., 0., 100., 30.)]).playback.x, 108.);
-}
-
-#[test]
-fn safe_content_and_safe_edges() {
-    let area = access::safe_content([800, 600], [800, 600], [10, 20, 30, 40]);
-    assert_eq!(area, rect(10., 20., 760., 540.));
-    let narrow = access::safe_content([100, 100], [100, 100], [0, 0, 500, 0]);
-    assert_eq!(narrow.w, 1.);
-    let edges = access::safe_edges([1, 2, 3, 4], [0, 5, 0, 0], [9; 4], true);
-    assert_eq!(edges, [1, 9, 3, 9]);
-}
-
-#[test]
-fn dpad_touches() {
-    let layout = bare(rect(0., 0., 100., 100.), &[]);
-    let touches = [
-        (59., 50., 0),
-        (60., 50., 128),
-        (60., 60., 160),
-        (40., 40., 80),
-        (50., 60., 32),
-    ];
-    for (x, y, mask) in touches {
-        assert_eq!(
-            access::mask_near(&layout, x, y, 0),
-            mask,
-            "touch at {x}, {y}"
-        );
-    }
-}
-
-#[test]
-fn face_ties_and_the_previous_mask() {
-    let (o, x) = (1 << 8, 1 << 0);
-    let caps = [rect(0., 0., 20., 20.), rect(16., 0., 20., 20.)];
-    let layout = |first, second| bare(Rect::default(), &[(first, caps[0]), (second, caps[1])]);
-    // (18, 10) is 8 from both centres; (16, 10) is 6 and 10 from them.
-    assert_eq!(access::mask_near(&layout("O", "X"), 18., 10., 0), o);
-    assert_eq!(access::mask_near(&layout("X", "O"), 18., 10., 0), x);
-    assert_eq!(access::mask_near(&layout("O", "X"), 16., 10., 0), o);
-    assert_eq!(access::mask_near(&layout("O", "X"), 16., 10., x), x);
-    // At 10 - 6 against 4 there is a tie again.
-    let layout = bare(
-        Rect::default(),
-        &[("O", caps[0]), ("X", rect(14., 0., 20., 20.))],
-    );
-    assert_eq!(access::mask_near(&layout, 14., 10., x), o);
 }
 
 #[test]
@@ -222,51 +96,22 @@ fn controls_takes_the_first_arrangement_that_fits() {
 }
 
 #[test]
-fn fits_looks_at_controller_elements_only() {
+fn fits_looks_at_sticks() {
     let game = rect(500., 500., 100., 100.);
-    let mut layout = bare(rect(0., 0., 100., 100.), &[]);
+    let mut layout = LayoutData {
+        game: Rect::default(),
+        dpad: rect(0., 0., 100., 100.),
+        controls: Vec::new(),
+        pause: Rect::default(),
+        playback: Rect::default(),
+        speed: Rect::default(),
+        mute: Rect::default(),
+        sticks: Vec::new(),
+    };
     let fits = |layout: &LayoutData| picture::fits(layout, 1000., 1000., game, &[]);
-    assert!(fits(&layout));
-    // A toolbar off the screen, on the game and on the d-pad.
-    layout.pause = rect(-50., -50., 10., 10.);
-    layout.speed = game;
-    layout.mute = layout.dpad;
     assert!(fits(&layout));
     layout.sticks = vec![game];
     assert!(!fits(&layout));
-}
-
-#[test]
-fn fits_lets_face_caps_overlap_as_boxes() {
-    let fits = |second: &str, x: f32, y: f32| {
-        let caps = [
-            ("TRI", rect(200., 200., 50., 50.)),
-            (second, rect(x, y, 50., 50.)),
-        ];
-        let layout = bare(rect(0., 0., 100., 100.), &caps);
-        picture::fits(&layout, 1000., 1000., Rect::default(), &[])
-    };
-    // The boxes overlap; the centres are 53.99 or more apart if both sides are 38.2.
-    assert!(fits("O", 238.2, 238.2));
-    assert!(!fits("O", 238.1, 238.1));
-    assert!(!fits("L1", 238.2, 238.2));
-}
-
-#[test]
-fn vertical_gives_none_below_its_limits() {
-    let rails = |width, height, analog| {
-        let left = rect(0., 24., width, height);
-        let right = rect(1000. - width, 24., width, height);
-        picture::vertical(1000., 1000., left, right, analog, false)
-    };
-    // well = height - 14 - 2 * 44 - 2 * 8
-    assert_eq!(rails(200., 230., false).unwrap().dpad.w, 112.);
-    assert!(rails(200., 229.9, false).is_none());
-    assert!(rails(124., 300., false).is_some());
-    assert!(rails(123.9, 300., false).is_none());
-    // stick = height - 14 - 2 * 44 - 3 * 8 - 112
-    assert_eq!(rails(200., 334., true).unwrap().sticks[0].w, 96.);
-    assert!(rails(200., 333.9, true).is_none());
 }
 
 /// The nearest whole number to ten times `x`, halves upward: exact in f64.
@@ -303,26 +148,6 @@ fn film_example() {
         ("MUTE", [8840, 0, 400, 180]),
     ];
     assert_eq!(lines, sheet);
-}
-
-/// The written layout's length: game, elements and masks, each in its tag.
-#[test]
-fn written_lengths() {
-    for (psp, analog, length) in [
-        (false, false, 285),
-        (false, true, 353),
-        (true, false, 265),
-        (true, true, 265),
-    ] {
-        let preset = Preset {
-            psp,
-            analog,
-            ..Preset::default()
-        };
-        let layout = access::layout_with_cutouts(&preset, 1000., 1000., &[]);
-        let written = 3 + 16 + 3 + 16 * elements(&layout).len() + 3 + 2 * layout.controls.len();
-        assert_eq!(written, length);
-    }
 }
 
 #[test]

@@ -7,10 +7,9 @@ const ROOM: u16 = 353;
 /// What each of them was before.
 const FILL: u8 = 0xA5;
 
-/// The list of the cases. It panics where the Rust answers otherwise than the
-/// paper.
-pub fn list(text: &str) -> List {
-    let mut list = List::default();
+/// The cases of a text: each has a name, which stands alone, and lines under
+/// it that begin with a blank. A comment goes from `#` to the line's end.
+pub fn cases(text: &str) -> Vec<(&str, Vec<&str>)> {
     let mut cases: Vec<(&str, Vec<&str>)> = Vec::new();
     for line in text.lines() {
         let line = line.split('#').next().unwrap_or("").trim_end();
@@ -20,7 +19,14 @@ pub fn list(text: &str) -> List {
             _ => cases.push((line, Vec::new())),
         }
     }
-    for (name, lines) in cases {
+    cases
+}
+
+/// The list of the cases. It panics where the Rust answers otherwise than the
+/// paper.
+pub fn list(text: &str) -> List {
+    let mut list = List::default();
+    for (name, lines) in cases(text) {
         let (calls, fields): (Vec<&str>, Vec<&str>) =
             lines.iter().partition(|line| line.contains('='));
         let fields = fields.iter().flat_map(|line| line.split_whitespace());

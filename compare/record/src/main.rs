@@ -1,6 +1,7 @@
 //! Writes the lists that crates/replay runs, and prints what their orders are.
 mod cases;
 mod classes;
+mod functions;
 mod steps;
 
 use check::{
@@ -72,8 +73,14 @@ fn main() -> ExitCode {
     };
     let folder = Path::new(env!("CARGO_MANIFEST_DIR")).join("../../crates/replay/data");
     let (orders, tally) = orders();
-    let cases = cases::list(&fs::read_to_string(folder.join("cases.txt")).expect("cases.txt"));
-    for (name, list) in [("cases", cases), ("orders", orders)] {
+    let text = |name| fs::read_to_string(folder.join(name)).expect(name);
+    let cases = cases::list(&text("cases.txt"));
+    let functions = functions::list(&text("functions.txt"));
+    for (name, list) in [
+        ("cases", cases),
+        ("functions", functions),
+        ("orders", orders),
+    ] {
         let path = folder.join(name);
         if !check {
             fs::write(&path, &list.bytes).expect("the list is written");

@@ -1,5 +1,5 @@
 //! A list for crates/replay: steps, each with a head of 17 bytes (data/README.md
-//! there). All answers are the Rust's.
+//! there). The answers to orders are the Rust's.
 use check::{masks, nearest::nearest_hypot};
 use player::{
     order::{self, Answer, lent},
@@ -14,7 +14,8 @@ struct Step<'a> {
     at: [f32; 2],
     /// How many bytes are lent, or the previous mask.
     given: u16,
-    fill: u8,
+    /// What each lent byte was before, or a function's number.
+    mark: u8,
     answer: u32,
     bytes: &'a [u8],
 }
@@ -44,7 +45,7 @@ impl List {
             list.extend(n.to_be_bytes());
         }
         list.extend(step.given.to_be_bytes());
-        list.push(step.fill);
+        list.push(step.mark);
         list.extend(&step.answer.to_be_bytes()[1..]);
         list.extend((step.bytes.len() as u16).to_be_bytes());
         list.extend(step.bytes);
@@ -76,7 +77,7 @@ impl List {
             kind,
             at,
             given: room,
-            fill,
+            mark: fill,
             answer: number(answer),
             bytes: &out[..answer.unwrap_or(0).into()],
         });
@@ -112,5 +113,17 @@ impl List {
             ..Step::default()
         });
         text
+    }
+    /// A call of a function. Its words are the rectangle of the answer and the
+    /// arguments.
+    pub fn function(&mut self, function: u8, answer: Answer<u16>, words: &[u32]) {
+        let bytes: Vec<u8> = words.iter().flat_map(|word| word.to_be_bytes()).collect();
+        self.push(Step {
+            kind: b'F',
+            mark: function,
+            answer: number(answer),
+            bytes: &bytes,
+            ..Step::default()
+        });
     }
 }

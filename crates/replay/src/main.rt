@@ -8,10 +8,13 @@ use order::LayoutAnswer;
 use order::TouchAnswer;
 use tally::Tally;
 
+mod functions;
+mod layouts;
 mod tally;
 
 fn main() {
     replay(b"cases");
+    replay(b"functions");
     replay(b"orders");
 }
 
@@ -61,6 +64,7 @@ fn agrees(head: &[u8; 17], order: &[u8], bytes: &[u8]) -> bool {
         b'V' => viewport_agrees(head, order, bytes),
         b'T' => touch_agrees(head, order),
         b'S' => sheet_agrees(order, bytes),
+        b'F' => functions::agrees(head, bytes),
         _ => kind == b'N',
     }
 }
@@ -120,11 +124,11 @@ fn answer_of(head: &[u8; 17]) -> usize {
 }
 
 fn x_of(head: &[u8; 17]) -> f32 {
-    number(short(head[1], head[2]), short(head[3], head[4]))
+    number(word(head[1], head[2], head[3], head[4]))
 }
 
 fn y_of(head: &[u8; 17]) -> f32 {
-    number(short(head[5], head[6]), short(head[7], head[8]))
+    number(word(head[5], head[6], head[7], head[8]))
 }
 
 // `n`, or all of the bytes where they are fewer.
@@ -140,11 +144,12 @@ fn short(high: u8, low: u8) -> usize
     high as usize * 256 + low as usize
 }
 
+fn word(a: u8, b: u8, c: u8, d: u8) -> u32 {
+    (short(a, b) * 65536 + short(c, d)) as u32
+}
+
 // The f32 with a bit pattern; each NaN pattern gives the one NaN.
-fn number(high: usize, low: usize) -> f32
-    requires { ⌜ (high < 65536) × (low < 65536) ⌝ }
-{
-    let n = (high * 65536 + low) as u32;
+fn number(n: u32) -> f32 {
     if 0x7f80_0000 < n % 0x8000_0000 {
         0.0 / 0.0
     } else {

@@ -5,15 +5,6 @@ use borrow.Author.Needs.{needs}
 use Rattle.replay.proofs.number.Statement.{statement}
 use Rattle.replay.proofs.number.Tie as tie
 
-mul-n : tie.Need-mul-n
-mul-n c = search needs
-
-add-n : tie.Need-add-n
-add-n c = search needs
-
-cast-n : tie.Need-cast-n
-cast-n c = search needs
-
 float-from-bits-result : tie.Need-float-from-bits-result
 float-from-bits-result c = rw (nanBits-above binary32 _, le-ltb _ _ (c .if1 .left)) tt
 
@@ -24,4 +15,4 @@ returns-2 : tie.Need-returns-2
 returns-2 c = search needs
 
 pub number-spec : {M : Type 1} → statement M
-number-spec = tie.close (tie.spec mul-n add-n cast-n float-from-bits-result returns returns-2)
+number-spec = tie.close (tie.spec float-from-bits-result returns returns-2)

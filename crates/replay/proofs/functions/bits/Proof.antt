@@ -1,0 +1,10 @@
+use borrow.Author.Needs.{needs}
+use Rattle.float.proofs.Nan.{no-nan}
+use Rattle.replay.proofs.functions.bits.Statement.{statement}
+use Rattle.replay.proofs.functions.bits.Tie as tie
+
+float-to-bits-result : tie.Need-float-to-bits-result
+float-to-bits-result c = no-nan (c .before .args .x) (c .if1 .left)
+
+pub bits-spec : {M : Type 1} → statement M
+bits-spec = tie.close (tie.spec float-to-bits-result (λ c. search needs) (λ c. search needs))
