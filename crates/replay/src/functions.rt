@@ -40,7 +40,7 @@ fn call(function: u8, a: &[u8]) -> Answer {
         11..=14 => layouts::element(word_at(a, 0), layouts::layout(function, a)),
         15 => one(layouts::fits(a) as usize),
         16 => one(layouts::mask_near(a) as usize),
-        // No function, and no list's answer.
+        // There is no such function, and no list has this answer.
         _ => one(65535),
     }
 }
