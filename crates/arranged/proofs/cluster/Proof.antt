@@ -16,27 +16,6 @@ Inv-loop w h picture-height at count requested cluster₀ i₀ cluster i = (i �
 abbrev μ-loop : tie.MeasureT-loop
 μ-loop w h picture-height at count requested cluster₀ i₀ cluster i = count - i
 
-requested-requires : tie.Need-requested-requires Inv-loop μ-loop
-requested-requires c κs = search needs
-
-loop-holds : tie.Need-loop-holds Inv-loop μ-loop
-loop-holds c = (omega arith, refl)
-
-mul-c : tie.Need-mul-c Inv-loop μ-loop
-mul-c c = omega arith
-
-array-copy-out-c : tie.Need-array-copy-out-c Inv-loop μ-loop
-array-copy-out-c c = omega arith
-
-narrow-requires : tie.Need-narrow-requires Inv-loop μ-loop
-narrow-requires c κs = search needs
-
-add-i : tie.Need-add-i Inv-loop μ-loop
-add-i c = omega arith
-
-loop-less : tie.Need-loop-less Inv-loop μ-loop
-loop-less c = omega arith
-
 loop-again : tie.Need-loop-again Inv-loop μ-loop
 loop-again c =
     let l = c .before .before .before in
@@ -58,12 +37,12 @@ cluster-spec =
     (tie.spec
     Inv-loop
     μ-loop
-    requested-requires
-    loop-holds
-    mul-c
-    array-copy-out-c
-    narrow-requires
-    add-i
-    loop-less
+    (λ c κs. search needs)
+    (λ c. (omega arith, refl))
+    (λ c. omega arith)
+    (λ c. omega arith)
+    (λ c κs. search needs)
+    (λ c. omega arith)
+    (λ c. omega arith)
     loop-again
     returns)

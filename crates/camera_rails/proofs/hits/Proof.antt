@@ -20,25 +20,10 @@ loop-holds c =
     let k : length (c .args .t1 .at) ≡ 19 = search sized in
     (omega arith, omega arith, refl)
 
-mul-overlap : tie.Need-mul-overlap Inv-loop μ-loop
-mul-overlap c = omega arith
-
-element-copy-out-overlap : tie.Need-element-copy-out-overlap Inv-loop μ-loop
-element-copy-out-overlap c = omega arith
-
-overlap-requires : tie.Need-overlap-requires Inv-loop μ-loop
-overlap-requires c κs = search needs
-
 returns : tie.Need-returns Inv-loop μ-loop
 returns c =
     let l = c .before .before .before .before .loop in
     any-hit _ _ _ _ _ _ (l .inv .2) (next-of anyRect _ _ _ _ refl (l .inv .1) (c .before .before .before .loop-test .taken)) (c .before .overlap .ensures) (c .if1 .taken)
-
-add-i : tie.Need-add-i Inv-loop μ-loop
-add-i c = omega arith
-
-loop-less : tie.Need-loop-less Inv-loop μ-loop
-loop-less c = omega arith
 
 loop-again : tie.Need-loop-again Inv-loop μ-loop
 loop-again c =
@@ -57,11 +42,11 @@ hits-spec =
     Inv-loop
     μ-loop
     loop-holds
-    mul-overlap
-    element-copy-out-overlap
-    overlap-requires
+    (λ c. omega arith)
+    (λ c. omega arith)
+    (λ c κs. search needs)
     returns
-    add-i
-    loop-less
+    (λ c. omega arith)
+    (λ c. omega arith)
     loop-again
     returns-2)

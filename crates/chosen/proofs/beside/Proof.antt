@@ -9,9 +9,6 @@ use borrow.Author.Needs.{needs}
 use Rattle.chosen.proofs.beside.Statement.{statement}
 use Rattle.chosen.proofs.beside.Tie as tie
 
-controller-band-requires : tie.Need-controller-band-requires
-controller-band-requires c κs = search needs
-
 try-rails-requires : tie.Need-try-rails-requires
 try-rails-requires c κs = let l = c .before in
     let a = l .before .before .args in
@@ -37,4 +34,4 @@ returns-2 c = let l = c .before in
     rw (← e, c .if2 .left)
 
 pub beside-spec : {M : Type 1} → statement M
-beside-spec = tie.close (tie.spec controller-band-requires try-rails-requires returns returns-2)
+beside-spec = tie.close (tie.spec (λ c κs. search needs) try-rails-requires returns returns-2)

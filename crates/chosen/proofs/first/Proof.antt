@@ -7,12 +7,6 @@ use Rattle.chosen.proofs.first.Statement.{statement}
 use Rattle.chosen.proofs.first.Tie as tie
 use Rattle.chosen.specs.Chosen.{firstOf}
 
-start-requires : tie.Need-start-requires
-start-requires c κs = search needs
-
-max-requires : tie.Need-max-requires
-max-requires c κs = search needs
-
 anchor-toolbar-requires : tie.Need-anchor-toolbar-requires
 anchor-toolbar-requires c κs = let a = c .before .before .before .before .args in let n = few (a .analog || a .psp) (a .psp) (c .before .before .before .start .result) (c .before .before .before .start .ensures .1) in (c .before .before .before .before .pre, n .count, n .stickcount)
 
@@ -26,4 +20,4 @@ returns-2 c = let a = c .before .before .args in holds (OfMode (a .analog || a .
 
 pub first-spec : {M : Type 1} → statement M
 first-spec =
-    tie.close (tie.spec start-requires max-requires anchor-toolbar-requires returns returns-2)
+    tie.close (tie.spec (λ c κs. search needs) (λ c κs. search needs) anchor-toolbar-requires returns returns-2)

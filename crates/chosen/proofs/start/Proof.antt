@@ -7,22 +7,13 @@ use Rattle.chosen.proofs.start.Statement.{statement}
 use Rattle.chosen.proofs.start.Tie as tie
 use Rattle.chosen.specs.Chosen.{startOf}
 
-psp-requires : tie.Need-psp-requires
-psp-requires c κs = search needs
-
 returns : tie.Need-returns
 unfolding startOf
 returns c = let a = c .before .before .args in holds (OfMode (a .analog || a .psp) (a .psp)) (start-mode (a .w) (a .h) (cutoutList (a .cutouts)) (a .picture) (a .psp) (a .analog)) (rw (c .before .if1 .taken) (c .psp .ensures .0))
 
-analog-default-requires : tie.Need-analog-default-requires
-analog-default-requires c κs = search needs
-
 returns-2 : tie.Need-returns-2
 unfolding startOf
 returns-2 c = let a = c .before .before .before .args in holds (OfMode (a .analog || a .psp) (a .psp)) (start-mode (a .w) (a .h) (cutoutList (a .cutouts)) (a .picture) (a .psp) (a .analog)) (rw (c .before .before .if1 .left, c .before .if2 .taken) (c .analog-default .ensures .0))
-
-default-in-requires : tie.Need-default-in-requires
-default-in-requires c κs = search needs
 
 returns-3 : tie.Need-returns-3
 unfolding startOf
@@ -31,4 +22,4 @@ returns-3 c = let a = c .before .before .before .args in holds (OfMode (a .analo
 pub start-spec : {M : Type 1} → statement M
 start-spec =
     tie.close
-    (tie.spec psp-requires returns analog-default-requires returns-2 default-in-requires returns-3)
+    (tie.spec (λ c κs. search needs) returns (λ c κs. search needs) returns-2 (λ c κs. search needs) returns-3)

@@ -6,9 +6,6 @@ use Rattle.chosen.specs.Chosen.{tryRailsOf}
 use Rattle.chosen.specs.ChosenLabels.{Few, few, avoid-mode}
 use mathlib.Core.Bool.{true}
 
-analog-camera-rails-requires : tie.Need-analog-camera-rails-requires
-analog-camera-rails-requires c κs = search needs
-
 returns : tie.Need-returns
 unfolding tryRailsOf
 returns c = rw (← c .before .before .analog-camera-rails .ensures .0, not-true (c .before .before .analog-camera-rails .result .some) (c .if1 .taken))
@@ -16,14 +13,8 @@ returns c = rw (← c .before .before .analog-camera-rails .ensures .0, not-true
 avoid-cutouts-requires : tie.Need-avoid-cutouts-requires
 avoid-cutouts-requires c κs = let a = c .before .before .before .before .args in let n = few true (a .psp) (a .layout) (c .before .before .before .before .pre .1) in ((n .count, n .stickcount), (c .before .before .before .before .pre .0, n .faces))
 
-aspect-requires : tie.Need-aspect-requires
-aspect-requires c κs = search needs
-
 place-game-in-aspect-requires : tie.Need-place-game-in-aspect-requires
 place-game-in-aspect-requires c κs = let a = c .before .before .before .before .before .before .args in let n : Few (c .before .avoid-cutouts .result) = rw (c .before .avoid-cutouts .ensures) (few true (a .psp) _ (avoid-mode true (a .psp) (a .layout) (c .before .before .before .before .before .before .pre .1) _ _ _)) in (n .count, n .stickcount)
-
-rails-win-requires : tie.Need-rails-win-requires
-rails-win-requires c κs = search needs
 
 returns-2 : tie.Need-returns-2
 unfolding tryRailsOf
@@ -37,11 +28,11 @@ pub try-rails-spec : {M : Type 1} → statement M
 try-rails-spec =
     tie.close
     (tie.spec
-    analog-camera-rails-requires
+    (λ c κs. search needs)
     returns
     avoid-cutouts-requires
-    aspect-requires
+    (λ c κs. search needs)
     place-game-in-aspect-requires
-    rails-win-requires
+    (λ c κs. search needs)
     returns-2
     returns-3)

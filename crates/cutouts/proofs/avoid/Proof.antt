@@ -24,20 +24,8 @@ Inv-loop w h holes faces count out₀ i₀ out i = ((i ≤ count) × (out .count
 abbrev μ-loop : tie.MeasureT-loop
 μ-loop w h holes faces count out₀ i₀ out i = count - i
 
-settle-requires : tie.Need-settle-requires Inv-loop μ-loop
-settle-requires c κs = search needs
-
 loop-holds : tie.Need-loop-holds Inv-loop μ-loop
 loop-holds c = ((omega arith, c .settle .ensures .1), refl)
-
-in-group-requires : tie.Need-in-group-requires Inv-loop μ-loop
-in-group-requires c κs = search needs
-
-add-i : tie.Need-add-i Inv-loop μ-loop
-add-i c = omega arith
-
-loop-less : tie.Need-loop-less Inv-loop μ-loop
-loop-less c = omega arith
 
 loop-again : tie.Need-loop-again Inv-loop μ-loop
 loop-again c =
@@ -45,21 +33,6 @@ loop-again c =
     let l = c .before .before .before .loop in
     let h : l .i < s .args .elements .count = c .before .before .loop-test .taken in
     ((omega arith, l .inv .0 .1), l .inv .1 ∙ ap (foldl (settleOf (s .args .w) (s .args .h) (cutoutList (s .args .holes))) (elementList (c .before .before .before .before .settle .result))) (sym (no-more (λ i. not (inGroupOf (groupList (s .args .faces)) i)) (λ (i : ℕ). i ∷ []) (range 0 (s .args .elements .count)) (l .i) 0 (below-range (s .args .elements .count) (l .i) h) {flag = not (c .before .in-group .result)} (rw (range-at (s .args .elements .count) (l .i) h, c .before .in-group .ensures)) (rw (c .if1 .taken)))))
-
-mul-overlap : tie.Need-mul-overlap Inv-loop μ-loop
-mul-overlap c = omega arith
-
-element-copy-out-overlap : tie.Need-element-copy-out-overlap Inv-loop μ-loop
-element-copy-out-overlap c = omega arith
-
-overlap-requires : tie.Need-overlap-requires Inv-loop μ-loop
-overlap-requires c κs = search needs
-
-add-i-2 : tie.Need-add-i-2 Inv-loop μ-loop
-add-i-2 c = omega arith
-
-loop-less-2 : tie.Need-loop-less-2 Inv-loop μ-loop
-loop-less-2 c = omega arith
 
 loop-again-2 : tie.Need-loop-again-2 Inv-loop μ-loop
 loop-again-2 c =
@@ -73,21 +46,12 @@ loop-again-2 c =
           (sym (missed (s .args .w) (s .args .h) (cutoutList (s .args .holes)) (l .out .at) (l .out .count) (l .i) n (sym (c .before .overlap .ensures) ∙ not-true _ (c .if2 .taken)))),
     )
 
-single-requires : tie.Need-single-requires Inv-loop μ-loop
-single-requires c κs = search needs
-
 settle-requires-2 : tie.Need-settle-requires-2 Inv-loop μ-loop
 settle-requires-2 c κs =
     let s = c .before .before .before .before .before .before .before .before .before in
     let l = c .before .before .before .before .before .before .before .loop in
     let h : l .i < s .args .elements .count = c .before .before .before .before .before .before .loop-test .taken in
     ((omega arith, (omega arith, omega arith)), below-one (l .out .count) (l .i) _ (omega arith) (c .single .ensures .0))
-
-add-i-3 : tie.Need-add-i-3 Inv-loop μ-loop
-add-i-3 c = omega arith
-
-loop-less-3 : tie.Need-loop-less-3 Inv-loop μ-loop
-loop-less-3 c = omega arith
 
 loop-again-3 : tie.Need-loop-again-3 Inv-loop μ-loop
 loop-again-3 c =
@@ -115,21 +79,21 @@ avoid-spec =
     (tie.spec
     Inv-loop
     μ-loop
-    settle-requires
+    (λ c κs. search needs)
     loop-holds
-    in-group-requires
-    add-i
-    loop-less
+    (λ c κs. search needs)
+    (λ c. omega arith)
+    (λ c. omega arith)
     loop-again
-    mul-overlap
-    element-copy-out-overlap
-    overlap-requires
-    add-i-2
-    loop-less-2
+    (λ c. omega arith)
+    (λ c. omega arith)
+    (λ c κs. search needs)
+    (λ c. omega arith)
+    (λ c. omega arith)
     loop-again-2
-    single-requires
+    (λ c κs. search needs)
     settle-requires-2
-    add-i-3
-    loop-less-3
+    (λ c. omega arith)
+    (λ c. omega arith)
     loop-again-3
     returns)

@@ -15,9 +15,6 @@ returns : tie.Need-returns
 unfolding avoidCutoutsOf
 returns c = rw (c .if1 .taken)
 
-with-area-requires : tie.Need-with-area-requires
-with-area-requires c κs = search needs
-
 returns-2 : tie.Need-returns-2
 unfolding avoidCutoutsOf
 returns-2 c =
@@ -27,17 +24,8 @@ returns-2 c =
     let q : length (withAreaOf (cutoutList (s .args .cutouts))) ≡ a .result .count = ap length (sym (a .ensures .0)) ∙ length-take-le (a .result .count) (a .result .at) (omega (arith, a .ensures .1)) in
     rw (eq-eqb _ 0 (q ∙ c .if2 .taken))
 
-faces-requires : tie.Need-faces-requires
-faces-requires c κs = search needs
-
-elements-requires : tie.Need-elements-requires
-elements-requires c κs = search needs
-
 avoid-requires : tie.Need-avoid-requires
 avoid-requires c κs = ((omega arith, (omega arith, omega arith)), rw (c .elements .ensures .1) (c .before .faces .ensures .1 .1))
-
-set-elements-requires : tie.Need-set-elements-requires
-set-elements-requires c κs = search needs
 
 returns-3 : tie.Need-returns-3
 unfolding avoidCutoutsOf
@@ -53,10 +41,10 @@ avoid-cutouts-spec =
     tie.close
     (tie.spec
     returns
-    with-area-requires
+    (λ c κs. search needs)
     returns-2
-    faces-requires
-    elements-requires
+    (λ c κs. search needs)
+    (λ c κs. search needs)
     avoid-requires
-    set-elements-requires
+    (λ c κs. search needs)
     returns-3)

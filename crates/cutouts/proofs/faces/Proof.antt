@@ -25,21 +25,6 @@ abbrev μ-loop : tie.MeasureT-loop
 loop-holds : tie.Need-loop-holds Inv-loop μ-loop
 loop-holds c = ((omega arith, omega arith), ((search sized, refl), refl))
 
-mul-c : tie.Need-mul-c Inv-loop μ-loop
-mul-c c = omega arith
-
-array-copy-out-c : tie.Need-array-copy-out-c Inv-loop μ-loop
-array-copy-out-c c = omega arith
-
-is-face-requires : tie.Need-is-face-requires Inv-loop μ-loop
-is-face-requires c κs = search needs
-
-add-i : tie.Need-add-i Inv-loop μ-loop
-add-i c = omega arith
-
-loop-less : tie.Need-loop-less Inv-loop μ-loop
-loop-less c = omega arith
-
 loop-again : tie.Need-loop-again Inv-loop μ-loop
 loop-again c =
     let s = c .before .before .before .before .before .before in
@@ -49,12 +34,6 @@ loop-again c =
     let h : l .i < s .args .l .count = c .before .before .before .loop-test .taken in
     let j : l .i < length (enumerateFrom 1 (take (s .args .l .count) (s .args .l .controls))) = omega (arith, length-faces (s .args .l .controls) (s .args .l .count) k) in
     ((omega arith, omega arith), (l .inv .1 .0, filterMap-skip (λ (e : ℕ × Control). isFaceOf (e .1 .label)) (λ (e : ℕ × Control). e .0) (enumerateFrom 1 (take (s .args .l .count) (s .args .l .controls))) (l .i) (0, anyControl) (l .at) (l .count) j (l .inv .1 .1) (c .before .is-face .ensures ∙ rw (face-at (s .args .l .controls) (s .args .l .count) k (l .i) h)) (not-true _ (c .if1 .taken))))
-
-add-at : tie.Need-add-at Inv-loop μ-loop
-add-at c = omega arith
-
-mul-at : tie.Need-mul-at Inv-loop μ-loop
-mul-at c = omega arith
 
 array-write-at : tie.Need-array-write-at Inv-loop μ-loop
 unfolding actionElementsOf
@@ -66,15 +45,6 @@ array-write-at c =
     let h : l .i < s .args .l .count = c .before .before .before .loop-test .taken in
     let j : l .i < length (enumerateFrom 1 (take (s .args .l .count) (s .args .l .controls))) = omega (arith, length-faces (s .args .l .controls) (s .args .l .count) k) in
     omega (arith, room (λ (e : ℕ × Control). isFaceOf (e .1 .label)) (λ (e : ℕ × Control). e .0) (enumerateFrom 1 (take (s .args .l .count) (s .args .l .controls))) (l .i) (0, anyControl) (l .at) (l .count) 4 j (c .before .is-face .ensures ∙ rw (face-at (s .args .l .controls) (s .args .l .count) k (l .i) h)) (not-false _ (c .if1 .left)) (omega arith) (l .inv .1 .1) (s .pre .1))
-
-add-count : tie.Need-add-count Inv-loop μ-loop
-add-count c = omega arith
-
-add-i-2 : tie.Need-add-i-2 Inv-loop μ-loop
-add-i-2 c = omega arith
-
-loop-less-2 : tie.Need-loop-less-2 Inv-loop μ-loop
-loop-less-2 c = omega arith
 
 loop-again-2 : tie.Need-loop-again-2 Inv-loop μ-loop
 unfolding actionElementsOf
@@ -105,17 +75,17 @@ faces-spec =
     Inv-loop
     μ-loop
     loop-holds
-    mul-c
-    array-copy-out-c
-    is-face-requires
-    add-i
-    loop-less
+    (λ c. omega arith)
+    (λ c. omega arith)
+    (λ c κs. search needs)
+    (λ c. omega arith)
+    (λ c. omega arith)
     loop-again
-    add-at
-    mul-at
+    (λ c. omega arith)
+    (λ c. omega arith)
     array-write-at
-    add-count
-    add-i-2
-    loop-less-2
+    (λ c. omega arith)
+    (λ c. omega arith)
+    (λ c. omega arith)
     loop-again-2
     returns)

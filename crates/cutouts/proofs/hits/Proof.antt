@@ -15,28 +15,10 @@ Inv-loop m holes original i₀ i = (i ≤ m) × (m ≤ length original) × (hits
 abbrev μ-loop : tie.MeasureT-loop
 μ-loop m holes original i₀ i = m - i
 
-loop-holds : tie.Need-loop-holds Inv-loop μ-loop
-loop-holds c = (omega arith, omega arith, refl)
-
-mul-overlap : tie.Need-mul-overlap Inv-loop μ-loop
-mul-overlap c = omega arith
-
-array-copy-out-overlap : tie.Need-array-copy-out-overlap Inv-loop μ-loop
-array-copy-out-overlap c = omega arith
-
-overlap-requires : tie.Need-overlap-requires Inv-loop μ-loop
-overlap-requires c κs = search needs
-
 returns : tie.Need-returns Inv-loop μ-loop
 returns c =
     let l = c .before .before .before .before .loop in
     any-hit _ _ _ _ _ _ (l .inv .2) (next-of anyRect _ _ _ _ refl (l .inv .1) (c .before .before .before .loop-test .taken)) (c .before .overlap .ensures) (c .if1 .taken)
-
-add-i : tie.Need-add-i Inv-loop μ-loop
-add-i c = omega arith
-
-loop-less : tie.Need-loop-less Inv-loop μ-loop
-loop-less c = omega arith
 
 loop-again : tie.Need-loop-again Inv-loop μ-loop
 loop-again c =
@@ -54,12 +36,12 @@ hits-spec =
     (tie.spec
     Inv-loop
     μ-loop
-    loop-holds
-    mul-overlap
-    array-copy-out-overlap
-    overlap-requires
+    (λ c. (omega arith, omega arith, refl))
+    (λ c. omega arith)
+    (λ c. omega arith)
+    (λ c κs. search needs)
     returns
-    add-i
-    loop-less
+    (λ c. omega arith)
+    (λ c. omega arith)
     loop-again
     returns-2)

@@ -20,24 +20,12 @@ abbrev μ-loop : tie.MeasureT-loop
 loop-holds : tie.Need-loop-holds Inv-loop μ-loop
 loop-holds c = ((omega arith, search sized), refl)
 
-mul-if1 : tie.Need-mul-if1 Inv-loop μ-loop
-mul-if1 c = omega arith
-
-array-read-if1 : tie.Need-array-read-if1 Inv-loop μ-loop
-array-read-if1 c = omega arith
-
 returns : tie.Need-returns Inv-loop μ-loop
 unfolding inGroupOf
 returns c =
     let s = c .before .before .before .before in
     let l = c .before .before .loop in
     any-hit (λ j. eqb j (s .args .i)) _ _ _ (anyOf (λ j. eqb j (s .args .i)) (take (s .args .group .count) (s .args .group .at))) true (l .inv .1) (next-of 0 (s .args .group .at) 4 (s .args .group .count) (l .k) (l .inv .0 .1) (s .pre) (c .before .loop-test .taken)) (sym (eq-eqb _ _ (c .if1 .taken))) refl
-
-add-k : tie.Need-add-k Inv-loop μ-loop
-add-k c = omega arith
-
-loop-less : tie.Need-loop-less Inv-loop μ-loop
-loop-less c = omega arith
 
 loop-again : tie.Need-loop-again Inv-loop μ-loop
 loop-again c =
@@ -59,10 +47,10 @@ in-group-spec =
     Inv-loop
     μ-loop
     loop-holds
-    mul-if1
-    array-read-if1
+    (λ c. omega arith)
+    (λ c. omega arith)
     returns
-    add-k
-    loop-less
+    (λ c. omega arith)
+    (λ c. omega arith)
     loop-again
     returns-2)

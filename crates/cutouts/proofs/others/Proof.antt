@@ -23,42 +23,12 @@ abbrev μ-loop : tie.MeasureT-loop
 loop-holds : tie.Need-loop-holds Inv-loop μ-loop
 loop-holds c = ((omega arith, omega arith), ((search sized, search sized), refl))
 
-in-group-requires : tie.Need-in-group-requires Inv-loop μ-loop
-in-group-requires c κs = search needs
-
-add-i : tie.Need-add-i Inv-loop μ-loop
-add-i c = omega arith
-
-loop-less : tie.Need-loop-less Inv-loop μ-loop
-loop-less c = omega arith
-
 loop-again : tie.Need-loop-again Inv-loop μ-loop
 loop-again c =
     let s = c .before .before .before .before .before in
     let l = c .before .before .before .loop in
     let h : l .i < s .args .elements .count = c .before .before .loop-test .taken in
     ((omega arith, omega arith), (l .inv .1 .0, filterMap-skip (λ i. not (inGroupOf (groupList (s .args .group)) i)) (λ i. getD (take (s .args .elements .count) (s .args .elements .at)) i anyRect) (range 0 (s .args .elements .count)) (l .i) 0 (l .out) (l .count) {flag = not (c .before .in-group .result)} (below-range (s .args .elements .count) (l .i) h) (l .inv .1 .1) (rw (range-at (s .args .elements .count) (l .i) h, c .before .in-group .ensures)) (rw (c .if1 .taken))))
-
-mul-out : tie.Need-mul-out Inv-loop μ-loop
-mul-out c = omega arith
-
-array-copy-out-out : tie.Need-array-copy-out-out Inv-loop μ-loop
-array-copy-out-out c = omega arith
-
-mul-out-2 : tie.Need-mul-out-2 Inv-loop μ-loop
-mul-out-2 c = omega arith
-
-array-set-from-out : tie.Need-array-set-from-out Inv-loop μ-loop
-array-set-from-out c = omega arith
-
-add-count : tie.Need-add-count Inv-loop μ-loop
-add-count c = omega arith
-
-add-i-2 : tie.Need-add-i-2 Inv-loop μ-loop
-add-i-2 c = omega arith
-
-loop-less-2 : tie.Need-loop-less-2 Inv-loop μ-loop
-loop-less-2 c = omega arith
 
 loop-again-2 : tie.Need-loop-again-2 Inv-loop μ-loop
 loop-again-2 c =
@@ -84,16 +54,16 @@ others-spec =
     Inv-loop
     μ-loop
     loop-holds
-    in-group-requires
-    add-i
-    loop-less
+    (λ c κs. search needs)
+    (λ c. omega arith)
+    (λ c. omega arith)
     loop-again
-    mul-out
-    array-copy-out-out
-    mul-out-2
-    array-set-from-out
-    add-count
-    add-i-2
-    loop-less-2
+    (λ c. omega arith)
+    (λ c. omega arith)
+    (λ c. omega arith)
+    (λ c. omega arith)
+    (λ c. omega arith)
+    (λ c. omega arith)
+    (λ c. omega arith)
     loop-again-2
     returns)

@@ -9,12 +9,6 @@ use borrow.Author.Needs.{needs}
 use Rattle.cutouts.proofs.settle.Statement.{statement}
 use Rattle.cutouts.proofs.settle.Tie as tie
 
-members-requires : tie.Need-members-requires
-members-requires c κs = search needs
-
-hits-requires : tie.Need-hits-requires
-hits-requires c κs = search needs
-
 returns : tie.Need-returns
 unfolding settleOf
 returns c =
@@ -22,15 +16,6 @@ returns c =
     let m = c .before .before .members in
     let q = c .before .hits in
     (cond-no (hitsOf (membersOf (elementList (s .args .elements)) (groupList (s .args .group))) (cutoutList (s .args .holes))) _ _ (q .ensures ∙ ap (λ (o : List Rect). hitsOf o (cutoutList (s .args .holes))) (m .ensures)) (not-true _ (c .if1 .taken)) refl, refl)
-
-others-requires : tie.Need-others-requires
-others-requires c κs = search needs
-
-search-requires : tie.Need-search-requires
-search-requires c κs = search needs
-
-shift-requires : tie.Need-shift-requires
-shift-requires c κs = search needs
 
 returns-2 : tie.Need-returns-2
 unfolding settleOf
@@ -47,10 +32,10 @@ pub settle-spec : {M : Type 1} → statement M
 settle-spec =
     tie.close
     (tie.spec
-    members-requires
-    hits-requires
+    (λ c κs. search needs)
+    (λ c κs. search needs)
     returns
-    others-requires
-    search-requires
-    shift-requires
+    (λ c κs. search needs)
+    (λ c κs. search needs)
+    (λ c κs. search needs)
     returns-2)

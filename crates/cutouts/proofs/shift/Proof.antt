@@ -4,15 +4,6 @@ use borrow.Author.Needs.{needs}
 use Rattle.cutouts.proofs.shift.Statement.{statement}
 use Rattle.cutouts.proofs.shift.Tie as tie
 
-enum-told : tie.Need-enum-told
-enum-told c = search needs
-
-enum-known-to : tie.Need-enum-known-to
-enum-known-to c = search needs
-
-shift-by-requires : tie.Need-shift-by-requires
-shift-by-requires c κs = search needs
-
 returns : tie.Need-returns
 unfolding shiftOf
 returns c = (rw (c .enum-told .given .1), refl)
@@ -22,4 +13,4 @@ unfolding shiftOf
 returns-2 c = (rw (c .before .before .to .given .1) (c .shift-by .ensures .0), c .shift-by .ensures .1)
 
 pub shift-spec : {M : Type 1} → statement M
-shift-spec = tie.close (tie.spec enum-told enum-known-to shift-by-requires returns returns-2)
+shift-spec = tie.close (tie.spec (λ c. search needs) (λ c. search needs) (λ c κs. search needs) returns returns-2)

@@ -23,12 +23,6 @@ abbrev μ-loop : tie.MeasureT-loop
 loop-holds : tie.Need-loop-holds Inv-loop μ-loop
 loop-holds c = ((omega arith, (search sized, search sized)), refl)
 
-mul-i : tie.Need-mul-i Inv-loop μ-loop
-mul-i c = omega arith
-
-array-read-i : tie.Need-array-read-i Inv-loop μ-loop
-array-read-i c = omega arith
-
 mul-moved : tie.Need-mul-moved Inv-loop μ-loop
 mul-moved c =
     let s = c .before .before .before .before in
@@ -45,9 +39,6 @@ array-copy-out-moved c =
     let b : getD (s .args .group .at) (l .k) 0 < s .args .elements .count = below-index (s .args .elements .count) (s .args .group .at) (s .args .group .count) (l .k) (s .pre .1) (omega arith) (c .loop-test .taken) in
     omega arith
 
-moved-requires : tie.Need-moved-requires Inv-loop μ-loop
-moved-requires c κs = search needs
-
 mul-el : tie.Need-mul-el Inv-loop μ-loop
 mul-el c =
     let s = c .before .before .before .before .before .before in
@@ -63,12 +54,6 @@ array-set-from-el c =
     let g = l .inv .0 in
     let b : getD (s .args .group .at) (l .k) 0 < s .args .elements .count = below-index (s .args .elements .count) (s .args .group .at) (s .args .group .count) (l .k) (s .pre .1) (omega arith) (c .before .before .loop-test .taken) in
     omega arith
-
-add-k : tie.Need-add-k Inv-loop μ-loop
-add-k c = omega arith
-
-loop-less : tie.Need-loop-less Inv-loop μ-loop
-loop-less c = omega arith
 
 loop-again : tie.Need-loop-again Inv-loop μ-loop
 loop-again c =
@@ -95,14 +80,14 @@ shift-by-spec =
     Inv-loop
     μ-loop
     loop-holds
-    mul-i
-    array-read-i
+    (λ c. omega arith)
+    (λ c. omega arith)
     mul-moved
     array-copy-out-moved
-    moved-requires
+    (λ c κs. search needs)
     mul-el
     array-set-from-el
-    add-k
-    loop-less
+    (λ c. omega arith)
+    (λ c. omega arith)
     loop-again
     returns)

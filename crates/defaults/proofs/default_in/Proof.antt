@@ -8,21 +8,6 @@ use Rattle.defaults.specs.DefaultLabels.{default-formed}
 use Rattle.defaults.proofs.default_in.Statement.{statement}
 use Rattle.defaults.proofs.default_in.Tie as tie
 
-docked-requires : tie.Need-docked-requires
-docked-requires c κs = search needs
-
-clear-requires : tie.Need-clear-requires
-clear-requires c κs = search needs
-
-try-dock-requires : tie.Need-try-dock-requires
-try-dock-requires c κs = search needs
-
-try-side-requires : tie.Need-try-side-requires
-try-side-requires c κs = search needs
-
-try-band-requires : tie.Need-try-band-requires
-try-band-requires c κs = search needs
-
 returns : tie.Need-returns
 unfolding defaultInOf
 returns c =
@@ -35,9 +20,9 @@ pub default-in-spec : {M : Type 1} → statement M
 default-in-spec =
     tie.close
     (tie.spec
-    docked-requires
-    clear-requires
-    try-dock-requires
-    try-side-requires
-    try-band-requires
+    (λ c κs. search needs)
+    (λ c κs. search needs)
+    (λ c κs. search needs)
+    (λ c κs. search needs)
+    (λ c κs. search needs)
     returns)

@@ -3,12 +3,6 @@ use Rattle.defaults.specs.Defaults.{tryBandOf}
 use Rattle.defaults.proofs.try_band.Statement.{statement}
 use Rattle.defaults.proofs.try_band.Tie as tie
 
-controller-band-requires : tie.Need-controller-band-requires
-controller-band-requires c κs = search needs
-
-wider-requires : tie.Need-wider-requires
-wider-requires c κs = search needs
-
 returns : tie.Need-returns
 unfolding tryBandOf
 returns c = rw (← c .before .before .before .controller-band .ensures .0, c .before .before .if1 .taken) (c .wider .ensures)
@@ -18,4 +12,4 @@ unfolding tryBandOf
 returns-2 c = rw (← c .before .controller-band .ensures .0, c .if1 .left)
 
 pub try-band-spec : {M : Type 1} → statement M
-try-band-spec = tie.close (tie.spec controller-band-requires wider-requires returns returns-2)
+try-band-spec = tie.close (tie.spec (λ c κs. search needs) (λ c κs. search needs) returns returns-2)

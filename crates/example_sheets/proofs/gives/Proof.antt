@@ -5,27 +5,18 @@ use Rattle.film_sheet.specs.FilmLaws.{film-within}
 use Rattle.example_sheets.proofs.gives.Statement.{statement}
 use Rattle.example_sheets.proofs.gives.Tie as tie
 
-film-sheet-requires : tie.Need-film-sheet-requires
-film-sheet-requires c κs = search needs
-
 array-share-prefix-bytes : tie.Need-array-share-prefix-bytes
 array-share-prefix-bytes c = rw (c .before .film-sheet .ensures) (film-within _)
 
 slice-aggregate-same : tie.Need-slice-aggregate-same
 slice-aggregate-same c = rw (c .before .before .film-sheet .ensures) (sym (length-take-le _ _ (film-within _)))
 
-same-requires : tie.Need-same-requires
-same-requires c κs = search needs
-
-returns : tie.Need-returns
-returns c = search needs
-
 pub gives-spec : {M : Type 1} → statement M
 gives-spec =
     tie.close
     (tie.spec
-    film-sheet-requires
+    (λ c κs. search needs)
     array-share-prefix-bytes
     slice-aggregate-same
-    same-requires
-    returns)
+    (λ c κs. search needs)
+    (λ c. search needs))

@@ -10,12 +10,6 @@ use Rattle.film_sheet.specs.FilmLaws.{order-bounded}
 use Rattle.film_sheet.proofs.film_sheet.Statement.{statement}
 use Rattle.film_sheet.proofs.film_sheet.Tie as tie
 
-read-order-requires : tie.Need-read-order-requires
-read-order-requires c κs = search needs
-
-cast-refused-sheet : tie.Need-cast-refused-sheet
-cast-refused-sheet c = search needs
-
 refused-sheet-requires : tie.Need-refused-sheet-requires
 refused-sheet-requires c κs =
     let b = refused-order _ (read-refused _ (c .before .before .before .read-order .ensures) (c .before .if1 .taken)) in omega arith
@@ -43,8 +37,8 @@ pub film-sheet-spec : {M : Type 1} → statement M
 film-sheet-spec =
     tie.close
     (tie.spec
-    read-order-requires
-    cast-refused-sheet
+    (λ c κs. search needs)
+    (λ c. search needs)
     refused-sheet-requires
     returns
     settings-layout-requires

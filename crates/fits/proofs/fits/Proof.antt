@@ -17,42 +17,21 @@ Inv-loop w h game holes inputs n i₀ i = (i ≤ n) × (n ≤ length (inputs .at
 abbrev μ-loop : tie.MeasureT-loop
 μ-loop w h game holes inputs n i₀ i = n - i
 
-inputs-requires : tie.Need-inputs-requires Inv-loop μ-loop
-inputs-requires c κs = search needs
-
 loop-holds : tie.Need-loop-holds Inv-loop μ-loop
 loop-holds c =
     let k : length (c .inputs .result .at) ≡ 15 = search sized in
     (omega arith, omega arith, refl)
-
-mul-a : tie.Need-mul-a Inv-loop μ-loop
-mul-a c = omega arith
-
-element-copy-out-a : tie.Need-element-copy-out-a Inv-loop μ-loop
-element-copy-out-a c = omega arith
-
-free-requires : tie.Need-free-requires Inv-loop μ-loop
-free-requires c κs = search needs
 
 returns : tie.Need-returns Inv-loop μ-loop
 returns c =
     let l = c .before .before .before .before in
     not-free _ _ _ _ _ _ _ _ (l .before .inputs .ensures .0) (l .loop .inv .2) (l .loop .inv .1) _ (c .before .before .before .loop-test .taken) (sym (c .before .free .ensures) ∙ not-true _ (c .if1 .taken))
 
-separate-after-requires : tie.Need-separate-after-requires Inv-loop μ-loop
-separate-after-requires c κs = search needs
-
 returns-2 : tie.Need-returns-2 Inv-loop μ-loop
 returns-2 c =
     let e = c .before .before .before in
     let l = e .before .before .before in
     not-separate _ _ _ _ _ _ _ _ (l .before .inputs .ensures .0) (l .loop .inv .2) (l .loop .inv .1) _ (e .before .before .loop-test .taken) (sym (e .free .ensures) ∙ not-false _ (c .before .before .if1 .left)) (sym (not-true _ (c .if2 .taken)) ∙ c .before .separate-after .ensures)
-
-add-i : tie.Need-add-i Inv-loop μ-loop
-add-i c = omega arith
-
-loop-less : tie.Need-loop-less Inv-loop μ-loop
-loop-less c = omega arith
 
 loop-again : tie.Need-loop-again Inv-loop μ-loop
 loop-again c =
@@ -71,15 +50,15 @@ fits-spec =
     (tie.spec
     Inv-loop
     μ-loop
-    inputs-requires
+    (λ c κs. search needs)
     loop-holds
-    mul-a
-    element-copy-out-a
-    free-requires
+    (λ c. omega arith)
+    (λ c. omega arith)
+    (λ c κs. search needs)
     returns
-    separate-after-requires
+    (λ c κs. search needs)
     returns-2
-    add-i
-    loop-less
+    (λ c. omega arith)
+    (λ c. omega arith)
     loop-again
     returns-3)

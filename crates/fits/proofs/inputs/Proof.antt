@@ -21,69 +21,12 @@ Inv-loop l n controls sticks face at₀ i₀ at i = (i ≤ n) × (length at ≡ 
 abbrev μ-loop : tie.MeasureT-loop
 μ-loop l n controls sticks face at₀ i₀ at i = n - i
 
-loop-holds : tie.Need-loop-holds Inv-loop μ-loop
-loop-holds c = (omega arith, refl, refl)
-
-mul-c : tie.Need-mul-c Inv-loop μ-loop
-mul-c c = omega arith
-
-array-copy-out-c : tie.Need-array-copy-out-c Inv-loop μ-loop
-array-copy-out-c c = omega arith
-
-is-face-requires : tie.Need-is-face-requires Inv-loop μ-loop
-is-face-requires c κs = search needs
-
-add-at : tie.Need-add-at Inv-loop μ-loop
-add-at c = omega arith
-
-mul-at : tie.Need-mul-at Inv-loop μ-loop
-mul-at c = omega arith
-
-array-set-from-at : tie.Need-array-set-from-at Inv-loop μ-loop
-array-set-from-at c = omega arith
-
-add-i : tie.Need-add-i Inv-loop μ-loop
-add-i c = omega arith
-
-loop-less : tie.Need-loop-less Inv-loop μ-loop
-loop-less c = omega arith
-
 loop-again : tie.Need-loop-again Inv-loop μ-loop
 loop-again c =
     let l = c .before .before .before .before in
     let s = l .before .before .before .before in
     let k : length (s .args .l .controls) ≡ 12 = search sized in
     (omega arith, rw length-set (l .loop .inv .1), rw (c .is-face .ensures) (map-put fromControl (s .args .l .controls) (l .loop .i) _ (input (s .args .l .dpad) false ∷ []) (l .loop .at) (l .loop .i + 1) (omega arith) (omega arith) (l .loop .inv .2)))
-
-array-copy-out-bounds : tie.Need-array-copy-out-bounds Inv-loop μ-loop
-array-copy-out-bounds c = omega arith
-
-add-at-2 : tie.Need-add-at-2 Inv-loop μ-loop
-add-at-2 c = omega arith
-
-mul-at-2 : tie.Need-mul-at-2 Inv-loop μ-loop
-mul-at-2 c = omega arith
-
-array-set-from-at-2 : tie.Need-array-set-from-at-2 Inv-loop μ-loop
-array-set-from-at-2 c = omega arith
-
-array-copy-out-bounds-2 : tie.Need-array-copy-out-bounds-2 Inv-loop μ-loop
-array-copy-out-bounds-2 c = omega arith
-
-add-at-3 : tie.Need-add-at-3 Inv-loop μ-loop
-add-at-3 c = omega arith
-
-mul-at-3 : tie.Need-mul-at-3 Inv-loop μ-loop
-mul-at-3 c = omega arith
-
-array-set-from-at-3 : tie.Need-array-set-from-at-3 Inv-loop μ-loop
-array-set-from-at-3 c = omega arith
-
-add-t29 : tie.Need-add-t29 Inv-loop μ-loop
-add-t29 c = omega arith
-
-add-t28 : tie.Need-add-t28 Inv-loop μ-loop
-add-t28 c = omega arith
 
 returns : tie.Need-returns Inv-loop μ-loop
 unfolding inputsOf
@@ -106,24 +49,24 @@ inputs-spec =
     (tie.spec
     Inv-loop
     μ-loop
-    loop-holds
-    mul-c
-    array-copy-out-c
-    is-face-requires
-    add-at
-    mul-at
-    array-set-from-at
-    add-i
-    loop-less
+    (λ c. (omega arith, refl, refl))
+    (λ c. omega arith)
+    (λ c. omega arith)
+    (λ c κs. search needs)
+    (λ c. omega arith)
+    (λ c. omega arith)
+    (λ c. omega arith)
+    (λ c. omega arith)
+    (λ c. omega arith)
     loop-again
-    array-copy-out-bounds
-    add-at-2
-    mul-at-2
-    array-set-from-at-2
-    array-copy-out-bounds-2
-    add-at-3
-    mul-at-3
-    array-set-from-at-3
-    add-t29
-    add-t28
+    (λ c. omega arith)
+    (λ c. omega arith)
+    (λ c. omega arith)
+    (λ c. omega arith)
+    (λ c. omega arith)
+    (λ c. omega arith)
+    (λ c. omega arith)
+    (λ c. omega arith)
+    (λ c. omega arith)
+    (λ c. omega arith)
     returns)

@@ -16,33 +16,15 @@ Inv-loop a i inputs n j₀ j = (j ≤ n) × (n ≤ length (inputs .at)) × (allO
 abbrev μ-loop : tie.MeasureT-loop
 μ-loop a i inputs n j₀ j = n - j
 
-add-j : tie.Need-add-j Inv-loop μ-loop
-add-j c = omega arith
-
 loop-holds : tie.Need-loop-holds Inv-loop μ-loop
 loop-holds c =
     let m : length (c .args .t2 .at) ≡ 15 = search sized in
     (omega arith, omega arith, refl)
 
-mul-separate : tie.Need-mul-separate Inv-loop μ-loop
-mul-separate c = omega arith
-
-element-copy-out-separate : tie.Need-element-copy-out-separate Inv-loop μ-loop
-element-copy-out-separate c = omega arith
-
-separate-requires : tie.Need-separate-requires Inv-loop μ-loop
-separate-requires c κs = search needs
-
 returns : tie.Need-returns Inv-loop μ-loop
 returns c =
     let l = c .before .before .before .before .loop in
     all-miss _ _ _ _ _ _ (l .inv .2) (next-of _ _ _ _ _ refl (l .inv .1) (c .before .before .before .loop-test .taken)) (c .before .separate .ensures) (not-true _ (c .if1 .taken))
-
-add-j-2 : tie.Need-add-j-2 Inv-loop μ-loop
-add-j-2 c = omega arith
-
-loop-less : tie.Need-loop-less Inv-loop μ-loop
-loop-less c = omega arith
 
 loop-again : tie.Need-loop-again Inv-loop μ-loop
 loop-again c =
@@ -60,13 +42,13 @@ separate-after-spec =
     (tie.spec
     Inv-loop
     μ-loop
-    add-j
+    (λ c. omega arith)
     loop-holds
-    mul-separate
-    element-copy-out-separate
-    separate-requires
+    (λ c. omega arith)
+    (λ c. omega arith)
+    (λ c κs. search needs)
     returns
-    add-j-2
-    loop-less
+    (λ c. omega arith)
+    (λ c. omega arith)
     loop-again
     returns-2)

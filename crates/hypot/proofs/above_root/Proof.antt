@@ -20,12 +20,6 @@ returns-2 c =
 mul-result : tie.Need-mul-result
 mul-result c = omega (arith, square-fits (c .before .before .args .n) (omega arith))
 
-mul-result-2 : tie.Need-mul-result-2
-mul-result-2 c = search needs
-
-add-result : tie.Need-add-result
-add-result c = search needs
-
 mul-result-3 : tie.Need-mul-result-3
 mul-result-3 c =
     let a = c .before .before .args in
@@ -39,4 +33,4 @@ returns-3 c =
 pub above-root-spec : {M : Type 1} → statement M
 above-root-spec =
     tie.close
-    (tie.spec returns returns-2 mul-result mul-result-2 add-result mul-result-3 returns-3)
+    (tie.spec returns returns-2 mul-result (λ c. search needs) (λ c. search needs) mul-result-3 returns-3)

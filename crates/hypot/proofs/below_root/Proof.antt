@@ -17,12 +17,6 @@ returns-2 c =
     let a = c .before .before .args in
     sym (le-ltb _ _ (le-of-lt (square-above (a .s) (a .n) (a .x) (c .if2 .taken))))
 
-mul-result : tie.Need-mul-result
-mul-result c = search needs
-
-add-result : tie.Need-add-result
-add-result c = search needs
-
 mul-result-2 : tie.Need-mul-result-2
 mul-result-2 c =
     let a = c .before .before .args in
@@ -39,4 +33,4 @@ returns-3 c =
 pub below-root-spec : {M : Type 1} → statement M
 below-root-spec =
     tie.close
-    (tie.spec returns returns-2 mul-result add-result mul-result-2 mul-result-3 returns-3)
+    (tie.spec returns returns-2 (λ c. search needs) (λ c. search needs) mul-result-2 mul-result-3 returns-3)

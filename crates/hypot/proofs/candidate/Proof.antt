@@ -5,17 +5,8 @@ use Rattle.hypot.proofs.Floats.{no-nan}
 use Rattle.hypot.proofs.candidate.Statement.{statement}
 use Rattle.hypot.proofs.candidate.Tie as tie
 
-returns : tie.Need-returns
-returns c = search needs
-
 float-to-bits-result : tie.Need-float-to-bits-result
 float-to-bits-result c = no-nan _ (c .if1 .left)
 
-add-result : tie.Need-add-result
-add-result c = omega arith
-
-returns-2 : tie.Need-returns-2
-returns-2 c = search needs
-
 pub candidate-spec : {M : Type 1} → statement M
-candidate-spec = tie.close (tie.spec returns float-to-bits-result add-result returns-2)
+candidate-spec = tie.close (tie.spec (λ c. search needs) float-to-bits-result (λ c. omega arith) (λ c. search needs))

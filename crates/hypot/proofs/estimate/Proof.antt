@@ -6,20 +6,11 @@ use Rattle.hypot.proofs.Floats.{no-nan, no-nan-bits}
 use Rattle.hypot.proofs.estimate.Statement.{statement}
 use Rattle.hypot.proofs.estimate.Tie as tie
 
-returns : tie.Need-returns
-returns c = search needs
-
 float-to-bits-a : tie.Need-float-to-bits-a
 float-to-bits-a c = no-nan _ (c .if1 .left)
-
-add-a : tie.Need-add-a
-add-a c = search needs
 
 float-from-bits-a : tie.Need-float-from-bits-a
 float-from-bits-a c = no-nan-bits binary64 _ (omega arith)
 
-returns-2 : tie.Need-returns-2
-returns-2 c = search needs
-
 pub estimate-spec : {M : Type 1} → statement M
-estimate-spec = tie.close (tie.spec returns float-to-bits-a add-a float-from-bits-a returns-2)
+estimate-spec = tie.close (tie.spec (λ c. search needs) float-to-bits-a (λ c. search needs) float-from-bits-a (λ c. search needs))

@@ -15,12 +15,6 @@ held-a c = passes _ (c .good .0 .1)
 held-b : (c : tie.Start) → T (fits binary32 (c .args .b))
 held-b c = passes _ (c .good .1 .0 .1)
 
-pattern-requires : tie.Need-pattern-requires
-pattern-requires c κs = search needs
-
-pattern-requires-2 : tie.Need-pattern-requires-2
-pattern-requires-2 c κs = search needs
-
 float-from-bits-result : tie.Need-float-from-bits-result
 float-from-bits-result c = no-nan-bits binary32 2139095040 (omega arith)
 
@@ -50,15 +44,6 @@ returns-4 c =
     second-nan (s .args .a) (s .args .b) (held-a s) (held-b s) (omega (arith, q .pattern2 .ensures, c .if4 .taken))
     (λ h. c .before .before .before .if1 .left (q .before .pattern .ensures ∙ h))
 
-larger-requires : tie.Need-larger-requires
-larger-requires c κs = search needs
-
-smaller-requires : tie.Need-smaller-requires
-smaller-requires c κs = search needs
-
-finite-requires : tie.Need-finite-requires
-finite-requires c κs = (omega arith, omega arith)
-
 returns-5 : tie.Need-returns-5
 returns-5 c =
     let q = c .before .before .before .before .before .before .before in
@@ -71,15 +56,15 @@ pub exact-spec : {M : Type 1} → statement M
 exact-spec =
     tie.close
     (tie.spec
-    pattern-requires
-    pattern-requires-2
+    (λ c κs. search needs)
+    (λ c κs. search needs)
     float-from-bits-result
     returns
     float-from-bits-result-2
     returns-2
     returns-3
     returns-4
-    larger-requires
-    smaller-requires
-    finite-requires
+    (λ c κs. search needs)
+    (λ c κs. search needs)
+    (λ c κs. (omega arith, omega arith))
     returns-5)

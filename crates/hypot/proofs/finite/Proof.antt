@@ -35,15 +35,6 @@ sides c =
     near (s .args .p) (s .args .q) _ _ _ _ _ (e .before .exponent .ensures) (e .exponent2 .ensures) (c .before .before .significand .ensures) (c .significand2 .ensures)
     (c .before .shifted .ensures) (s .pre .0)
 
-exponent-requires : tie.Need-exponent-requires
-exponent-requires c κs = search needs
-
-exponent-requires-2 : tie.Need-exponent-requires-2
-exponent-requires-2 c κs = search needs
-
-sub-if1 : tie.Need-sub-if1
-sub-if1 c = search needs
-
 float-from-bits-result : tie.Need-float-from-bits-result
 float-from-bits-result c = no-nan-bits binary32 (c .before .before .before .args .p) (omega arith)
 
@@ -52,23 +43,8 @@ returns c =
     let a = c .before .before .before .args in
     far (a .p) (a .q) (c .before .before .before .pre .1) (omega arith)
 
-significand-requires : tie.Need-significand-requires
-significand-requires c κs = search needs
-
-sub-shifted : tie.Need-sub-shifted
-sub-shifted c = search needs
-
-shifted-requires : tie.Need-shifted-requires
-shifted-requires c κs = search needs
-
 mul-s : tie.Need-mul-s
 mul-s c = omega (arith, small c)
-
-significand-requires-2 : tie.Need-significand-requires-2
-significand-requires-2 c κs = search needs
-
-mul-n : tie.Need-mul-n
-mul-n c = search needs
 
 root-requires : tie.Need-root-requires
 root-requires c κs = (omega (arith, small (c .before)), omega arith)
@@ -92,17 +68,17 @@ pub finite-spec : {M : Type 1} → statement M
 finite-spec =
     tie.close
     (tie.spec
-    exponent-requires
-    exponent-requires-2
-    sub-if1
+    (λ c κs. search needs)
+    (λ c κs. search needs)
+    (λ c. search needs)
     float-from-bits-result
     returns
-    significand-requires
-    sub-shifted
-    shifted-requires
+    (λ c κs. search needs)
+    (λ c. search needs)
+    (λ c κs. search needs)
     mul-s
-    significand-requires-2
-    mul-n
+    (λ c κs. search needs)
+    (λ c. search needs)
     root-requires
     rounded-requires
     returns-2)

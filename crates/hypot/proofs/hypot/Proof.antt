@@ -13,29 +13,14 @@ use Rattle.hypot.proofs.hypot.Tie as tie
 certain : (c : tie.Then3) → Settled (sumOfSquaresOf (c .before .before .before .before .before .before .before .args .a) (c .before .before .before .before .before .before .before .args .b)) (c .before .before .candidate .result)
 certain c = subst (λ (t : Float). Settled t (c .before .before .candidate .result)) (c .before .before .before .before .sum-of-squares .ensures) (c .before .settled .ensures (passes _ (c .if3 .taken)))
 
-exact-requires : tie.Need-exact-requires
-exact-requires c κs = search needs
-
 returns : tie.Need-returns
 returns c = c .exact .ensures
-
-exact-requires-2 : tie.Need-exact-requires-2
-exact-requires-2 c κs = search needs
 
 returns-2 : tie.Need-returns-2
 returns-2 c = c .exact2 .ensures
 
 sum-of-squares-requires : tie.Need-sum-of-squares-requires
 sum-of-squares-requires c κs = (no-nan _ (c .before .if1 .left), no-nan _ (c .if2 .left))
-
-estimate-requires : tie.Need-estimate-requires
-estimate-requires c κs = search needs
-
-candidate-requires : tie.Need-candidate-requires
-candidate-requires c κs = search needs
-
-settled-requires : tie.Need-settled-requires
-settled-requires c κs = search needs
 
 sub-result : tie.Need-sub-result
 sub-result c = omega (arith, certain c .least)
@@ -51,9 +36,6 @@ returns-3 c =
     let s = c .before .before .before .before .before .before .before in
     settled (s .args .a) (s .args .b) _ (passes _ (s .good .0 .1)) (passes _ (s .good .1 .0 .1)) (certain c)
 
-exact-requires-3 : tie.Need-exact-requires-3
-exact-requires-3 c κs = search needs
-
 returns-4 : tie.Need-returns-4
 returns-4 c = c .exact3 .ensures
 
@@ -61,17 +43,17 @@ pub hypot-spec : {M : Type 1} → statement M
 hypot-spec =
     tie.close
     (tie.spec
-    exact-requires
+    (λ c κs. search needs)
     returns
-    exact-requires-2
+    (λ c κs. search needs)
     returns-2
     sum-of-squares-requires
-    estimate-requires
-    candidate-requires
-    settled-requires
+    (λ c κs. search needs)
+    (λ c κs. search needs)
+    (λ c κs. search needs)
     sub-result
     cast-result
     float-from-bits-result
     returns-3
-    exact-requires-3
+    (λ c κs. search needs)
     returns-4)

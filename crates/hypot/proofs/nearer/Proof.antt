@@ -13,12 +13,6 @@ returns c =
     let a = c .before .args in
     sym (ap (λ (o : Ordering). nearest (a .c) o) (cmp-is Ordering·lt (a .w) (a .h) (c .if1 .taken)))
 
-add-result : tie.Need-add-result
-add-result c = search needs
-
-add-result-2 : tie.Need-add-result-2
-add-result-2 c = search needs
-
 returns-2 : tie.Need-returns-2
 returns-2 c =
     let a = c .before .before .args in
@@ -30,4 +24,4 @@ returns-3 c =
     add-one (a .c) ∙ sym (ap (λ (o : Ordering). nearest (a .c) o) (cmp-is Ordering·gt (a .w) (a .h) (omega arith)))
 
 pub nearer-spec : {M : Type 1} → statement M
-nearer-spec = tie.close (tie.spec returns add-result add-result-2 returns-2 returns-3)
+nearer-spec = tie.close (tie.spec returns (λ c. search needs) (λ c. search needs) returns-2 returns-3)

@@ -8,15 +8,6 @@ use native.Mathlib.Omega.{arith}
 use Rattle.hypot.proofs.packed.Statement.{statement}
 use Rattle.hypot.proofs.packed.Tie as tie
 
-mul-b : tie.Need-mul-b
-mul-b c = search needs
-
-cast-b : tie.Need-cast-b
-cast-b c = search needs
-
-add-b : tie.Need-add-b
-add-b c = search needs
-
 float-from-bits-result : tie.Need-float-from-bits-result
 float-from-bits-result c = no-nan-bits binary32 (c .before .args .k * 8388608 + c .before .args .t) (omega arith)
 
@@ -32,4 +23,4 @@ returns-2 c = ap (ofBits binary32) (sym (min-eq-right (c .if1 .left)))
 pub packed-spec : {M : Type 1} → statement M
 packed-spec =
     tie.close
-    (tie.spec mul-b cast-b add-b float-from-bits-result float-from-bits-result-2 returns returns-2)
+    (tie.spec (λ c. search needs) (λ c. search needs) (λ c. search needs) float-from-bits-result float-from-bits-result-2 returns returns-2)

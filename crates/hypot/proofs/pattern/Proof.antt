@@ -21,8 +21,5 @@ returns c =
     let is-nan = differs-from-itself (c .before .args .x) (passes _ (c .if1 .taken)) in
     subst (λ (x : Float). 2143289344 ≡ toBits binary32 x % 2147483648) (sym is-nan) nan-pattern
 
-returns-2 : tie.Need-returns-2
-returns-2 c = search needs
-
 pub pattern-spec : {M : Type 1} → statement M
-pattern-spec = tie.close (tie.spec float-to-bits-result returns returns-2)
+pattern-spec = tie.close (tie.spec float-to-bits-result returns (λ c. search needs))

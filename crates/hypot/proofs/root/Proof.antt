@@ -6,12 +6,6 @@ use Rattle.hypot.proofs.Isqrt.{isqrt-to, root-is}
 use Rattle.hypot.proofs.root.Statement.{statement}
 use Rattle.hypot.proofs.root.Tie as tie
 
-whole-root-requires : tie.Need-whole-root-requires
-whole-root-requires c κs = search needs
-
-below-root-requires : tie.Need-below-root-requires
-below-root-requires c κs = search needs
-
 mul-result : tie.Need-mul-result
 mul-result c = let a = c .before .before .before .args in omega (arith, isqrt-to (a .s) (a .n), c .before .before .whole-root .ensures)
 
@@ -31,8 +25,8 @@ pub root-spec : {M : Type 1} → statement M
 root-spec =
     tie.close
     (tie.spec
-    whole-root-requires
-    below-root-requires
+    (λ c κs. search needs)
+    (λ c κs. search needs)
     mul-result
     add-result
     mul-result-2

@@ -17,35 +17,14 @@ abbrev μ-loop : tie.MeasureT-loop
 loop-holds : tie.Need-loop-holds Inv-loop μ-loop
 loop-holds c = kept-start (c .args .w) (c .args .f) (c .pre .1 .1)
 
-mul-u : tie.Need-mul-u Inv-loop μ-loop
-mul-u c = omega arith
-
 add-k : tie.Need-add-k Inv-loop μ-loop
 add-k c = let i = c .before .loop in let a = c .before .before .args in omega (arith, kept-places (a .w) (a .f) (i .c) (i .u) (i .k) (i .inv))
-
-loop-less : tie.Need-loop-less Inv-loop μ-loop
-loop-less c = omega arith
 
 loop-again : tie.Need-loop-again Inv-loop μ-loop
 loop-again c =
     let i = c .before .loop in
     let a = c .before .before .args in
     kept-next (a .w) (a .f) (i .c) (i .u) (i .k) (i .inv) (c .before .before .pre .0) (c .loop-test .taken)
-
-mul-h : tie.Need-mul-h Inv-loop μ-loop
-mul-h c = omega arith
-
-add-h : tie.Need-add-h Inv-loop μ-loop
-add-h c = omega arith
-
-mul-h-2 : tie.Need-mul-h-2 Inv-loop μ-loop
-mul-h-2 c = omega arith
-
-mul-h-3 : tie.Need-mul-h-3 Inv-loop μ-loop
-mul-h-3 c = omega arith
-
-nearer-requires : tie.Need-nearer-requires Inv-loop μ-loop
-nearer-requires c κs = omega arith
 
 packed-requires : tie.Need-packed-requires Inv-loop μ-loop
 packed-requires c κs =
@@ -70,14 +49,14 @@ rounded-spec =
     Inv-loop
     μ-loop
     loop-holds
-    mul-u
+    (λ c. omega arith)
     add-k
-    loop-less
+    (λ c. omega arith)
     loop-again
-    mul-h
-    add-h
-    mul-h-2
-    mul-h-3
-    nearer-requires
+    (λ c. omega arith)
+    (λ c. omega arith)
+    (λ c. omega arith)
+    (λ c. omega arith)
+    (λ c κs. omega arith)
     packed-requires
     returns)

@@ -13,15 +13,6 @@ returns c = λ h. absurd h
 returns-2 : tie.Need-returns-2
 returns-2 c = λ h. absurd h
 
-sub-midpoint : tie.Need-sub-midpoint
-sub-midpoint c = search needs
-
-midpoint-requires : tie.Need-midpoint-requires
-midpoint-requires c κs = search needs
-
-midpoint-requires-2 : tie.Need-midpoint-requires-2
-midpoint-requires-2 c κs = search needs
-
 returns-3 : tie.Need-returns-3
 returns-3 c =
     let s = c .before .before .before .before .before in
@@ -41,8 +32,8 @@ settled-spec =
     (tie.spec
     returns
     returns-2
-    sub-midpoint
-    midpoint-requires
-    midpoint-requires-2
+    (λ c. search needs)
+    (λ c κs. search needs)
+    (λ c κs. search needs)
     returns-3
     returns-4)

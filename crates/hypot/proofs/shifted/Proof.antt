@@ -5,11 +5,8 @@ use lib.Pow.{shl-exact}
 use Rattle.hypot.proofs.shifted.Statement.{statement}
 use Rattle.hypot.proofs.shifted.Tie as tie
 
-shl-result : tie.Need-shl-result
-shl-result c = search needs
-
 returns : tie.Need-returns
 returns c = shl-exact 24 (c .args .d) 64 (omega arith) (omega arith)
 
 pub shifted-spec : {M : Type 1} → statement M
-shifted-spec = tie.close (tie.spec shl-result returns)
+shifted-spec = tie.close (tie.spec (λ c. search needs) returns)

@@ -14,34 +14,10 @@ Inv-loop s n low₀ high₀ low high = (low < high) × (high ≤ s + n + 1) × (
 abbrev μ-loop : tie.MeasureT-loop
 μ-loop s n low₀ high₀ low high = high - low
 
-add-high : tie.Need-add-high Inv-loop μ-loop
-add-high c = omega arith
-
-add-high-2 : tie.Need-add-high-2 Inv-loop μ-loop
-add-high-2 c = omega arith
-
-loop-holds : tie.Need-loop-holds Inv-loop μ-loop
-loop-holds c = (omega arith, omega arith, omega arith, omega arith)
-
-add-loop : tie.Need-add-loop Inv-loop μ-loop
-add-loop c = omega arith
-
-add-x : tie.Need-add-x Inv-loop μ-loop
-add-x c = omega arith
-
-above-root-requires : tie.Need-above-root-requires Inv-loop μ-loop
-above-root-requires c κs = search needs
-
-loop-less : tie.Need-loop-less Inv-loop μ-loop
-loop-less c = omega arith
-
 loop-again : tie.Need-loop-again Inv-loop μ-loop
 loop-again c =
     let i = c .before .before .before .loop .inv in
     (omega arith, omega arith, i .2, ltb-true _ _ (sym (c .before .above-root .ensures) ∙ c .if1 .taken))
-
-loop-less-2 : tie.Need-loop-less-2 Inv-loop μ-loop
-loop-less-2 c = omega arith
 
 loop-again-2 : tie.Need-loop-again-2 Inv-loop μ-loop
 loop-again-2 c =
@@ -61,14 +37,14 @@ whole-root-spec =
     (tie.spec
     Inv-loop
     μ-loop
-    add-high
-    add-high-2
-    loop-holds
-    add-loop
-    add-x
-    above-root-requires
-    loop-less
+    (λ c. omega arith)
+    (λ c. omega arith)
+    (λ c. (omega arith, omega arith, omega arith, omega arith))
+    (λ c. omega arith)
+    (λ c. omega arith)
+    (λ c κs. search needs)
+    (λ c. omega arith)
     loop-again
-    loop-less-2
+    (λ c. omega arith)
     loop-again-2
     returns)

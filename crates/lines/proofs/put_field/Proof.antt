@@ -12,12 +12,6 @@ slice-write-out : tie.Need-slice-write-out
 unfolding fieldText
 slice-write-out c = omega arith
 
-add-put-number : tie.Need-add-put-number
-add-put-number c = search needs
-
-tenths-requires : tie.Need-tenths-requires
-tenths-requires c κs = search needs
-
 put-number-requires : tie.Need-put-number-requires
 unfolding fieldText
 put-number-requires c κs =
@@ -36,8 +30,8 @@ put-field-spec =
     tie.close
     (tie.spec
     slice-write-out
-    add-put-number
-    tenths-requires
+    (λ c. search needs)
+    (λ c κs. search needs)
     put-number-requires
     same-length
     returns)

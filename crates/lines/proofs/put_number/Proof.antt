@@ -12,9 +12,6 @@ slice-write-out c =
     let m = minus (c .before .before .args .n) (c .before .before .pre .0) (c .if1 .taken) in
     omega (arith, ap length (m .text))
 
-add-put-digits : tie.Need-add-put-digits
-add-put-digits c = search needs
-
 sub-put-digits : tie.Need-sub-put-digits
 sub-put-digits c = minus (c .before .before .before .args .n) (c .before .before .before .pre .0) (c .before .if1 .taken) .fits
 
@@ -59,7 +56,7 @@ put-number-spec =
     tie.close
     (tie.spec
     slice-write-out
-    add-put-digits
+    (λ c. search needs)
     sub-put-digits
     cast-put-digits
     put-digits-requires

@@ -17,31 +17,10 @@ Inv-loop m dx dy w h holes others original j₀ j = (j ≤ m) × (m ≤ length o
 abbrev μ-loop : tie.MeasureT-loop
 μ-loop m dx dy w h holes others original j₀ j = m - j
 
-loop-holds : tie.Need-loop-holds Inv-loop μ-loop
-loop-holds c = (omega arith, omega arith, refl)
-
-mul-moved : tie.Need-mul-moved Inv-loop μ-loop
-mul-moved c = omega arith
-
-array-copy-out-moved : tie.Need-array-copy-out-moved Inv-loop μ-loop
-array-copy-out-moved c = omega arith
-
-moved-requires : tie.Need-moved-requires Inv-loop μ-loop
-moved-requires c κs = search needs
-
-clear-requires : tie.Need-clear-requires Inv-loop μ-loop
-clear-requires c κs = search needs
-
 returns : tie.Need-returns Inv-loop μ-loop
 returns c =
     let l = c .before .before .before .before .before .loop in
     all-miss _ _ _ _ _ _ (l .inv .2) (next-of anyRect _ _ _ _ refl (l .inv .1) (c .before .before .before .before .loop-test .taken)) (rw (c .before .before .moved .ensures) at (c .before .clear .ensures)) (not-true _ (c .if1 .taken))
-
-add-j : tie.Need-add-j Inv-loop μ-loop
-add-j c = omega arith
-
-loop-less : tie.Need-loop-less Inv-loop μ-loop
-loop-less c = omega arith
 
 loop-again : tie.Need-loop-again Inv-loop μ-loop
 loop-again c =
@@ -59,13 +38,13 @@ all-clear-spec =
     (tie.spec
     Inv-loop
     μ-loop
-    loop-holds
-    mul-moved
-    array-copy-out-moved
-    moved-requires
-    clear-requires
+    (λ c. (omega arith, omega arith, refl))
+    (λ c. omega arith)
+    (λ c. omega arith)
+    (λ c κs. search needs)
+    (λ c κs. search needs)
     returns
-    add-j
-    loop-less
+    (λ c. omega arith)
+    (λ c. omega arith)
     loop-again
     returns-2)

@@ -16,34 +16,10 @@ Inv-loop dxs dys n w h holes others original m i₀ i =
 abbrev μ-loop : tie.MeasureT-loop
 μ-loop dxs dys n w h holes others original m i₀ i = n - i
 
-loop-holds : tie.Need-loop-holds Inv-loop μ-loop
-loop-holds c = (omega arith, omega arith, omega arith, refl)
-
-mul-dx : tie.Need-mul-dx Inv-loop μ-loop
-mul-dx c = omega arith
-
-element-copy-out-dx : tie.Need-element-copy-out-dx Inv-loop μ-loop
-element-copy-out-dx c = omega arith
-
-mul-dy : tie.Need-mul-dy Inv-loop μ-loop
-mul-dy c = omega arith
-
-element-copy-out-dy : tie.Need-element-copy-out-dy Inv-loop μ-loop
-element-copy-out-dy c = omega arith
-
-all-clear-requires : tie.Need-all-clear-requires Inv-loop μ-loop
-all-clear-requires c κs = search needs
-
 returns : tie.Need-returns Inv-loop μ-loop
 returns c =
     let l = c .before .before .before .before .before .loop in
     choose-hit _ _ _ _ _ _ _ _ _ _ (l .inv .1) (l .inv .2) (l .inv .3) (c .before .before .before .before .loop-test .taken) (sym (c .if1 .taken) ∙ c .before .all-clear .ensures)
-
-add-i : tie.Need-add-i Inv-loop μ-loop
-add-i c = omega arith
-
-loop-less : tie.Need-loop-less Inv-loop μ-loop
-loop-less c = omega arith
 
 loop-again : tie.Need-loop-again Inv-loop μ-loop
 loop-again c =
@@ -61,14 +37,14 @@ first-clear-spec =
     (tie.spec
     Inv-loop
     μ-loop
-    loop-holds
-    mul-dx
-    element-copy-out-dx
-    mul-dy
-    element-copy-out-dy
-    all-clear-requires
+    (λ c. (omega arith, omega arith, omega arith, refl))
+    (λ c. omega arith)
+    (λ c. omega arith)
+    (λ c. omega arith)
+    (λ c. omega arith)
+    (λ c κs. search needs)
     returns
-    add-i
-    loop-less
+    (λ c. omega arith)
+    (λ c. omega arith)
     loop-again
     returns-2)

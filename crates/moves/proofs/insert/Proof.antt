@@ -4,18 +4,6 @@ use borrow.Author.Needs.{needs}
 use Rattle.moves.proofs.insert.Statement.{statement}
 use Rattle.moves.proofs.insert.Tie as tie
 
-place-requires : tie.Need-place-requires
-place-requires c κs = search needs
-
-insert-at-requires : tie.Need-insert-at-requires
-insert-at-requires c κs = search needs
-
-insert-at-requires-2 : tie.Need-insert-at-requires-2
-insert-at-requires-2 c κs = search needs
-
-insert-at-requires-3 : tie.Need-insert-at-requires-3
-insert-at-requires-3 c κs = search needs
-
 returns : tie.Need-returns
 returns c =
     let s = c .before .before .before .before .before .before .before .before in
@@ -25,4 +13,4 @@ returns c =
 pub insert-spec : {M : Type 1} → statement M
 insert-spec =
     tie.close
-    (tie.spec place-requires insert-at-requires insert-at-requires-2 insert-at-requires-3 returns)
+    (tie.spec (λ c κs. search needs) (λ c κs. search needs) (λ c κs. search needs) (λ c κs. search needs) returns)

@@ -5,17 +5,8 @@ use borrow.Author.Needs.{needs}
 use Rattle.moves.proofs.insert_away.Statement.{statement}
 use Rattle.moves.proofs.insert_away.Tie as tie
 
-insert-requires : tie.Need-insert-requires
-insert-requires c κs = search needs
-
-add-insert : tie.Need-add-insert
-add-insert c = search needs
-
 insert-requires-2 : tie.Need-insert-requires-2
 insert-requires-2 c κs = (omega arith, held (c .before .before .before .before .before .insert .ensures))
-
-add-insert-2 : tie.Need-add-insert-2
-add-insert-2 c = search needs
 
 insert-requires-3 : tie.Need-insert-requires-3
 insert-requires-3 c κs = (omega arith, held (recount _ (omega arith) (c .before .before .before .before .before .before .insert2 .ensures)))
@@ -40,10 +31,10 @@ pub insert-away-spec : {M : Type 1} → statement M
 insert-away-spec =
     tie.close
     (tie.spec
-    insert-requires
-    add-insert
+    (λ c κs. search needs)
+    (λ c. search needs)
     insert-requires-2
-    add-insert-2
+    (λ c. search needs)
     insert-requires-3
     add-insert-3
     insert-requires-4

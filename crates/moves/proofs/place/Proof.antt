@@ -16,29 +16,11 @@ Inv-loop lens n len i₀ i = (i ≤ n) × (i + placeOf (drop i (take n lens)) le
 abbrev μ-loop : tie.MeasureT-loop
 μ-loop lens n len i₀ i = n - i
 
-loop-holds : tie.Need-loop-holds Inv-loop μ-loop
-loop-holds c = (omega arith, omega arith)
-
-mul-shorter : tie.Need-mul-shorter Inv-loop μ-loop
-mul-shorter c = omega arith
-
-element-copy-out-shorter : tie.Need-element-copy-out-shorter Inv-loop μ-loop
-element-copy-out-shorter c = omega arith
-
-shorter-requires : tie.Need-shorter-requires Inv-loop μ-loop
-shorter-requires c κs = search needs
-
 returns : tie.Need-returns Inv-loop μ-loop
 returns c =
     let s = c .before .before .before .before .before in
     let l = c .before .before .before .before .loop in
     (place-hit (s .args .len) _ (l .i) _ (l .inv .1) _ _ _ (next-of nan (s .args .lens .now) 256 (s .args .n) (l .i) (s .pre .1) (omega arith) (omega arith)) (c .before .shorter .ensures) (c .if1 .taken), omega arith)
-
-add-i : tie.Need-add-i Inv-loop μ-loop
-add-i c = omega arith
-
-loop-less : tie.Need-loop-less Inv-loop μ-loop
-loop-less c = omega arith
 
 loop-again : tie.Need-loop-again Inv-loop μ-loop
 loop-again c =
@@ -59,12 +41,12 @@ place-spec =
     (tie.spec
     Inv-loop
     μ-loop
-    loop-holds
-    mul-shorter
-    element-copy-out-shorter
-    shorter-requires
+    (λ c. (omega arith, omega arith))
+    (λ c. omega arith)
+    (λ c. omega arith)
+    (λ c κs. search needs)
     returns
-    add-i
-    loop-less
+    (λ c. omega arith)
+    (λ c. omega arith)
     loop-again
     returns-2)

@@ -10,9 +10,6 @@ returns c = rank-nan _ (c .if1 .taken)
 float-to-bits-b : tie.Need-float-to-bits-b
 float-to-bits-b c = no-nan _ (c .if1 .left)
 
-add-result : tie.Need-add-result
-add-result c = search needs
-
 sub-result : tie.Need-sub-result
 sub-result c = bits-below (c .before .before .args .x) (search needs)
 
@@ -23,4 +20,4 @@ returns-3 : tie.Need-returns-3
 returns-3 c = rank-down _ (c .if2 .left)
 
 pub rank-spec : {M : Type 1} → statement M
-rank-spec = tie.close (tie.spec returns float-to-bits-b add-result sub-result returns-2 returns-3)
+rank-spec = tie.close (tie.spec returns float-to-bits-b (λ c. search needs) sub-result returns-2 returns-3)

@@ -22,20 +22,8 @@ loop-holds : tie.Need-loop-holds Inv-loop μ-loop
 unfolding orderedOf candidatesOf movesIn zipWith
 loop-holds c = (omega arith, omega arith, omega arith, holds-none _ _ _ refl refl refl, refl)
 
-mul-insert-off : tie.Need-mul-insert-off Inv-loop μ-loop
-mul-insert-off c = omega arith
-
-array-copy-out-insert-off : tie.Need-array-copy-out-insert-off Inv-loop μ-loop
-array-copy-out-insert-off c = omega arith
-
 insert-off-requires : tie.Need-insert-off-requires Inv-loop μ-loop
 insert-off-requires c κs = (omega arith, omega arith, c .before .before .before .before .before .loop .inv .3)
-
-add-i : tie.Need-add-i Inv-loop μ-loop
-add-i c = omega arith
-
-loop-less : tie.Need-loop-less Inv-loop μ-loop
-loop-less c = omega arith
 
 loop-again : tie.Need-loop-again Inv-loop μ-loop
 loop-again c =
@@ -60,11 +48,11 @@ search-spec =
     Inv-loop
     μ-loop
     loop-holds
-    mul-insert-off
-    array-copy-out-insert-off
+    (λ c. omega arith)
+    (λ c. omega arith)
     insert-off-requires
-    add-i
-    loop-less
+    (λ c. omega arith)
+    (λ c. omega arith)
     loop-again
     first-clear-requires
     returns)

@@ -8,9 +8,6 @@ use Rattle.order.proofs.Steps.{read-refused, read-accepted, layout-acce
 use Rattle.order.proofs.layout.Statement.{statement}
 use Rattle.order.proofs.layout.Tie as tie
 
-read-order-requires : tie.Need-read-order-requires
-read-order-requires c κs = search needs
-
 returns : tie.Need-returns
 unfolding layoutOf layoutOutputOf orderLayout
 returns c =
@@ -25,9 +22,6 @@ write-requires c κs =
     let n = settings-few (c .before .before .before .before .read-order .result .settings) in
     rw (c .before .settings-layout .ensures) (n .count, n .stickcount)
 
-same-length : tie.Need-same-length
-same-length c = search needs
-
 returns-2 : tie.Need-returns-2
 returns-2 c =
     let e = read-accepted _ (c .before .before .before .before .before .before .before .read-order .ensures) (c .before .before .before .before .before .if1 .left) in
@@ -39,9 +33,9 @@ pub layout-spec : {M : Type 1} → statement M
 layout-spec =
     tie.close
     (tie.spec
-    read-order-requires
+    (λ c κs. search needs)
     returns
     settings-layout-requires
     write-requires
-    same-length
+    (λ c. search needs)
     returns-2)

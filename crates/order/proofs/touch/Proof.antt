@@ -6,9 +6,6 @@ use Rattle.order.proofs.Steps.{read-refused, read-accepted}
 use Rattle.order.proofs.touch.Statement.{statement}
 use Rattle.order.proofs.touch.Tie as tie
 
-read-order-requires : tie.Need-read-order-requires
-read-order-requires c κs = search needs
-
 returns : tie.Need-returns
 unfolding touchOf orderLayout
 returns c = rw (read-refused _ (c .before .before .read-order .ensures) (c .if1 .taken))
@@ -27,4 +24,4 @@ returns-2 c =
 pub touch-spec : {M : Type 1} → statement M
 touch-spec =
     tie.close
-    (tie.spec read-order-requires returns settings-layout-requires mask-near-requires returns-2)
+    (tie.spec (λ c κs. search needs) returns settings-layout-requires mask-near-requires returns-2)

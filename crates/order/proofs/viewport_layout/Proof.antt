@@ -8,17 +8,11 @@ use Rattle.order.proofs.Steps.{read-refused, read-accepted}
 use Rattle.order.proofs.viewport_layout.Statement.{statement}
 use Rattle.order.proofs.viewport_layout.Tie as tie
 
-read-order-requires : tie.Need-read-order-requires
-read-order-requires c κs = search needs
-
 returns : tie.Need-returns
 unfolding viewportLayoutOf viewportOutputOf orderViewport
 returns c =
     let e = read-refused _ (c .before .before .read-order .ensures) (c .if1 .taken) in
     (rw e, rw e)
-
-tops-in-limits-requires : tie.Need-tops-in-limits-requires
-tops-in-limits-requires c κs = search needs
 
 returns-2 : tie.Need-returns-2
 unfolding viewportLayoutOf viewportOutputOf orderViewport must
@@ -38,9 +32,6 @@ write-requires c κs =
     let n = viewport-few (s .read-order .result .settings) _ _ in
     rw (c .before .settings-viewport .ensures) (n .count, n .stickcount)
 
-same-length : tie.Need-same-length
-same-length c = search needs
-
 returns-3 : tie.Need-returns-3
 unfolding viewportLayoutOf viewportOutputOf orderViewport must
 returns-3 c =
@@ -55,11 +46,11 @@ pub viewport-layout-spec : {M : Type 1} → statement M
 viewport-layout-spec =
     tie.close
     (tie.spec
-    read-order-requires
+    (λ c κs. search needs)
     returns
-    tops-in-limits-requires
+    (λ c κs. search needs)
     returns-2
     settings-viewport-requires
     write-requires
-    same-length
+    (λ c. search needs)
     returns-3)

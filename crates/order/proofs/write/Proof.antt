@@ -5,22 +5,10 @@ use Rattle.order.proofs.write.Tie as tie
 write-layout-requires : tie.Need-write-layout-requires
 write-layout-requires c κs = c .before .before .pre
 
-enum-known-n : tie.Need-enum-known-n
-enum-known-n c = search needs
-
-enum-told : tie.Need-enum-told
-enum-told c = search needs
-
-same-length : tie.Need-same-length
-same-length c = search needs
-
 returns : tie.Need-returns
 returns c =
     let e = c .before .before .before .before .before .write-layout .ensures in
     (rw (c .before .n .given .1) at (e .0), e .1)
-
-same-length-2 : tie.Need-same-length-2
-same-length-2 c = search needs
 
 returns-2 : tie.Need-returns-2
 returns-2 c =
@@ -32,9 +20,9 @@ write-spec =
     tie.close
     (tie.spec
     write-layout-requires
-    enum-known-n
-    enum-told
-    same-length
+    (λ c. search needs)
+    (λ c. search needs)
+    (λ c. search needs)
     returns
-    same-length-2
+    (λ c. search needs)
     returns-2)

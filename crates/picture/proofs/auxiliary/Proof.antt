@@ -3,12 +3,9 @@ use Rattle.picture.specs.Picture.{auxiliaryOf}
 use Rattle.picture.proofs.auxiliary.Statement.{statement}
 use Rattle.picture.proofs.auxiliary.Tie as tie
 
-clamp-requires : tie.Need-clamp-requires
-clamp-requires c κs = search needs
-
 returns : tie.Need-returns
 unfolding auxiliaryOf
 returns c = rw (← c .before .before .before .before .before .before .before .before .before .before .before .before .clamp .ensures)
 
 pub auxiliary-spec : {M : Type 1} → statement M
-auxiliary-spec = tie.close (tie.spec clamp-requires returns)
+auxiliary-spec = tie.close (tie.spec (λ c κs. search needs) returns)

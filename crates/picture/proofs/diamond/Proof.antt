@@ -3,12 +3,9 @@ use Rattle.picture.specs.Picture.{diamondOf}
 use Rattle.picture.proofs.diamond.Statement.{statement}
 use Rattle.picture.proofs.diamond.Tie as tie
 
-cap-requires : tie.Need-cap-requires
-cap-requires c κs = search needs
-
 returns : tie.Need-returns
 unfolding diamondOf
 returns c = rw (← c .before .before .before .before .before .cap .ensures)
 
 pub diamond-spec : {M : Type 1} → statement M
-diamond-spec = tie.close (tie.spec cap-requires returns)
+diamond-spec = tie.close (tie.spec (λ c κs. search needs) returns)

@@ -6,37 +6,13 @@ use Rattle.picture.proofs.Candidates.{first-fit, no-fit}
 use Rattle.picture.proofs.fitted.Statement.{statement}
 use Rattle.picture.proofs.fitted.Tie as tie
 
-clamp-requires : tie.Need-clamp-requires
-clamp-requires c κs = search needs
-
-horizontal-requires : tie.Need-horizontal-requires
-horizontal-requires c κs = search needs
-
-fitting-requires : tie.Need-fitting-requires
-fitting-requires c κs = search needs
-
 returns : tie.Need-returns
 unfolding fittedOf
 returns c = (rw (← c .before .before .before .clamp .ensures, ← c .before .before .horizontal .ensures .0, first-fit, ← c .before .fitting .ensures, c .if1 .taken), c .before .before .horizontal .ensures .1, c .before .before .horizontal .ensures .2)
 
-vertical-requires : tie.Need-vertical-requires
-vertical-requires c κs = search needs
-
-fitting-requires-2 : tie.Need-fitting-requires-2
-fitting-requires-2 c κs = search needs
-
 returns-2 : tie.Need-returns-2
 unfolding fittedOf
 returns-2 c = (rw (← c .before .before .before .before .before .before .clamp .ensures, ← c .before .before .before .before .before .horizontal .ensures .0, first-fit, ← c .before .before .before .before .fitting .ensures, c .before .before .before .if1 .left) (rw (← c .before .before .vertical .ensures .0, first-fit, ← c .before .fitting2 .ensures, c .if2 .taken)), c .before .before .vertical .ensures .1, c .before .before .vertical .ensures .2)
-
-clamp-requires-2 : tie.Need-clamp-requires-2
-clamp-requires-2 c κs = search needs
-
-clamp-requires-3 : tie.Need-clamp-requires-3
-clamp-requires-3 c κs = search needs
-
-vertical-requires-2 : tie.Need-vertical-requires-2
-vertical-requires-2 c κs = search needs
 
 fitting-requires-3 : tie.Need-fitting-requires-3
 fitting-requires-3 c κs = (c .vertical2 .ensures .1, c .vertical2 .ensures .2, c .before .before .before .before .before .before .before .before .before .before .before .before .pre .2)
@@ -44,9 +20,6 @@ fitting-requires-3 c κs = (c .vertical2 .ensures .1, c .vertical2 .ensures .2, 
 returns-3 : tie.Need-returns-3
 unfolding fittedOf
 returns-3 c = (rw (← c .before .before .before .before .before .before .before .before .before .before .before .before .clamp .ensures, ← c .before .before .before .before .before .before .before .before .before .before .before .horizontal .ensures .0, first-fit, ← c .before .before .before .before .before .before .before .before .before .before .fitting .ensures, c .before .before .before .before .before .before .before .before .before .if1 .left) (rw (← c .before .before .before .before .before .before .before .before .vertical .ensures .0, first-fit, ← c .before .before .before .before .before .before .before .fitting2 .ensures, c .before .before .before .before .before .before .if2 .left) (rw (← c .before .before .before .before .before .clamp2 .ensures, ← c .before .before .before .clamp3 .ensures, ← c .before .before .vertical2 .ensures .0, first-fit, ← c .before .fitting3 .ensures, c .if3 .taken))), c .before .before .vertical2 .ensures .1, c .before .before .vertical2 .ensures .2)
-
-no-layout-requires : tie.Need-no-layout-requires
-no-layout-requires c κs = search needs
 
 returns-4 : tie.Need-returns-4
 unfolding fittedOf
@@ -56,17 +29,17 @@ pub fitted-spec : {M : Type 1} → statement M
 fitted-spec =
     tie.close
     (tie.spec
-    clamp-requires
-    horizontal-requires
-    fitting-requires
+    (λ c κs. search needs)
+    (λ c κs. search needs)
+    (λ c κs. search needs)
     returns
-    vertical-requires
-    fitting-requires-2
+    (λ c κs. search needs)
+    (λ c κs. search needs)
     returns-2
-    clamp-requires-2
-    clamp-requires-3
-    vertical-requires-2
+    (λ c κs. search needs)
+    (λ c κs. search needs)
+    (λ c κs. search needs)
     fitting-requires-3
     returns-3
-    no-layout-requires
+    (λ c κs. search needs)
     returns-4)

@@ -2,9 +2,6 @@ use borrow.Author.Needs.{needs}
 use Rattle.picture.proofs.fitting.Statement.{statement}
 use Rattle.picture.proofs.fitting.Tie as tie
 
-fits-requires : tie.Need-fits-requires
-fits-requires c κs = search needs
-
 returns : tie.Need-returns
 returns c = rw (c .before .before .if1 .taken) (c .fits2 .ensures)
 
@@ -12,4 +9,4 @@ returns-2 : tie.Need-returns-2
 returns-2 c = rw (c .if1 .left)
 
 pub fitting-spec : {M : Type 1} → statement M
-fitting-spec = tie.close (tie.spec fits-requires returns returns-2)
+fitting-spec = tie.close (tie.spec (λ c κs. search needs) returns returns-2)

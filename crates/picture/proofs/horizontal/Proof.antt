@@ -4,18 +4,9 @@ use Rattle.picture.specs.Picture.{horizontalOf}
 use Rattle.picture.proofs.horizontal.Statement.{statement}
 use Rattle.picture.proofs.horizontal.Tie as tie
 
-measure-row-requires : tie.Need-measure-row-requires
-measure-row-requires c κs = search needs
-
-no-layout-requires : tie.Need-no-layout-requires
-no-layout-requires c κs = search needs
-
 returns : tie.Need-returns
 unfolding horizontalOf
 returns c = (rw (← c .before .before .before .before .before .measure-row .ensures, c .before .if1 .taken) (c .no-layout .ensures .0), omega arith, omega arith)
-
-rowed-requires : tie.Need-rowed-requires
-rowed-requires c κs = search needs
 
 returns-2 : tie.Need-returns-2
 unfolding horizontalOf
@@ -23,4 +14,4 @@ returns-2 c = (rw (← c .before .before .before .before .before .measure-row .e
 
 pub horizontal-spec : {M : Type 1} → statement M
 horizontal-spec =
-    tie.close (tie.spec measure-row-requires no-layout-requires returns rowed-requires returns-2)
+    tie.close (tie.spec (λ c κs. search needs) (λ c κs. search needs) returns (λ c κs. search needs) returns-2)

@@ -3,27 +3,6 @@ use Rattle.picture.specs.Picture.{stackedOf}
 use Rattle.picture.proofs.stacked.Statement.{statement}
 use Rattle.picture.proofs.stacked.Tie as tie
 
-pick-requires : tie.Need-pick-requires
-pick-requires c κs = search needs
-
-square-requires : tie.Need-square-requires
-square-requires c κs = search needs
-
-diamond-requires : tie.Need-diamond-requires
-diamond-requires c κs = search needs
-
-auxiliary-requires : tie.Need-auxiliary-requires
-auxiliary-requires c κs = search needs
-
-square-requires-2 : tie.Need-square-requires-2
-square-requires-2 c κs = search needs
-
-square-requires-3 : tie.Need-square-requires-3
-square-requires-3 c κs = search needs
-
-square-requires-4 : tie.Need-square-requires-4
-square-requires-4 c κs = search needs
-
 arrange-requires : tie.Need-arrange-requires
 arrange-requires c κs = c .before .before .before .before .before .before .before .before .before .before .before .pre
 
@@ -40,12 +19,12 @@ pub stacked-spec : {M : Type 1} → statement M
 stacked-spec =
     tie.close
     (tie.spec
-    pick-requires
-    square-requires
-    diamond-requires
-    auxiliary-requires
-    square-requires-2
-    square-requires-3
-    square-requires-4
+    (λ c κs. search needs)
+    (λ c κs. search needs)
+    (λ c κs. search needs)
+    (λ c κs. search needs)
+    (λ c κs. search needs)
+    (λ c κs. search needs)
+    (λ c κs. search needs)
     arrange-requires
     returns)

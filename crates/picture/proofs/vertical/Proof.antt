@@ -4,21 +4,9 @@ use Rattle.picture.specs.Picture.{verticalOf}
 use Rattle.picture.proofs.vertical.Statement.{statement}
 use Rattle.picture.proofs.vertical.Tie as tie
 
-measure-stack-requires : tie.Need-measure-stack-requires
-measure-stack-requires c κs = search needs
-
-cramped-requires : tie.Need-cramped-requires
-cramped-requires c κs = search needs
-
-no-layout-requires : tie.Need-no-layout-requires
-no-layout-requires c κs = search needs
-
 returns : tie.Need-returns
 unfolding verticalOf
 returns c = (rw (← c .before .before .before .measure-stack .ensures, ← c .before .before .cramped .ensures, c .before .if1 .taken) (c .no-layout .ensures .0), omega arith, omega arith)
-
-stacked-requires : tie.Need-stacked-requires
-stacked-requires c κs = search needs
 
 returns-2 : tie.Need-returns-2
 unfolding verticalOf
@@ -28,9 +16,9 @@ pub vertical-spec : {M : Type 1} → statement M
 vertical-spec =
     tie.close
     (tie.spec
-    measure-stack-requires
-    cramped-requires
-    no-layout-requires
+    (λ c κs. search needs)
+    (λ c κs. search needs)
+    (λ c κs. search needs)
     returns
-    stacked-requires
+    (λ c κs. search needs)
     returns-2)

@@ -6,26 +6,8 @@ use borrow.Author.Needs.{needs}
 use Rattle.preset.proofs.laid_out.Statement.{statement}
 use Rattle.preset.proofs.laid_out.Tie as tie
 
-picture-fit-requires : tie.Need-picture-fit-requires
-picture-fit-requires c κs = search needs
-
-is-maximum-requires : tie.Need-is-maximum-requires
-is-maximum-requires c κs = search needs
-
-free-requires : tie.Need-free-requires
-free-requires c κs = search needs
-
-area-requires : tie.Need-area-requires
-area-requires c κs = search needs
-
-arrangement-requires : tie.Need-arrangement-requires
-arrangement-requires c κs = search needs
-
 settled-requires : tie.Need-settled-requires
 settled-requires c κs = (c .before .before .before .before .before .before .before .pre .1, (c .before .before .before .before .before .before .before .pre .0, c .before .arrangement .ensures .1))
-
-aspect-requires : tie.Need-aspect-requires
-aspect-requires c κs = search needs
 
 place-game-in-aspect-requires : tie.Need-place-game-in-aspect-requires
 place-game-in-aspect-requires c κs = let p = c .before .before .before .before .before .before .before .before .before .before .args .p in let n = few (hasSticks p) (p .psp) (c .before .before .settled .result) (c .before .before .settled .ensures .1) in (n .count, n .stickcount)
@@ -52,13 +34,13 @@ pub laid-out-spec : {M : Type 1} → statement M
 laid-out-spec =
     tie.close
     (tie.spec
-    picture-fit-requires
-    is-maximum-requires
-    free-requires
-    area-requires
-    arrangement-requires
+    (λ c κs. search needs)
+    (λ c κs. search needs)
+    (λ c κs. search needs)
+    (λ c κs. search needs)
+    (λ c κs. search needs)
     settled-requires
-    aspect-requires
+    (λ c κs. search needs)
     place-game-in-aspect-requires
     row-allowed-requires
     fit-landscape-controls-requires

@@ -8,18 +8,6 @@ use borrow.Author.Needs.{needs}
 use Rattle.preset.proofs.row_allowed.Statement.{statement}
 use Rattle.preset.proofs.row_allowed.Tie as tie
 
-free-requires : tie.Need-free-requires
-free-requires c κs = search needs
-
-picture-fit-requires : tie.Need-picture-fit-requires
-picture-fit-requires c κs = search needs
-
-is-maximum-requires : tie.Need-is-maximum-requires
-is-maximum-requires c κs = search needs
-
-untouched-requires : tie.Need-untouched-requires
-untouched-requires c κs = search needs
-
 returns : tie.Need-returns
 unfolding rowAllowedOf
 returns c = let a = c .before .before .before .before .before .before .args in let p = c .before .before .before .before .before .before .pre in let g = c .before .before .before .before .before .before .good in let m : length (a .cutouts .at) ≡ 16 = search sized in rw (← c .before .before .before .before .before .free .ensures, ← c .before .before .before .before .picture-fit .ensures, ← c .before .before .before .is-maximum .ensures, ← c .before .untouched .ensures, none-counted (a .cutouts .count) (a .cutouts .at) (omega arith))
@@ -27,4 +15,4 @@ returns c = let a = c .before .before .before .before .before .before .args in l
 pub row-allowed-spec : {M : Type 1} → statement M
 row-allowed-spec =
     tie.close
-    (tie.spec free-requires picture-fit-requires is-maximum-requires untouched-requires returns)
+    (tie.spec (λ c κs. search needs) (λ c κs. search needs) (λ c κs. search needs) (λ c κs. search needs) returns)

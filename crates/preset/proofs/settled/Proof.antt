@@ -14,9 +14,6 @@ with-saved-requires c κs = let a = c .args in let n = few (a .analog) (a .psp) 
 avoid-cutouts-requires : tie.Need-avoid-cutouts-requires
 avoid-cutouts-requires c κs = let a = c .before .args in let n : Few (c .with-saved .result) = rw (c .with-saved .ensures) (few (a .analog) (a .psp) _ (saved-mode (a .analog) (a .psp) (a .arrangement) (c .before .pre .1 .1) _ _ (cutoutList (a .cutouts)) _)) in ((n .count, n .stickcount), (c .before .pre .0, n .faces))
 
-max-requires : tie.Need-max-requires
-max-requires c κs = search needs
-
 anchor-toolbar-requires : tie.Need-anchor-toolbar-requires
 anchor-toolbar-requires c κs = let a = c .before .before .before .before .args in let s = saved-mode (a .analog) (a .psp) (a .arrangement) (c .before .before .before .before .pre .1 .1) _ _ (cutoutList (a .cutouts)) _ in let n : Few (c .before .before .avoid-cutouts .result) = rw (c .before .before .avoid-cutouts .ensures, c .before .before .before .with-saved .ensures) (few (a .analog) (a .psp) _ (avoid-mode (a .analog) (a .psp) _ s _ _ _)) in (c .before .before .before .before .pre .0, n .count, n .stickcount)
 
@@ -30,6 +27,6 @@ settled-spec =
     (tie.spec
     with-saved-requires
     avoid-cutouts-requires
-    max-requires
+    (λ c κs. search needs)
     anchor-toolbar-requires
     returns)

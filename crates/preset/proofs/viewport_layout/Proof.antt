@@ -5,9 +5,6 @@ use Rattle.preset.proofs.viewport_layout.Tie as tie
 use Rattle.chosen.specs.ChosenLabels.{Few, few, anchor-mode}
 use Rattle.preset.specs.PresetLabels.{layout-mode}
 
-layout-in-requires : tie.Need-layout-in-requires
-layout-in-requires c κs = search needs
-
 anchor-toolbar-requires : tie.Need-anchor-toolbar-requires
 anchor-toolbar-requires c κs = let p = c .before .args .p in let n : Few (c .layout-in .result) = rw (c .layout-in .ensures) (few (hasSticks p) (p .psp) _ (layout-mode p _ _ _ _)) in (c .before .pre .1, n .count, n .stickcount)
 
@@ -26,7 +23,7 @@ pub viewport-layout-spec : {M : Type 1} → statement M
 viewport-layout-spec =
     tie.close
     (tie.spec
-    layout-in-requires
+    (λ c κs. search needs)
     anchor-toolbar-requires
     anchor-toolbar-requires-2
     returns

@@ -5,28 +5,13 @@ use borrow.Author.Needs.{needs}
 use Rattle.reader.proofs.read_cutouts.Statement.{statement}
 use Rattle.reader.proofs.read_cutouts.Tie as tie
 
-refuse-requires : tie.Need-refuse-requires
-refuse-requires c κs = search needs
-
 returns : tie.Need-returns
 unfolding readCutoutsOf must
 returns c = c .refuse .ensures ∙ rw (ne-eqb _ _ (c .before .if1 .taken))
 
-refuse-requires-2 : tie.Need-refuse-requires-2
-refuse-requires-2 c κs = search needs
-
 returns-2 : tie.Need-returns-2
 unfolding readCutoutsOf must
 returns-2 c = c .refuse2 .ensures ∙ rw (eq-eqb _ _ (c .before .before .if1 .left), lt-leb _ _ (c .before .if2 .taken))
-
-cutout-rects-requires : tie.Need-cutout-rects-requires
-cutout-rects-requires c κs = search needs
-
-cutouts-in-limits-requires : tie.Need-cutouts-in-limits-requires
-cutouts-in-limits-requires c κs = search needs
-
-refuse-requires-3 : tie.Need-refuse-requires-3
-refuse-requires-3 c κs = search needs
 
 returns-3 : tie.Need-returns-3
 unfolding readCutoutsOf must
@@ -40,12 +25,12 @@ pub read-cutouts-spec : {M : Type 1} → statement M
 read-cutouts-spec =
     tie.close
     (tie.spec
-    refuse-requires
+    (λ c κs. search needs)
     returns
-    refuse-requires-2
+    (λ c κs. search needs)
     returns-2
-    cutout-rects-requires
-    cutouts-in-limits-requires
-    refuse-requires-3
+    (λ c κs. search needs)
+    (λ c κs. search needs)
+    (λ c κs. search needs)
     returns-3
     returns-4)

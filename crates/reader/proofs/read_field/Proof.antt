@@ -3,48 +3,6 @@ use borrow.Author.Needs.{needs}
 use Rattle.reader.proofs.read_field.Statement.{statement}
 use Rattle.reader.proofs.read_field.Tie as tie
 
-enum-told : tie.Need-enum-told
-enum-told c = search needs
-
-read-screen-requires : tie.Need-read-screen-requires
-read-screen-requires c κs = search needs
-
-enum-told-2 : tie.Need-enum-told-2
-enum-told-2 c = search needs
-
-read-picture-requires : tie.Need-read-picture-requires
-read-picture-requires c κs = search needs
-
-enum-told-3 : tie.Need-enum-told-3
-enum-told-3 c = search needs
-
-read-mode-requires : tie.Need-read-mode-requires
-read-mode-requires c κs = search needs
-
-enum-told-4 : tie.Need-enum-told-4
-enum-told-4 c = search needs
-
-read-fit-requires : tie.Need-read-fit-requires
-read-fit-requires c κs = search needs
-
-enum-told-5 : tie.Need-enum-told-5
-enum-told-5 c = search needs
-
-read-place-requires : tie.Need-read-place-requires
-read-place-requires c κs = search needs
-
-enum-told-6 : tie.Need-enum-told-6
-enum-told-6 c = search needs
-
-read-cutouts-requires : tie.Need-read-cutouts-requires
-read-cutouts-requires c κs = search needs
-
-enum-told-7 : tie.Need-enum-told-7
-enum-told-7 c = search needs
-
-read-saved-requires : tie.Need-read-saved-requires
-read-saved-requires c κs = search needs
-
 returns : tie.Need-returns
 unfolding readFieldOf
 returns c = rw (c .before .enum-told .given .1) (c .read-screen .ensures)
@@ -77,20 +35,20 @@ pub read-field-spec : {M : Type 1} → statement M
 read-field-spec =
     tie.close
     (tie.spec
-    enum-told
-    read-screen-requires
-    enum-told-2
-    read-picture-requires
-    enum-told-3
-    read-mode-requires
-    enum-told-4
-    read-fit-requires
-    enum-told-5
-    read-place-requires
-    enum-told-6
-    read-cutouts-requires
-    enum-told-7
-    read-saved-requires
+    (λ c. search needs)
+    (λ c κs. search needs)
+    (λ c. search needs)
+    (λ c κs. search needs)
+    (λ c. search needs)
+    (λ c κs. search needs)
+    (λ c. search needs)
+    (λ c κs. search needs)
+    (λ c. search needs)
+    (λ c κs. search needs)
+    (λ c. search needs)
+    (λ c κs. search needs)
+    (λ c. search needs)
+    (λ c κs. search needs)
     returns
     returns-2
     returns-3

@@ -5,25 +5,13 @@ use borrow.Author.Needs.{needs}
 use Rattle.reader.proofs.read_fit.Statement.{statement}
 use Rattle.reader.proofs.read_fit.Tie as tie
 
-refuse-requires : tie.Need-refuse-requires
-refuse-requires c κs = search needs
-
 returns : tie.Need-returns
 unfolding readFitOf must
 returns c = c .refuse .ensures ∙ rw (ne-eqb _ _ (c .before .if1 .taken))
 
-shared-slice-read-b : tie.Need-shared-slice-read-b
-shared-slice-read-b c = search needs
-
-refuse-requires-2 : tie.Need-refuse-requires-2
-refuse-requires-2 c κs = search needs
-
 returns-2 : tie.Need-returns-2
 unfolding readFitOf must
 returns-2 c = c .refuse2 .ensures ∙ rw (eq-eqb _ _ (c .before .before .before .if1 .left), lt-leb _ _ (c .before .if2 .taken))
-
-fit-mark-requires : tie.Need-fit-mark-requires
-fit-mark-requires c κs = search needs
 
 returns-3 : tie.Need-returns-3
 unfolding readFitOf must answerOf
@@ -33,10 +21,10 @@ pub read-fit-spec : {M : Type 1} → statement M
 read-fit-spec =
     tie.close
     (tie.spec
-    refuse-requires
+    (λ c κs. search needs)
     returns
-    shared-slice-read-b
-    refuse-requires-2
+    (λ c. search needs)
+    (λ c κs. search needs)
     returns-2
-    fit-mark-requires
+    (λ c κs. search needs)
     returns-3)

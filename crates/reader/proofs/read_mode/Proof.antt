@@ -7,18 +7,9 @@ use borrow.Author.Needs.{needs}
 use Rattle.reader.proofs.read_mode.Statement.{statement}
 use Rattle.reader.proofs.read_mode.Tie as tie
 
-refuse-requires : tie.Need-refuse-requires
-refuse-requires c κs = search needs
-
 returns : tie.Need-returns
 unfolding readModeOf must
 returns c = c .refuse .ensures ∙ rw (ne-eqb _ _ (c .before .if1 .taken))
-
-shared-slice-read-b : tie.Need-shared-slice-read-b
-shared-slice-read-b c = search needs
-
-refuse-requires-2 : tie.Need-refuse-requires-2
-refuse-requires-2 c κs = search needs
 
 returns-2 : tie.Need-returns-2
 unfolding readModeOf must
@@ -33,4 +24,4 @@ returns-3 c =
 pub read-mode-spec : {M : Type 1} → statement M
 read-mode-spec =
     tie.close
-    (tie.spec refuse-requires returns shared-slice-read-b refuse-requires-2 returns-2 returns-3)
+    (tie.spec (λ c κs. search needs) returns (λ c. search needs) (λ c κs. search needs) returns-2 returns-3)

@@ -5,21 +5,9 @@ use borrow.Author.Needs.{needs}
 use Rattle.reader.proofs.read_picture.Statement.{statement}
 use Rattle.reader.proofs.read_picture.Tie as tie
 
-refuse-requires : tie.Need-refuse-requires
-refuse-requires c κs = search needs
-
 returns : tie.Need-returns
 unfolding readPictureOf must
 returns c = c .refuse .ensures ∙ rw (ne-eqb _ _ (c .before .if1 .taken))
-
-rect-at-requires : tie.Need-rect-at-requires
-rect-at-requires c κs = search needs
-
-rect-in-limits-requires : tie.Need-rect-in-limits-requires
-rect-in-limits-requires c κs = search needs
-
-refuse-requires-2 : tie.Need-refuse-requires-2
-refuse-requires-2 c κs = search needs
 
 returns-2 : tie.Need-returns-2
 unfolding readPictureOf must
@@ -33,10 +21,10 @@ pub read-picture-spec : {M : Type 1} → statement M
 read-picture-spec =
     tie.close
     (tie.spec
-    refuse-requires
+    (λ c κs. search needs)
     returns
-    rect-at-requires
-    rect-in-limits-requires
-    refuse-requires-2
+    (λ c κs. search needs)
+    (λ c κs. search needs)
+    (λ c κs. search needs)
     returns-2
     returns-3)

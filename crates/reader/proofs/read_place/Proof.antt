@@ -5,27 +5,9 @@ use borrow.Author.Needs.{needs}
 use Rattle.reader.proofs.read_place.Statement.{statement}
 use Rattle.reader.proofs.read_place.Tie as tie
 
-refuse-requires : tie.Need-refuse-requires
-refuse-requires c κs = search needs
-
 returns : tie.Need-returns
 unfolding readPlaceOf must
 returns c = c .refuse .ensures ∙ rw (ne-eqb _ _ (c .before .if1 .taken))
-
-number-at-requires : tie.Need-number-at-requires
-number-at-requires c κs = search needs
-
-number-at-requires-2 : tie.Need-number-at-requires-2
-number-at-requires-2 c κs = search needs
-
-number-at-requires-3 : tie.Need-number-at-requires-3
-number-at-requires-3 c κs = search needs
-
-place-in-limits-requires : tie.Need-place-in-limits-requires
-place-in-limits-requires c κs = search needs
-
-refuse-requires-2 : tie.Need-refuse-requires-2
-refuse-requires-2 c κs = search needs
 
 returns-2 : tie.Need-returns-2
 unfolding readPlaceOf must
@@ -39,12 +21,12 @@ pub read-place-spec : {M : Type 1} → statement M
 read-place-spec =
     tie.close
     (tie.spec
-    refuse-requires
+    (λ c κs. search needs)
     returns
-    number-at-requires
-    number-at-requires-2
-    number-at-requires-3
-    place-in-limits-requires
-    refuse-requires-2
+    (λ c κs. search needs)
+    (λ c κs. search needs)
+    (λ c κs. search needs)
+    (λ c κs. search needs)
+    (λ c κs. search needs)
     returns-2
     returns-3)

@@ -5,22 +5,13 @@ use borrow.Author.Needs.{needs}
 use Rattle.reader.proofs.read_saved.Statement.{statement}
 use Rattle.reader.proofs.read_saved.Tie as tie
 
-refuse-requires : tie.Need-refuse-requires
-refuse-requires c κs = search needs
-
 returns : tie.Need-returns
 unfolding readSavedOf must
 returns c = c .refuse .ensures ∙ rw (ne-eqb _ _ (c .before .if1 .taken))
 
-refuse-requires-2 : tie.Need-refuse-requires-2
-refuse-requires-2 c κs = search needs
-
 returns-2 : tie.Need-returns-2
 unfolding readSavedOf must
 returns-2 c = c .refuse2 .ensures ∙ rw (eq-eqb _ _ (c .before .before .if1 .left), lt-leb _ _ (c .before .if2 .taken))
-
-saved-rects-requires : tie.Need-saved-rects-requires
-saved-rects-requires c κs = search needs
 
 returns-3 : tie.Need-returns-3
 unfolding readSavedOf must answerOf
@@ -29,4 +20,4 @@ returns-3 c = rw (eq-eqb _ _ (c .before .before .before .if1 .left), le-leb _ _ 
 pub read-saved-spec : {M : Type 1} → statement M
 read-saved-spec =
     tie.close
-    (tie.spec refuse-requires returns refuse-requires-2 returns-2 saved-rects-requires returns-3)
+    (tie.spec (λ c κs. search needs) returns (λ c κs. search needs) returns-2 (λ c κs. search needs) returns-3)

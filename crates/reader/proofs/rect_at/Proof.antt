@@ -3,39 +3,6 @@ use borrow.Author.Needs.{needs}
 use Rattle.reader.proofs.rect_at.Statement.{statement}
 use Rattle.reader.proofs.rect_at.Tie as tie
 
-mul-number-at : tie.Need-mul-number-at
-mul-number-at c = search needs
-
-number-at-requires : tie.Need-number-at-requires
-number-at-requires c κs = search needs
-
-mul-number-at-2 : tie.Need-mul-number-at-2
-mul-number-at-2 c = search needs
-
-add-number-at : tie.Need-add-number-at
-add-number-at c = search needs
-
-number-at-requires-2 : tie.Need-number-at-requires-2
-number-at-requires-2 c κs = search needs
-
-mul-number-at-3 : tie.Need-mul-number-at-3
-mul-number-at-3 c = search needs
-
-add-number-at-2 : tie.Need-add-number-at-2
-add-number-at-2 c = search needs
-
-number-at-requires-3 : tie.Need-number-at-requires-3
-number-at-requires-3 c κs = search needs
-
-mul-number-at-4 : tie.Need-mul-number-at-4
-mul-number-at-4 c = search needs
-
-add-number-at-3 : tie.Need-add-number-at-3
-add-number-at-3 c = search needs
-
-number-at-requires-4 : tie.Need-number-at-requires-4
-number-at-requires-4 c κs = search needs
-
 returns : tie.Need-returns
 unfolding rectAtOf
 returns c = rw (← c .before .before .before .number-at .ensures, ← c .before .before .number-at2 .ensures, ← c .before .number-at3 .ensures, ← c .number-at4 .ensures)
@@ -44,15 +11,15 @@ pub rect-at-spec : {M : Type 1} → statement M
 rect-at-spec =
     tie.close
     (tie.spec
-    mul-number-at
-    number-at-requires
-    mul-number-at-2
-    add-number-at
-    number-at-requires-2
-    mul-number-at-3
-    add-number-at-2
-    number-at-requires-3
-    mul-number-at-4
-    add-number-at-3
-    number-at-requires-4
+    (λ c. search needs)
+    (λ c κs. search needs)
+    (λ c. search needs)
+    (λ c. search needs)
+    (λ c κs. search needs)
+    (λ c. search needs)
+    (λ c. search needs)
+    (λ c κs. search needs)
+    (λ c. search needs)
+    (λ c. search needs)
+    (λ c κs. search needs)
     returns)

@@ -17,21 +17,6 @@ loop-holds : tie.Need-loop-holds Inv-loop μ-loop
 unfolding filled rects
 loop-holds c = (omega arith, refl)
 
-rect-at-requires : tie.Need-rect-at-requires Inv-loop μ-loop
-rect-at-requires c κs = search needs
-
-mul-at : tie.Need-mul-at Inv-loop μ-loop
-mul-at c = omega arith
-
-array-set-from-at : tie.Need-array-set-from-at Inv-loop μ-loop
-array-set-from-at c = omega arith
-
-add-i : tie.Need-add-i Inv-loop μ-loop
-add-i c = omega arith
-
-loop-less : tie.Need-loop-less Inv-loop μ-loop
-loop-less c = omega arith
-
 loop-again : tie.Need-loop-again Inv-loop μ-loop
 loop-again c =
     let l = c .before .before .loop in
@@ -49,10 +34,10 @@ saved-rects-spec =
     Inv-loop
     μ-loop
     loop-holds
-    rect-at-requires
-    mul-at
-    array-set-from-at
-    add-i
-    loop-less
+    (λ c κs. search needs)
+    (λ c. omega arith)
+    (λ c. omega arith)
+    (λ c. omega arith)
+    (λ c. omega arith)
     loop-again
     returns)

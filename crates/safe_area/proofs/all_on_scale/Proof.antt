@@ -3,15 +3,6 @@ use borrow.Author.Needs.{needs}
 use Rattle.safe_area.proofs.all_on_scale.Statement.{statement}
 use Rattle.safe_area.proofs.all_on_scale.Tie as tie
 
-on-scale-requires : tie.Need-on-scale-requires
-on-scale-requires c κs = search needs
-
-on-scale-requires-2 : tie.Need-on-scale-requires-2
-on-scale-requires-2 c κs = search needs
-
-on-scale-requires-3 : tie.Need-on-scale-requires-3
-on-scale-requires-3 c κs = search needs
-
 returns : tie.Need-returns
 unfolding allOnScaleOf
 returns c = rw (← c .before .before .before .before .on-scale .ensures, ← c .before .before .on-scale2 .ensures, ← c .on-scale3 .ensures, c .before .before .before .if1 .taken, c .before .if2 .taken)
@@ -28,9 +19,9 @@ pub all-on-scale-spec : {M : Type 1} → statement M
 all-on-scale-spec =
     tie.close
     (tie.spec
-    on-scale-requires
-    on-scale-requires-2
-    on-scale-requires-3
+    (λ c κs. search needs)
+    (λ c κs. search needs)
+    (λ c κs. search needs)
     returns
     returns-2
     returns-3)

@@ -4,9 +4,6 @@ use borrow.Author.Needs.{needs}
 use Rattle.safe_area.proofs.content.Statement.{statement}
 use Rattle.safe_area.proofs.content.Tie as tie
 
-current-edges-requires : tie.Need-current-edges-requires
-current-edges-requires c κs = search needs
-
 span-along-requires : tie.Need-span-along-requires
 span-along-requires c κs = (search needs, (search needs, current-on-scale (c .before .args .size) (c .before .args .inset-size) (c .before .args .edges) (c .current-edges .ensures) (search needs)))
 
@@ -19,4 +16,4 @@ returns c = rw (← c .before .before .current-edges .ensures, ← c .before .sp
 
 pub content-spec : {M : Type 1} → statement M
 content-spec =
-    tie.close (tie.spec current-edges-requires span-along-requires span-along-requires-2 returns)
+    tie.close (tie.spec (λ c κs. search needs) span-along-requires span-along-requires-2 returns)

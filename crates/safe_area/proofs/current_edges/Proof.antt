@@ -3,9 +3,6 @@ use borrow.Author.Needs.{needs}
 use Rattle.safe_area.proofs.current_edges.Statement.{statement}
 use Rattle.safe_area.proofs.current_edges.Tie as tie
 
-same-size-requires : tie.Need-same-size-requires
-same-size-requires c κs = search needs
-
 returns : tie.Need-returns
 unfolding currentEdgesOf
 returns c = rw (← c .before .same-size .ensures, c .if1 .taken)
@@ -15,4 +12,4 @@ unfolding currentEdgesOf
 returns-2 c = rw (← c .before .same-size .ensures, c .if1 .left)
 
 pub current-edges-spec : {M : Type 1} → statement M
-current-edges-spec = tie.close (tie.spec same-size-requires returns returns-2)
+current-edges-spec = tie.close (tie.spec (λ c κs. search needs) returns returns-2)

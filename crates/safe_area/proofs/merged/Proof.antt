@@ -4,18 +4,6 @@ use Rattle.safe_area.specs.Safe.{mergedOf}
 use Rattle.safe_area.proofs.merged.Statement.{statement}
 use Rattle.safe_area.proofs.merged.Tie as tie
 
-merged-edge-requires : tie.Need-merged-edge-requires
-merged-edge-requires c κs = search needs
-
-merged-edge-requires-2 : tie.Need-merged-edge-requires-2
-merged-edge-requires-2 c κs = search needs
-
-merged-edge-requires-3 : tie.Need-merged-edge-requires-3
-merged-edge-requires-3 c κs = search needs
-
-merged-edge-requires-4 : tie.Need-merged-edge-requires-4
-merged-edge-requires-4 c κs = search needs
-
 returns : tie.Need-returns
 unfolding mergedOf
 returns c =
@@ -29,8 +17,8 @@ pub merged-spec : {M : Type 1} → statement M
 merged-spec =
     tie.close
     (tie.spec
-    merged-edge-requires
-    merged-edge-requires-2
-    merged-edge-requires-3
-    merged-edge-requires-4
+    (λ c κs. search needs)
+    (λ c κs. search needs)
+    (λ c κs. search needs)
+    (λ c κs. search needs)
     returns)

@@ -5,33 +5,6 @@ use mathlib.Core.Path.{_∙_}
 use Rattle.safe_area.proofs.merged_edge.Statement.{statement}
 use Rattle.safe_area.proofs.merged_edge.Tie as tie
 
-mul-max : tie.Need-mul-max
-mul-max c = search needs
-
-array-copy-out-max : tie.Need-array-copy-out-max
-array-copy-out-max c = search needs
-
-mul-max-2 : tie.Need-mul-max-2
-mul-max-2 c = search needs
-
-array-copy-out-max-2 : tie.Need-array-copy-out-max-2
-array-copy-out-max-2 c = search needs
-
-max-requires : tie.Need-max-requires
-max-requires c κs = search needs
-
-max-requires-2 : tie.Need-max-requires-2
-max-requires-2 c κs = search needs
-
-mul-max-3 : tie.Need-mul-max-3
-mul-max-3 c = search needs
-
-array-copy-out-max-3 : tie.Need-array-copy-out-max-3
-array-copy-out-max-3 c = search needs
-
-max-requires-3 : tie.Need-max-requires-3
-max-requires-3 c κs = search needs
-
 returns : tie.Need-returns
 unfolding mergedEdgeOf
 returns c =
@@ -52,14 +25,14 @@ pub merged-edge-spec : {M : Type 1} → statement M
 merged-edge-spec =
     tie.close
     (tie.spec
-    mul-max
-    array-copy-out-max
-    mul-max-2
-    array-copy-out-max-2
-    max-requires
-    max-requires-2
-    mul-max-3
-    array-copy-out-max-3
-    max-requires-3
+    (λ c. search needs)
+    (λ c. search needs)
+    (λ c. search needs)
+    (λ c. search needs)
+    (λ c κs. search needs)
+    (λ c κs. search needs)
+    (λ c. search needs)
+    (λ c. search needs)
+    (λ c κs. search needs)
     returns
     returns-2)

@@ -18,9 +18,6 @@ Inv-loop numbers i₀ i-end i = (i ≤ length numbers) × (i-end ≡ length numb
 abbrev μ-loop : tie.MeasureT-loop
 μ-loop numbers i₀ i-end i = i-end - i
 
-loop-holds : tie.Need-loop-holds Inv-loop μ-loop
-loop-holds c = (omega arith, refl, refl)
-
 returns : tie.Need-returns Inv-loop μ-loop
 unfolding onScaleOf
 returns c =
@@ -52,7 +49,7 @@ on-scale-spec =
     (tie.spec
     Inv-loop
     μ-loop
-    loop-holds
+    (λ c. (omega arith, refl, refl))
     (λ c. omega arith)
     (λ c. omega arith)
     (λ c κs. search needs)

@@ -5,18 +5,6 @@ use borrow.Author.Needs.{needs}
 use Rattle.safe_area.proofs.safe_content.Statement.{statement}
 use Rattle.safe_area.proofs.safe_content.Tie as tie
 
-slice-aggregate-all-on-scale : tie.Need-slice-aggregate-all-on-scale
-slice-aggregate-all-on-scale c = search needs
-
-slice-aggregate-all-on-scale-2 : tie.Need-slice-aggregate-all-on-scale-2
-slice-aggregate-all-on-scale-2 c = search needs
-
-slice-aggregate-all-on-scale-3 : tie.Need-slice-aggregate-all-on-scale-3
-slice-aggregate-all-on-scale-3 c = search needs
-
-all-on-scale-requires : tie.Need-all-on-scale-requires
-all-on-scale-requires c κs = search needs
-
 content-requires : tie.Need-content-requires
 content-requires c κs = sizes-and-edges _ _ _ (sym (c .before .all-on-scale .ensures) ∙ c .if1 .taken)
 
@@ -32,10 +20,10 @@ pub safe-content-spec : {M : Type 1} → statement M
 safe-content-spec =
     tie.close
     (tie.spec
-    slice-aggregate-all-on-scale
-    slice-aggregate-all-on-scale-2
-    slice-aggregate-all-on-scale-3
-    all-on-scale-requires
+    (λ c. search needs)
+    (λ c. search needs)
+    (λ c. search needs)
+    (λ c κs. search needs)
     content-requires
     returns
     returns-2)

@@ -17,44 +17,11 @@ at-ends c =
     let on = start c .pre .1 in
     measured (within-at _ _ (on .0)) (within-at _ _ (on .1)) (within-at _ _ (on .1)) (c .before .before .before .max .ensures) (c .before .before .clamp .ensures) (c .max2 .ensures)
 
-mul-whole : tie.Need-mul-whole
-mul-whole c = search needs
-
-array-copy-out-whole : tie.Need-array-copy-out-whole
-array-copy-out-whole c = search needs
-
-mul-clamp : tie.Need-mul-clamp
-mul-clamp c = search needs
-
-array-copy-out-clamp : tie.Need-array-copy-out-clamp
-array-copy-out-clamp c = search needs
-
-max-requires : tie.Need-max-requires
-max-requires c κs = search needs
-
-clamp-requires : tie.Need-clamp-requires
-clamp-requires c κs = search needs
-
-add-max : tie.Need-add-max
-add-max c = search needs
-
-mul-max : tie.Need-mul-max
-mul-max c = search needs
-
-array-copy-out-max : tie.Need-array-copy-out-max
-array-copy-out-max c = search needs
-
-max-requires-2 : tie.Need-max-requires-2
-max-requires-2 c κs = search needs
-
 sub-max : tie.Need-sub-max
 sub-max c = at-ends c .first
 
 sub-max-2 : tie.Need-sub-max-2
 sub-max-2 c = at-ends c .second
-
-max-requires-3 : tie.Need-max-requires-3
-max-requires-3 c κs = search needs
 
 int-to-float-t20 : tie.Need-int-to-float-t20
 int-to-float-t20 c = let m = at-ends (c .before .before) in cast-small (c .before .before .before .before .clamp .result) (omega (arith, m .start-small))
@@ -75,19 +42,19 @@ pub span-along-spec : {M : Type 1} → statement M
 span-along-spec =
     tie.close
     (tie.spec
-    mul-whole
-    array-copy-out-whole
-    mul-clamp
-    array-copy-out-clamp
-    max-requires
-    clamp-requires
-    add-max
-    mul-max
-    array-copy-out-max
-    max-requires-2
+    (λ c. search needs)
+    (λ c. search needs)
+    (λ c. search needs)
+    (λ c. search needs)
+    (λ c κs. search needs)
+    (λ c κs. search needs)
+    (λ c. search needs)
+    (λ c. search needs)
+    (λ c. search needs)
+    (λ c κs. search needs)
     sub-max
     sub-max-2
-    max-requires-3
+    (λ c κs. search needs)
     int-to-float-t20
     int-to-float-t21
     returns)

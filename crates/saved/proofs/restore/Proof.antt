@@ -3,12 +3,6 @@ use Rattle.saved.proofs.restore.Statement.{statement}
 use Rattle.saved.proofs.restore.Tie as tie
 use Rattle.saved.specs.Saved.{restoreOf}
 
-usable-requires : tie.Need-usable-requires
-usable-requires c κs = search needs
-
-on-screen-requires : tie.Need-on-screen-requires
-on-screen-requires c κs = search needs
-
 returns : tie.Need-returns
 unfolding restoreOf
 returns c = rw (← c .before .before .usable .ensures, c .before .if1 .taken) (c .on-screen .ensures)
@@ -18,4 +12,4 @@ unfolding restoreOf
 returns-2 c = rw (← c .before .usable .ensures, c .if1 .left)
 
 pub restore-spec : {M : Type 1} → statement M
-restore-spec = tie.close (tie.spec usable-requires on-screen-requires returns returns-2)
+restore-spec = tie.close (tie.spec (λ c κs. search needs) (λ c κs. search needs) returns returns-2)

@@ -22,33 +22,6 @@ abbrev μ-loop : tie.MeasureT-loop
 loop-holds : tie.Need-loop-holds Inv-loop μ-loop
 loop-holds c = let n : length (c .before .args .elements .at) ≡ 19 = search sized in (omega arith, n, restored-none _ _ _)
 
-mul-restore : tie.Need-mul-restore Inv-loop μ-loop
-mul-restore c = omega arith
-
-array-copy-out-restore : tie.Need-array-copy-out-restore Inv-loop μ-loop
-array-copy-out-restore c = omega arith
-
-mul-restore-2 : tie.Need-mul-restore-2 Inv-loop μ-loop
-mul-restore-2 c = omega arith
-
-array-copy-out-restore-2 : tie.Need-array-copy-out-restore-2 Inv-loop μ-loop
-array-copy-out-restore-2 c = omega arith
-
-restore-requires : tie.Need-restore-requires Inv-loop μ-loop
-restore-requires c κs = search needs
-
-mul-at : tie.Need-mul-at Inv-loop μ-loop
-mul-at c = omega arith
-
-array-set-from-at : tie.Need-array-set-from-at Inv-loop μ-loop
-array-set-from-at c = omega arith
-
-add-i : tie.Need-add-i Inv-loop μ-loop
-add-i c = omega arith
-
-loop-less : tie.Need-loop-less Inv-loop μ-loop
-loop-less c = omega arith
-
 loop-again : tie.Need-loop-again Inv-loop μ-loop
 loop-again c = let l = c .before .before in
     let a = l .before .before .args in
@@ -75,14 +48,14 @@ restored-spec =
     Inv-loop
     μ-loop
     loop-holds
-    mul-restore
-    array-copy-out-restore
-    mul-restore-2
-    array-copy-out-restore-2
-    restore-requires
-    mul-at
-    array-set-from-at
-    add-i
-    loop-less
+    (λ c. omega arith)
+    (λ c. omega arith)
+    (λ c. omega arith)
+    (λ c. omega arith)
+    (λ c κs. search needs)
+    (λ c. omega arith)
+    (λ c. omega arith)
+    (λ c. omega arith)
+    (λ c. omega arith)
     loop-again
     returns)

@@ -21,15 +21,6 @@ loop-holds : tie.Need-loop-holds Inv-loop μ-loop
 unfolding cutoutsInLimitsOf
 loop-holds c = (omega arith, refl)
 
-mul-rect-in-limits : tie.Need-mul-rect-in-limits Inv-loop μ-loop
-mul-rect-in-limits c = omega arith
-
-array-copy-out-rect-in-limits : tie.Need-array-copy-out-rect-in-limits Inv-loop μ-loop
-array-copy-out-rect-in-limits c = omega arith
-
-rect-in-limits-requires : tie.Need-rect-in-limits-requires Inv-loop μ-loop
-rect-in-limits-requires c κs = search needs
-
 returns : tie.Need-returns Inv-loop μ-loop
 unfolding cutoutsInLimitsOf
 returns c =
@@ -38,12 +29,6 @@ returns c =
     let m : length (s .args .c .at) ≡ 16 = search sized in
     let e = next-of anyRect (s .args .c .at) 16 (s .args .c .count) (l .i) m (omega arith) (omega arith) in
     all-miss _ _ _ _ _ _ (l .inv .1) e (c .before .rect-in-limits .ensures) (not-true _ (c .if1 .taken))
-
-add-i : tie.Need-add-i Inv-loop μ-loop
-add-i c = omega arith
-
-loop-less : tie.Need-loop-less Inv-loop μ-loop
-loop-less c = omega arith
 
 loop-again : tie.Need-loop-again Inv-loop μ-loop
 loop-again c =
@@ -68,11 +53,11 @@ cutouts-in-limits-spec =
     Inv-loop
     μ-loop
     loop-holds
-    mul-rect-in-limits
-    array-copy-out-rect-in-limits
-    rect-in-limits-requires
+    (λ c. omega arith)
+    (λ c. omega arith)
+    (λ c κs. search needs)
     returns
-    add-i
-    loop-less
+    (λ c. omega arith)
+    (λ c. omega arith)
     loop-again
     returns-2)

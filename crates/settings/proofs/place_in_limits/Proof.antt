@@ -3,15 +3,6 @@ use borrow.Author.Needs.{needs}
 use Rattle.settings.proofs.place_in_limits.Statement.{statement}
 use Rattle.settings.proofs.place_in_limits.Tie as tie
 
-in-limits-requires : tie.Need-in-limits-requires
-in-limits-requires c κs = search needs
-
-in-limits-requires-2 : tie.Need-in-limits-requires-2
-in-limits-requires-2 c κs = search needs
-
-in-limits-requires-3 : tie.Need-in-limits-requires-3
-in-limits-requires-3 c κs = search needs
-
 returns : tie.Need-returns
 unfolding placeInLimitsOf
 returns c = rw (← c .before .before .before .before .in-limits .ensures, ← c .before .before .in-limits2 .ensures, ← c .in-limits3 .ensures, c .before .before .before .if1 .taken, c .before .if2 .taken)
@@ -28,9 +19,9 @@ pub place-in-limits-spec : {M : Type 1} → statement M
 place-in-limits-spec =
     tie.close
     (tie.spec
-    in-limits-requires
-    in-limits-requires-2
-    in-limits-requires-3
+    (λ c κs. search needs)
+    (λ c κs. search needs)
+    (λ c κs. search needs)
     returns
     returns-2
     returns-3)

@@ -3,18 +3,6 @@ use borrow.Author.Needs.{needs}
 use Rattle.settings.proofs.rect_in_limits.Statement.{statement}
 use Rattle.settings.proofs.rect_in_limits.Tie as tie
 
-in-limits-requires : tie.Need-in-limits-requires
-in-limits-requires c κs = search needs
-
-in-limits-requires-2 : tie.Need-in-limits-requires-2
-in-limits-requires-2 c κs = search needs
-
-in-limits-requires-3 : tie.Need-in-limits-requires-3
-in-limits-requires-3 c κs = search needs
-
-in-limits-requires-4 : tie.Need-in-limits-requires-4
-in-limits-requires-4 c κs = search needs
-
 returns : tie.Need-returns
 unfolding rectInLimitsOf
 returns c = rw (← c .before .before .before .before .before .before .in-limits .ensures, ← c .before .before .before .before .in-limits2 .ensures, ← c .before .before .in-limits3 .ensures, ← c .in-limits4 .ensures, c .before .before .before .before .before .if1 .taken, c .before .before .before .if2 .taken, c .before .if3 .taken)
@@ -35,10 +23,10 @@ pub rect-in-limits-spec : {M : Type 1} → statement M
 rect-in-limits-spec =
     tie.close
     (tie.spec
-    in-limits-requires
-    in-limits-requires-2
-    in-limits-requires-3
-    in-limits-requires-4
+    (λ c κs. search needs)
+    (λ c κs. search needs)
+    (λ c κs. search needs)
+    (λ c κs. search needs)
     returns
     returns-2
     returns-3

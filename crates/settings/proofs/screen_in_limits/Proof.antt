@@ -3,12 +3,6 @@ use Rattle.settings.specs.Settings.{screenInLimitsOf}
 use Rattle.settings.proofs.screen_in_limits.Statement.{statement}
 use Rattle.settings.proofs.screen_in_limits.Tie as tie
 
-in-limits-requires : tie.Need-in-limits-requires
-in-limits-requires c κs = search needs
-
-in-limits-requires-2 : tie.Need-in-limits-requires-2
-in-limits-requires-2 c κs = search needs
-
 returns : tie.Need-returns
 unfolding screenInLimitsOf
 returns c = rw (← c .before .before .in-limits .ensures, ← c .in-limits2 .ensures, c .before .if1 .taken)
@@ -18,4 +12,4 @@ unfolding screenInLimitsOf
 returns-2 c = rw (← c .before .in-limits .ensures, c .if1 .left)
 
 pub screen-in-limits-spec : {M : Type 1} → statement M
-screen-in-limits-spec = tie.close (tie.spec in-limits-requires in-limits-requires-2 returns returns-2)
+screen-in-limits-spec = tie.close (tie.spec (λ c κs. search needs) (λ c κs. search needs) returns returns-2)

@@ -9,50 +9,20 @@ use borrow.Author.Needs.{needs}
 use Rattle.sheet.proofs.layout_sheet.Statement.{statement}
 use Rattle.sheet.proofs.layout_sheet.Tie as tie
 
-slice-aggregate-put-head : tie.Need-slice-aggregate-put-head
-slice-aggregate-put-head c = search needs
-
-slice-aggregate-put-head-2 : tie.Need-slice-aggregate-put-head-2
-slice-aggregate-put-head-2 c = search needs
-
-add-put-head : tie.Need-add-put-head
-add-put-head c = search needs
-
-add-put-head-2 : tie.Need-add-put-head-2
-add-put-head-2 c = search needs
-
-cast-put-head : tie.Need-cast-put-head
-cast-put-head c = search needs
-
 put-head-requires : tie.Need-put-head-requires
 put-head-requires c κs =
     let s = c .before .before .before .before .before in
     omega (arith, sheet-room (s .args .l) (s .pre .0) (s .pre .1) (s .pre .2) (s .pre .3))
-
-slice-aggregate-put-line : tie.Need-slice-aggregate-put-line
-slice-aggregate-put-line c = search needs
-
-slice-aggregate-put-line-2 : tie.Need-slice-aggregate-put-line-2
-slice-aggregate-put-line-2 c = search needs
 
 put-line-requires : tie.Need-put-line-requires
 put-line-requires c κs =
     let s = c .before .before .before .before .before .before .before .before .before in
     (game-printable (s .pre .3), omega (arith, sheet-room (s .args .l) (s .pre .0) (s .pre .1) (s .pre .2) (s .pre .3)))
 
-slice-aggregate-put-line-3 : tie.Need-slice-aggregate-put-line-3
-slice-aggregate-put-line-3 c = search needs
-
-slice-aggregate-put-line-4 : tie.Need-slice-aggregate-put-line-4
-slice-aggregate-put-line-4 c = search needs
-
 put-line-requires-2 : tie.Need-put-line-requires-2
 put-line-requires-2 c κs =
     let s = c .before .before .before .before .before .before .before .before .before .before .before .before .before in
     (element-printable (s .pre .2 .dpad), omega (arith, sheet-room (s .args .l) (s .pre .0) (s .pre .1) (s .pre .2) (s .pre .3)))
-
-slice-aggregate-put-controls : tie.Need-slice-aggregate-put-controls
-slice-aggregate-put-controls c = search needs
 
 put-controls-requires : tie.Need-put-controls-requires
 put-controls-requires c κs =
@@ -62,9 +32,6 @@ put-controls-requires c κs =
     let d = c .before .before .put-line2 .ensures in
     (s .pre .0, s .pre .2 .controls, omega (arith, same h, same g, same d, sheet-room (s .args .l) (s .pre .0) (s .pre .1) (s .pre .2) (s .pre .3)))
 
-slice-aggregate-put-toolbar : tie.Need-slice-aggregate-put-toolbar
-slice-aggregate-put-toolbar c = search needs
-
 put-toolbar-requires : tie.Need-put-toolbar-requires
 put-toolbar-requires c κs =
     let s = c .before .before .before .before .before .before .before .before .before .before .before .before .before .before .before .before .before .before .before in
@@ -73,9 +40,6 @@ put-toolbar-requires c κs =
     let d = c .before .before .before .before .before .put-line2 .ensures in
     let cs = c .before .before .put-controls .ensures in
     (s .pre .2, omega (arith, same h, same g, same d, same cs, sheet-room (s .args .l) (s .pre .0) (s .pre .1) (s .pre .2) (s .pre .3)))
-
-slice-aggregate-put-sticks : tie.Need-slice-aggregate-put-sticks
-slice-aggregate-put-sticks c = search needs
 
 put-sticks-requires : tie.Need-put-sticks-requires
 put-sticks-requires c κs =
@@ -99,22 +63,22 @@ pub layout-sheet-spec : {M : Type 1} → statement M
 layout-sheet-spec =
     tie.close
     (tie.spec
-    slice-aggregate-put-head
-    slice-aggregate-put-head-2
-    add-put-head
-    add-put-head-2
-    cast-put-head
+    (λ c. search needs)
+    (λ c. search needs)
+    (λ c. search needs)
+    (λ c. search needs)
+    (λ c. search needs)
     put-head-requires
-    slice-aggregate-put-line
-    slice-aggregate-put-line-2
+    (λ c. search needs)
+    (λ c. search needs)
     put-line-requires
-    slice-aggregate-put-line-3
-    slice-aggregate-put-line-4
+    (λ c. search needs)
+    (λ c. search needs)
     put-line-requires-2
-    slice-aggregate-put-controls
+    (λ c. search needs)
     put-controls-requires
-    slice-aggregate-put-toolbar
+    (λ c. search needs)
     put-toolbar-requires
-    slice-aggregate-put-sticks
+    (λ c. search needs)
     put-sticks-requires
     returns)

@@ -28,15 +28,6 @@ loop-holds : tie.Need-loop-holds Inv-loop μ-loop
 unfolding flatMap
 loop-holds c = (omega arith, refl, none _ _)
 
-mul-c : tie.Need-mul-c Inv-loop μ-loop
-mul-c c = omega arith
-
-array-copy-out-c : tie.Need-array-copy-out-c Inv-loop μ-loop
-array-copy-out-c c = omega arith
-
-name-requires : tie.Need-name-requires Inv-loop μ-loop
-name-requires c κs = search needs
-
 array-share-prefix-bytes : tie.Need-array-share-prefix-bytes Inv-loop μ-loop
 array-share-prefix-bytes c = let k : length (c .before .before .name .result .bytes) ≡ 6 = search sized in omega arith
 
@@ -55,12 +46,6 @@ put-line-requires c κs =
     let r = control-room (s .args .t3) (l .i) (s .args .n) (c .before .before .before .before .before .loop-test .taken) (omega arith) in
     (element-printable (each-at (λ c. Element (c .bounds)) (l .i) (s .args .t3) anyControl (omega arith) (s .pre .1)), rw (c .before .before .before .name .ensures .0) (omega arith))
 
-add-i : tie.Need-add-i Inv-loop μ-loop
-add-i c = omega arith
-
-loop-less : tie.Need-loop-less Inv-loop μ-loop
-loop-less c = omega arith
-
 loop-again : tie.Need-loop-again Inv-loop μ-loop
 loop-again c =
     let s = c .before .before .before .before .before .before .before .before .before .before .before in
@@ -68,9 +53,6 @@ loop-again c =
     let k : length (s .args .t3) ≡ 12 = search sized in
     let put = c .before .before .put-line .ensures in
     (omega arith, same put ∙ l .inv .1, control-next (s .args .t3) (l .i) (omega arith) (l .inv .2) (rw (c .before .before .before .before .before .before .name .ensures .0) at put))
-
-same-length : tie.Need-same-length Inv-loop μ-loop
-same-length c = search needs
 
 returns : tie.Need-returns Inv-loop μ-loop
 returns c =
@@ -85,14 +67,14 @@ put-controls-spec =
     Inv-loop
     μ-loop
     loop-holds
-    mul-c
-    array-copy-out-c
-    name-requires
+    (λ c. omega arith)
+    (λ c. omega arith)
+    (λ c κs. search needs)
     array-share-prefix-bytes
     slice-aggregate-put-line
     put-line-requires
-    add-i
-    loop-less
+    (λ c. omega arith)
+    (λ c. omega arith)
     loop-again
-    same-length
+    (λ c. search needs)
     returns)

@@ -15,40 +15,22 @@ use Rattle.sheet.proofs.put_sticks.Tie as tie
 returns : tie.Need-returns
 returns c = rw (no-stick _ _ (c .if1 .taken)) (none _ _)
 
-slice-aggregate-put-line : tie.Need-slice-aggregate-put-line
-slice-aggregate-put-line c = search needs
-
-array-copy-out-put-line : tie.Need-array-copy-out-put-line
-array-copy-out-put-line c = search needs
-
 put-line-requires : tie.Need-put-line-requires
 put-line-requires c κs =
     let s = c .before .before .before .before .before in
     let k : length (s .args .t3) ≡ 2 = search sized in
     (element-printable (each-at Element 0 (s .args .t3) anyRect (omega arith) (s .pre .1)), omega (arith, first-room (s .args .t3) (s .args .n) k (c .before .before .before .if1 .left)))
 
-same-length : tie.Need-same-length
-same-length c = search needs
-
 returns-2 : tie.Need-returns-2
 returns-2 c =
     let s = c .before .before .before .before .before .before .before .before .before in
     rw (one-stick (s .args .t3) (s .args .n) (search sized) (c .before .before .before .before .before .before .before .if1 .left) (c .if2 .taken)) (c .before .before .before .put-line .ensures)
-
-slice-aggregate-put-line-2 : tie.Need-slice-aggregate-put-line-2
-slice-aggregate-put-line-2 c = search needs
-
-array-copy-out-put-line-2 : tie.Need-array-copy-out-put-line-2
-array-copy-out-put-line-2 c = search needs
 
 put-line-requires-2 : tie.Need-put-line-requires-2
 put-line-requires-2 c κs =
     let s = c .before .before .before .before .before .before .before .before .before .before .before .before in
     let k : length (s .args .t3) ≡ 2 = search sized in
     (element-printable (each-at Element 1 (s .args .t3) anyRect (omega arith) (s .pre .1)), omega (arith, simp length-append at (ap length (two-sticks (s .args .t3) (s .args .n) k (c .before .before .before .if2 .left) (s .pre .0)))))
-
-same-length-2 : tie.Need-same-length-2
-same-length-2 c = search needs
 
 returns-3 : tie.Need-returns-3
 returns-3 c =
@@ -60,13 +42,13 @@ put-sticks-spec =
     tie.close
     (tie.spec
     returns
-    slice-aggregate-put-line
-    array-copy-out-put-line
+    (λ c. search needs)
+    (λ c. search needs)
     put-line-requires
-    same-length
+    (λ c. search needs)
     returns-2
-    slice-aggregate-put-line-2
-    array-copy-out-put-line-2
+    (λ c. search needs)
+    (λ c. search needs)
     put-line-requires-2
-    same-length-2
+    (λ c. search needs)
     returns-3)

@@ -6,32 +6,17 @@ use borrow.Author.Needs.{needs}
 use Rattle.sheet.proofs.put_toolbar.Statement.{statement}
 use Rattle.sheet.proofs.put_toolbar.Tie as tie
 
-slice-aggregate-put-line : tie.Need-slice-aggregate-put-line
-slice-aggregate-put-line c = search needs
-
 put-line-requires : tie.Need-put-line-requires
 put-line-requires c κs = (element-printable (c .before .before .before .pre .0 .pause), omega (arith, length-toolbar (c .before .before .before .args .l)))
-
-slice-aggregate-put-line-2 : tie.Need-slice-aggregate-put-line-2
-slice-aggregate-put-line-2 c = search needs
 
 put-line-requires-2 : tie.Need-put-line-requires-2
 put-line-requires-2 c κs = (element-printable (c .before .before .before .before .before .before .before .before .pre .0 .playback), omega (arith, length-toolbar (c .before .before .before .before .before .before .before .before .args .l)))
 
-slice-aggregate-put-line-3 : tie.Need-slice-aggregate-put-line-3
-slice-aggregate-put-line-3 c = search needs
-
 put-line-requires-3 : tie.Need-put-line-requires-3
 put-line-requires-3 c κs = (element-printable (c .before .before .before .before .before .before .before .before .before .before .before .before .before .pre .0 .speed), omega (arith, length-toolbar (c .before .before .before .before .before .before .before .before .before .before .before .before .before .args .l)))
 
-slice-aggregate-put-line-4 : tie.Need-slice-aggregate-put-line-4
-slice-aggregate-put-line-4 c = search needs
-
 put-line-requires-4 : tie.Need-put-line-requires-4
 put-line-requires-4 c κs = (element-printable (c .before .before .before .before .before .before .before .before .before .before .before .before .before .before .before .before .before .before .pre .0 .mute), omega (arith, length-toolbar (c .before .before .before .before .before .before .before .before .before .before .before .before .before .before .before .before .before .before .args .l)))
-
-same-length : tie.Need-same-length
-same-length c = search needs
 
 returns : tie.Need-returns
 returns c = rw (toolbar-text (c .before .before .before .before .before .before .before .before .before .before .before .before .before .before .before .before .before .before .before .before .before .args .l)) (after (c .before .before .before .before .before .before .before .before .before .before .before .before .before .before .before .before .before .put-line .ensures) (after (c .before .before .before .before .before .before .before .before .before .before .before .before .put-line2 .ensures) (after (c .before .before .before .before .before .before .before .put-line3 .ensures) (c .before .before .put-line4 .ensures))))
@@ -40,13 +25,13 @@ pub put-toolbar-spec : {M : Type 1} → statement M
 put-toolbar-spec =
     tie.close
     (tie.spec
-    slice-aggregate-put-line
+    (λ c. search needs)
     put-line-requires
-    slice-aggregate-put-line-2
+    (λ c. search needs)
     put-line-requires-2
-    slice-aggregate-put-line-3
+    (λ c. search needs)
     put-line-requires-3
-    slice-aggregate-put-line-4
+    (λ c. search needs)
     put-line-requires-4
-    same-length
+    (λ c. search needs)
     returns)

@@ -5,39 +5,6 @@ use borrow.Author.Needs.{needs}
 use Rattle.thumb_layout.proofs.four.Statement.{statement}
 use Rattle.thumb_layout.proofs.four.Tie as tie
 
-mul-t3 : tie.Need-mul-t3
-mul-t3 c = search needs
-
-shared-slice-copy-out-t5 : tie.Need-shared-slice-copy-out-t5
-shared-slice-copy-out-t5 c = search needs
-
-add-t6 : tie.Need-add-t6
-add-t6 c = search needs
-
-mul-t7 : tie.Need-mul-t7
-mul-t7 c = search needs
-
-shared-slice-copy-out-t9 : tie.Need-shared-slice-copy-out-t9
-shared-slice-copy-out-t9 c = search needs
-
-add-t10 : tie.Need-add-t10
-add-t10 c = search needs
-
-mul-t11 : tie.Need-mul-t11
-mul-t11 c = search needs
-
-shared-slice-copy-out-t13 : tie.Need-shared-slice-copy-out-t13
-shared-slice-copy-out-t13 c = search needs
-
-add-t14 : tie.Need-add-t14
-add-t14 c = search needs
-
-mul-t15 : tie.Need-mul-t15
-mul-t15 c = search needs
-
-shared-slice-copy-out-t17 : tie.Need-shared-slice-copy-out-t17
-shared-slice-copy-out-t17 c = search needs
-
 returns : tie.Need-returns
 unfolding fourOf
 returns c =
@@ -52,15 +19,15 @@ pub four-spec : {M : Type 1} → statement M
 four-spec =
     tie.close
     (tie.spec
-    mul-t3
-    shared-slice-copy-out-t5
-    add-t6
-    mul-t7
-    shared-slice-copy-out-t9
-    add-t10
-    mul-t11
-    shared-slice-copy-out-t13
-    add-t14
-    mul-t15
-    shared-slice-copy-out-t17
+    (λ c. search needs)
+    (λ c. search needs)
+    (λ c. search needs)
+    (λ c. search needs)
+    (λ c. search needs)
+    (λ c. search needs)
+    (λ c. search needs)
+    (λ c. search needs)
+    (λ c. search needs)
+    (λ c. search needs)
+    (λ c. search needs)
     returns)

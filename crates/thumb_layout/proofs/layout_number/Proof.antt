@@ -6,19 +6,10 @@ use Rattle.geometry.proofs.Signed.{stored}
 use Rattle.thumb_layout.proofs.layout_number.Statement.{statement}
 use Rattle.thumb_layout.proofs.layout_number.Tie as tie
 
-enum-known-answer : tie.Need-enum-known-answer
-enum-known-answer c = search needs
-
 cast-result : tie.Need-cast-result
 cast-result c =
     let h = rw (c .before .answer .given .1) at (c .before .before .before .pre) in
     sfits-of (omega (arith, h))
-
-enum-known-answer-2 : tie.Need-enum-known-answer-2
-enum-known-answer-2 c = search needs
-
-minus-requires : tie.Need-minus-requires
-minus-requires c κs = search needs
 
 returns : tie.Need-returns
 returns c =
@@ -31,4 +22,4 @@ returns-2 c = rw (c .before .before .answer2 .given .1) (stored (c .minus .ok) (
 pub layout-number-spec : {M : Type 1} → statement M
 layout-number-spec =
     tie.close
-    (tie.spec enum-known-answer cast-result enum-known-answer-2 minus-requires returns returns-2)
+    (tie.spec (λ c. search needs) cast-result (λ c. search needs) (λ c κs. search needs) returns returns-2)

@@ -5,9 +5,6 @@ use Rattle.geometry.proofs.Signed.{minus-fits, minus-is}
 use Rattle.thumb_layout.proofs.minus.Statement.{statement}
 use Rattle.thumb_layout.proofs.minus.Tie as tie
 
-cast-result : tie.Need-cast-result
-cast-result c = search needs
-
 sub-result : tie.Need-sub-result
 sub-result c = minus-fits (pos (c .args .refusal)) (omega arith)
 
@@ -15,4 +12,4 @@ returns : tie.Need-returns
 returns c = minus-is (pos (c .args .refusal)) (omega arith)
 
 pub minus-spec : {M : Type 1} → statement M
-minus-spec = tie.close (tie.spec cast-result sub-result returns)
+minus-spec = tie.close (tie.spec (λ c. search needs) sub-result returns)

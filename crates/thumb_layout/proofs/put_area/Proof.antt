@@ -8,20 +8,11 @@ use Rattle.thumb_layout.proofs.put_area.Tie as tie
 returns : tie.Need-returns
 returns c = no-room _ _ _ _ _ (c .if1 .taken)
 
-slice-write-area : tie.Need-slice-write-area
-slice-write-area c = search needs
-
 slice-write-area-2 : tie.Need-slice-write-area-2
 slice-write-area-2 c = simp length-set (omega arith)
 
 slice-write-area-3 : tie.Need-slice-write-area-3
 slice-write-area-3 c = simp length-set (omega arith)
-
-slice-write-area-4 : tie.Need-slice-write-area-4
-slice-write-area-4 c = search needs
-
-same-length : tie.Need-same-length
-same-length c = search needs
 
 returns-2 : tie.Need-returns-2
 returns-2 c =
@@ -33,9 +24,9 @@ put-area-spec =
     tie.close
     (tie.spec
     returns
-    slice-write-area
+    (λ c. search needs)
     slice-write-area-2
     slice-write-area-3
-    slice-write-area-4
-    same-length
+    (λ c. search needs)
+    (λ c. search needs)
     returns-2)

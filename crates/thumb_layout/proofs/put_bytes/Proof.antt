@@ -16,29 +16,11 @@ Inv-loop bytes out₀ i₀ i-end out i = (i ≤ length bytes) × (length out ≡
 abbrev μ-loop : tie.MeasureT-loop
 μ-loop bytes out₀ i₀ i-end out i = i-end - i
 
-loop-holds : tie.Need-loop-holds Inv-loop μ-loop
-loop-holds c = (omega arith, refl, refl)
-
-shared-slice-read-out : tie.Need-shared-slice-read-out Inv-loop μ-loop
-shared-slice-read-out c = omega arith
-
-slice-write-out : tie.Need-slice-write-out Inv-loop μ-loop
-slice-write-out c = omega arith
-
-add-i : tie.Need-add-i Inv-loop μ-loop
-add-i c = omega arith
-
-loop-less : tie.Need-loop-less Inv-loop μ-loop
-loop-less c = omega arith
-
 loop-again : tie.Need-loop-again Inv-loop μ-loop
 loop-again c =
     let a = c .before .before .before .args in
     let l = c .before .before .loop in
     (omega arith, length-set (l .out) (l .i) _ ∙ l .inv .1, replaceFirst-next (now (a .bytes)) (now (a .out)) (l .out) (l .i) 0 (omega arith) (omega arith) (l .inv .2) refl)
-
-same-length : tie.Need-same-length Inv-loop μ-loop
-same-length c = search needs
 
 returns : tie.Need-returns Inv-loop μ-loop
 returns c =
@@ -53,11 +35,11 @@ put-bytes-spec =
     (tie.spec
     Inv-loop
     μ-loop
-    loop-holds
-    shared-slice-read-out
-    slice-write-out
-    add-i
-    loop-less
+    (λ c. (omega arith, refl, refl))
+    (λ c. omega arith)
+    (λ c. omega arith)
+    (λ c. omega arith)
+    (λ c. omega arith)
     loop-again
-    same-length
+    (λ c. search needs)
     returns)

@@ -10,20 +10,11 @@ use Rattle.thumb_layout.proofs.put_edges.Tie as tie
 returns : tie.Need-returns
 returns c = no-room _ _ _ _ _ (c .if1 .taken)
 
-slice-set-from-left : tie.Need-slice-set-from-left
-slice-set-from-left c = search needs
-
 slice-set-from-top : tie.Need-slice-set-from-top
 slice-set-from-top c = simp length-set (omega arith)
 
 slice-set-from-right : tie.Need-slice-set-from-right
 slice-set-from-right c = simp length-set (omega arith)
-
-slice-set-from-bottom : tie.Need-slice-set-from-bottom
-slice-set-from-bottom c = search needs
-
-same-length : tie.Need-same-length
-same-length c = search needs
 
 returns-2 : tie.Need-returns-2
 returns-2 c =
@@ -42,9 +33,9 @@ put-edges-spec =
     tie.close
     (tie.spec
     returns
-    slice-set-from-left
+    (λ c. search needs)
     slice-set-from-top
     slice-set-from-right
-    slice-set-from-bottom
-    same-length
+    (λ c. search needs)
+    (λ c. search needs)
     returns-2)

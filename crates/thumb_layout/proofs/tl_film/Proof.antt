@@ -19,12 +19,6 @@ returns : tie.Need-returns
 unfolding tlFilmOf tlFilmOutputOf must
 returns c = let e = lt-leb 1024 _ (c .if1 .taken) in (rw e, rw e)
 
-film-sheet-requires : tie.Need-film-sheet-requires
-film-sheet-requires c κs = search needs
-
-slice-aggregate-put-bytes : tie.Need-slice-aggregate-put-bytes
-slice-aggregate-put-bytes c = search needs
-
 put-bytes-requires : tie.Need-put-bytes-requires
 put-bytes-requires c κs =
     let f = c .before .before .before .film-sheet in
@@ -37,9 +31,6 @@ cast-result c =
     let f = c .before .before .before .before .before .before .film-sheet in
     let n : f .result .len ≤ 788 = rw (f .ensures) (film-fits _) in
     sfits-of (omega (arith, n))
-
-same-length : tie.Need-same-length
-same-length c = search needs
 
 returns-2 : tie.Need-returns-2
 unfolding tlFilmOf tlFilmOutputOf must filmSheetOf
@@ -55,9 +46,9 @@ tl-film-spec =
     tie.close
     (tie.spec
     returns
-    film-sheet-requires
-    slice-aggregate-put-bytes
+    (λ c κs. search needs)
+    (λ c. search needs)
     put-bytes-requires
     cast-result
-    same-length
+    (λ c. search needs)
     returns-2)

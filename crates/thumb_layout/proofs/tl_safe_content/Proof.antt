@@ -10,30 +10,6 @@ returns : tie.Need-returns
 unfolding tlSafeContentOf tlSafeContentOutputOf contentFour must
 returns c = let e = ne-eqb _ _ (c .if1 .taken) in (rw e, rw e)
 
-two-requires : tie.Need-two-requires
-two-requires c κs = search needs
-
-two-requires-2 : tie.Need-two-requires-2
-two-requires-2 c κs = search needs
-
-four-requires : tie.Need-four-requires
-four-requires c κs = search needs
-
-safe-content-requires : tie.Need-safe-content-requires
-safe-content-requires c κs = search needs
-
-enum-known-r : tie.Need-enum-known-r
-enum-known-r c = search needs
-
-put-area-requires : tie.Need-put-area-requires
-put-area-requires c κs = search needs
-
-enum-told : tie.Need-enum-told
-enum-told c = search needs
-
-same-length : tie.Need-same-length
-same-length c = search needs
-
 returns-2 : tie.Need-returns-2
 unfolding tlSafeContentOf tlSafeContentOutputOf contentFour must
 returns-2 c =
@@ -60,13 +36,13 @@ tl-safe-content-spec =
     tie.close
     (tie.spec
     returns
-    two-requires
-    two-requires-2
-    four-requires
-    safe-content-requires
-    enum-known-r
-    put-area-requires
-    enum-told
-    same-length
+    (λ c κs. search needs)
+    (λ c κs. search needs)
+    (λ c κs. search needs)
+    (λ c κs. search needs)
+    (λ c. search needs)
+    (λ c κs. search needs)
+    (λ c. search needs)
+    (λ c. search needs)
     returns-2
     returns-3)

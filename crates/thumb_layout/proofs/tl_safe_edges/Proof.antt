@@ -10,30 +10,6 @@ returns : tie.Need-returns
 unfolding tlSafeEdgesOf tlSafeEdgesOutputOf edgesFour must
 returns c = let e = ne-eqb _ _ (c .if1 .taken) in (rw e, rw e)
 
-four-requires : tie.Need-four-requires
-four-requires c κs = search needs
-
-four-requires-2 : tie.Need-four-requires-2
-four-requires-2 c κs = search needs
-
-four-requires-3 : tie.Need-four-requires-3
-four-requires-3 c κs = search needs
-
-safe-edges-requires : tie.Need-safe-edges-requires
-safe-edges-requires c κs = search needs
-
-enum-known-e : tie.Need-enum-known-e
-enum-known-e c = search needs
-
-put-edges-requires : tie.Need-put-edges-requires
-put-edges-requires c κs = search needs
-
-enum-told : tie.Need-enum-told
-enum-told c = search needs
-
-same-length : tie.Need-same-length
-same-length c = search needs
-
 returns-2 : tie.Need-returns-2
 unfolding tlSafeEdgesOf tlSafeEdgesOutputOf edgesFour must
 returns-2 c =
@@ -60,13 +36,13 @@ tl-safe-edges-spec =
     tie.close
     (tie.spec
     returns
-    four-requires
-    four-requires-2
-    four-requires-3
-    safe-edges-requires
-    enum-known-e
-    put-edges-requires
-    enum-told
-    same-length
+    (λ c κs. search needs)
+    (λ c κs. search needs)
+    (λ c κs. search needs)
+    (λ c κs. search needs)
+    (λ c. search needs)
+    (λ c κs. search needs)
+    (λ c. search needs)
+    (λ c. search needs)
     returns-2
     returns-3)

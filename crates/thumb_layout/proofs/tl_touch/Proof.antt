@@ -7,21 +7,6 @@ use borrow.Author.Needs.{needs}
 use Rattle.thumb_layout.proofs.tl_touch.Statement.{statement}
 use Rattle.thumb_layout.proofs.tl_touch.Tie as tie
 
-touch-requires : tie.Need-touch-requires
-touch-requires c κs = search needs
-
-enum-known-mask : tie.Need-enum-known-mask
-enum-known-mask c = search needs
-
-cast-result : tie.Need-cast-result
-cast-result c = search needs
-
-enum-known-n : tie.Need-enum-known-n
-enum-known-n c = search needs
-
-minus-requires : tie.Need-minus-requires
-minus-requires c κs = search needs
-
 returns : tie.Need-returns
 unfolding tlTouchOf
 returns c =
@@ -38,10 +23,10 @@ pub tl-touch-spec : {M : Type 1} → statement M
 tl-touch-spec =
     tie.close
     (tie.spec
-    touch-requires
-    enum-known-mask
-    cast-result
-    enum-known-n
-    minus-requires
+    (λ c κs. search needs)
+    (λ c. search needs)
+    (λ c. search needs)
+    (λ c. search needs)
+    (λ c κs. search needs)
     returns
     returns-2)

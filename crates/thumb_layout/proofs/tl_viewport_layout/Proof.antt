@@ -6,14 +6,8 @@ use borrow.Author.Needs.{needs}
 use Rattle.thumb_layout.proofs.tl_viewport_layout.Statement.{statement}
 use Rattle.thumb_layout.proofs.tl_viewport_layout.Tie as tie
 
-viewport-layout-requires : tie.Need-viewport-layout-requires
-viewport-layout-requires c κs = search needs
-
 layout-number-requires : tie.Need-layout-number-requires
 layout-number-requires c κs = rw (c .before .before .viewport-layout .ensures .0) (viewport-small _ _ _ _)
-
-same-length : tie.Need-same-length
-same-length c = search needs
 
 returns : tie.Need-returns
 unfolding tlViewportLayoutOf
@@ -23,4 +17,4 @@ returns c =
 
 pub tl-viewport-layout-spec : {M : Type 1} → statement M
 tl-viewport-layout-spec =
-    tie.close (tie.spec viewport-layout-requires layout-number-requires same-length returns)
+    tie.close (tie.spec (λ c κs. search needs) layout-number-requires (λ c. search needs) returns)

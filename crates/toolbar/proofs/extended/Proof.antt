@@ -21,27 +21,6 @@ loop-holds c =
     let k : length (c .before .before .args .obstacles .at) ≡ 31 = search sized in
     (zero-le, k, rw (add-zero, append-nil))
 
-mul-at : tie.Need-mul-at Inv-loop μ-loop
-mul-at c = omega arith
-
-array-copy-out-at : tie.Need-array-copy-out-at Inv-loop μ-loop
-array-copy-out-at c = omega arith
-
-add-at : tie.Need-add-at Inv-loop μ-loop
-add-at c = omega arith
-
-mul-at-2 : tie.Need-mul-at-2 Inv-loop μ-loop
-mul-at-2 c = omega arith
-
-array-set-from-at : tie.Need-array-set-from-at Inv-loop μ-loop
-array-set-from-at c = omega arith
-
-add-i : tie.Need-add-i Inv-loop μ-loop
-add-i c = omega arith
-
-loop-less : tie.Need-loop-less Inv-loop μ-loop
-loop-less c = omega arith
-
 loop-again : tie.Need-loop-again Inv-loop μ-loop
 loop-again c =
     let l = c .before .before in
@@ -49,9 +28,6 @@ loop-again c =
     let k : length (a .elements .at) ≡ 19 = search sized in
     let e : a .obstacles .count + (l .loop .i + 1) ≡ a .obstacles .count + l .loop .i + 1 = omega arith in
     (omega arith, rw length-set (l .loop .inv .1), rw e (append-next (obstacleList (a .obstacles)) (a .elements .at) (l .loop .at) (a .obstacles .count + l .loop .i) (l .loop .i) _ (l .loop .inv .2) (omega arith) (omega arith)))
-
-add-t18 : tie.Need-add-t18 Inv-loop μ-loop
-add-t18 c = omega arith
 
 returns : tie.Need-returns Inv-loop μ-loop
 returns c =
@@ -66,13 +42,13 @@ extended-spec =
     Inv-loop
     μ-loop
     loop-holds
-    mul-at
-    array-copy-out-at
-    add-at
-    mul-at-2
-    array-set-from-at
-    add-i
-    loop-less
+    (λ c. omega arith)
+    (λ c. omega arith)
+    (λ c. omega arith)
+    (λ c. omega arith)
+    (λ c. omega arith)
+    (λ c. omega arith)
+    (λ c. omega arith)
     loop-again
-    add-t18
+    (λ c. omega arith)
     returns)

@@ -36,9 +36,6 @@ Inv-loop x left width top height w h n obstacles bar₀ counter₀ end bar count
 abbrev μ-loop : tie.MeasureT-loop
 μ-loop x left width top height w h n obstacles bar₀ counter₀ end bar counter = n + 1 - counter
 
-add-end : tie.Need-add-end Inv-loop2 μ-loop2 Inv-loop3 μ-loop3 Inv-loop μ-loop
-add-end c = omega arith
-
 loop-holds : tie.Need-loop-holds Inv-loop2 μ-loop2 Inv-loop3 μ-loop3 Inv-loop μ-loop
 unfolding pairOf
 loop-holds c =
@@ -53,17 +50,8 @@ loop2-holds c =
     let e : c .before .before .args .n + 1 - l .counter ≡ suc (c .before .before .args .n - l .counter) = omega arith in
     record { fits = l .inv .2; most = zero-le; answer = rw e at (l .inv .3) }
 
-mul-c : tie.Need-mul-c Inv-loop2 μ-loop2 Inv-loop3 μ-loop3 Inv-loop μ-loop
-mul-c c = omega arith
-
 array-copy-out-c : tie.Need-array-copy-out-c Inv-loop2 μ-loop2 Inv-loop3 μ-loop3 Inv-loop μ-loop
 array-copy-out-c c = omega (arith, scan-open (c .before .loop2 .inv) (c .loop2-test .taken))
-
-overlaps-requires : tie.Need-overlaps-requires Inv-loop2 μ-loop2 Inv-loop3 μ-loop3 Inv-loop μ-loop
-overlaps-requires c κs = search needs
-
-add-i : tie.Need-add-i Inv-loop2 μ-loop2 Inv-loop3 μ-loop3 Inv-loop μ-loop
-add-i c = omega arith
 
 loop2-less : tie.Need-loop2-less Inv-loop2 μ-loop2 Inv-loop3 μ-loop3 Inv-loop μ-loop
 loop2-less c = omega (arith, scan-open (c .before .before .before .loop2 .inv) (c .before .before .loop2-test .taken))
@@ -73,19 +61,10 @@ loop2-again c =
     let t = c .before .before in
     scan-next _ (t .before .loop2 .inv) (t .loop2-test .taken) (c .overlaps .ensures)
 
-beside-requires : tie.Need-beside-requires Inv-loop2 μ-loop2 Inv-loop3 μ-loop3 Inv-loop μ-loop
-beside-requires c κs = search needs
-
-room-requires : tie.Need-room-requires Inv-loop2 μ-loop2 Inv-loop3 μ-loop3 Inv-loop μ-loop
-room-requires c κs = search needs
-
 loop3-holds : tie.Need-loop3-holds Inv-loop2 μ-loop2 Inv-loop3 μ-loop3 Inv-loop μ-loop
 unfolding moved
 loop3-holds c =
     record { fits = c .before .before .before .before .loop2 .inv .fits; most = zero-le; answer = rw (← c .before .beside .ensures, ← c .room .ensures) (scan-first (overlapsOf (c .before .beside .result)) _ _ _ (c .room .result)) }
-
-mul-o : tie.Need-mul-o Inv-loop2 μ-loop2 Inv-loop3 μ-loop3 Inv-loop μ-loop
-mul-o c = omega arith
 
 array-copy-out-o : tie.Need-array-copy-out-o Inv-loop2 μ-loop2 Inv-loop3 μ-loop3 Inv-loop μ-loop
 array-copy-out-o c = omega (arith, scan-open (c .before .loop3 .inv) (c .loop3-test .taken))
@@ -94,9 +73,6 @@ overlaps-requires-2 :
     tie.Need-overlaps-requires-2 Inv-loop2 μ-loop2 Inv-loop3 μ-loop3 Inv-loop μ-loop
 overlaps-requires-2 c κs = search needs
 
-add-j : tie.Need-add-j Inv-loop2 μ-loop2 Inv-loop3 μ-loop3 Inv-loop μ-loop
-add-j c = omega arith
-
 loop3-less : tie.Need-loop3-less Inv-loop2 μ-loop2 Inv-loop3 μ-loop3 Inv-loop μ-loop
 loop3-less c = omega (arith, scan-open (c .before .before .before .loop3 .inv) (c .before .before .loop3-test .taken))
 
@@ -104,15 +80,6 @@ loop3-again : tie.Need-loop3-again Inv-loop2 μ-loop2 Inv-loop3 μ-loop3 Inv-loo
 loop3-again c =
     let t = c .before .before in
     scan-next _ (t .before .loop3 .inv) (t .loop3-test .taken) (c .overlaps2 .ensures)
-
-below-requires : tie.Need-below-requires Inv-loop2 μ-loop2 Inv-loop3 μ-loop3 Inv-loop μ-loop
-below-requires c κs = search needs
-
-add-counter : tie.Need-add-counter Inv-loop2 μ-loop2 Inv-loop3 μ-loop3 Inv-loop μ-loop
-add-counter c = omega arith
-
-loop-less : tie.Need-loop-less Inv-loop2 μ-loop2 Inv-loop3 μ-loop3 Inv-loop μ-loop
-loop-less c = omega arith
 
 loop-again : tie.Need-loop-again Inv-loop2 μ-loop2 Inv-loop3 μ-loop3 Inv-loop μ-loop
 loop-again c =
@@ -148,27 +115,27 @@ pair-spec =
     μ-loop3
     Inv-loop
     μ-loop
-    add-end
+    (λ c. omega arith)
     loop-holds
     loop2-holds
-    mul-c
+    (λ c. omega arith)
     array-copy-out-c
-    overlaps-requires
-    add-i
+    (λ c κs. search needs)
+    (λ c. omega arith)
     loop2-less
     loop2-again
-    beside-requires
-    room-requires
+    (λ c κs. search needs)
+    (λ c κs. search needs)
     loop3-holds
-    mul-o
+    (λ c. omega arith)
     array-copy-out-o
     overlaps-requires-2
-    add-j
+    (λ c. omega arith)
     loop3-less
     loop3-again
-    below-requires
-    add-counter
-    loop-less
+    (λ c κs. search needs)
+    (λ c. omega arith)
+    (λ c. omega arith)
     loop-again
     returns
     returns-2)

@@ -21,33 +21,6 @@ abbrev μ-loop : tie.MeasureT-loop
 loop-holds : tie.Need-loop-holds Inv-loop μ-loop
 loop-holds c = (omega arith, refl, no-items maskBytes _ _)
 
-mul-c : tie.Need-mul-c Inv-loop μ-loop
-mul-c c = omega arith
-
-array-copy-out-c : tie.Need-array-copy-out-c Inv-loop μ-loop
-array-copy-out-c c = omega arith
-
-mul-put-short : tie.Need-mul-put-short Inv-loop μ-loop
-mul-put-short c = omega arith
-
-add-put-short : tie.Need-add-put-short Inv-loop μ-loop
-add-put-short c = omega arith
-
-mask-requires : tie.Need-mask-requires Inv-loop μ-loop
-mask-requires c κs = search needs
-
-cast-put-short : tie.Need-cast-put-short Inv-loop μ-loop
-cast-put-short c = search needs
-
-put-short-requires : tie.Need-put-short-requires Inv-loop μ-loop
-put-short-requires c κs = search needs
-
-add-i : tie.Need-add-i Inv-loop μ-loop
-add-i c = omega arith
-
-loop-less : tie.Need-loop-less Inv-loop μ-loop
-loop-less c = omega arith
-
 loop-again : tie.Need-loop-again Inv-loop μ-loop
 unfolding maskBytes
 loop-again c =
@@ -57,9 +30,6 @@ loop-again c =
     let m : length (s .args .t3) ≡ 12 = search sized in
     let e : length (put .last .0) ≡ length (l .out) = ap length (put .ensures) ∙ simp length-stored in
     (omega arith, e ∙ l .inv .1, next-item maskBytes 2 length-mask _ _ (s .args .t3) (l .i) anyControl (omega arith) (l .inv .2) (rw (← c .before .before .before .mask .ensures) (put .ensures)))
-
-same-length : tie.Need-same-length Inv-loop μ-loop
-same-length c = search needs
 
 returns : tie.Need-returns Inv-loop μ-loop
 returns c =
@@ -74,15 +44,15 @@ put-masks-spec =
     Inv-loop
     μ-loop
     loop-holds
-    mul-c
-    array-copy-out-c
-    mul-put-short
-    add-put-short
-    mask-requires
-    cast-put-short
-    put-short-requires
-    add-i
-    loop-less
+    (λ c. omega arith)
+    (λ c. omega arith)
+    (λ c. omega arith)
+    (λ c. omega arith)
+    (λ c κs. search needs)
+    (λ c. search needs)
+    (λ c κs. search needs)
+    (λ c. omega arith)
+    (λ c. omega arith)
     loop-again
-    same-length
+    (λ c. search needs)
     returns)

@@ -21,27 +21,6 @@ abbrev μ-loop : tie.MeasureT-loop
 loop-holds : tie.Need-loop-holds Inv-loop μ-loop
 loop-holds c = (omega arith, refl, no-items rectBytes _ _)
 
-mul-put-rect : tie.Need-mul-put-rect Inv-loop μ-loop
-mul-put-rect c = omega arith
-
-add-put-rect : tie.Need-add-put-rect Inv-loop μ-loop
-add-put-rect c = omega arith
-
-mul-put-rect-2 : tie.Need-mul-put-rect-2 Inv-loop μ-loop
-mul-put-rect-2 c = omega arith
-
-array-copy-out-put-rect : tie.Need-array-copy-out-put-rect Inv-loop μ-loop
-array-copy-out-put-rect c = omega arith
-
-put-rect-requires : tie.Need-put-rect-requires Inv-loop μ-loop
-put-rect-requires c κs = search needs
-
-add-i : tie.Need-add-i Inv-loop μ-loop
-add-i c = omega arith
-
-loop-less : tie.Need-loop-less Inv-loop μ-loop
-loop-less c = omega arith
-
 loop-again : tie.Need-loop-again Inv-loop μ-loop
 loop-again c =
     let s = c .before .before .before .before .before .before .before .before .before in
@@ -50,9 +29,6 @@ loop-again c =
     let m : length (s .args .e .at) ≡ 19 = search sized in
     let e : length (put .last .0) ≡ length (l .out) = ap length (put .ensures) ∙ simp length-stored in
     (omega arith, e ∙ l .inv .1, next-item rectBytes 16 length-rect _ _ (s .args .e .at) (l .i) anyRect (omega arith) (l .inv .2) (put .ensures))
-
-same-length : tie.Need-same-length Inv-loop μ-loop
-same-length c = search needs
 
 returns : tie.Need-returns Inv-loop μ-loop
 returns c =
@@ -67,13 +43,13 @@ put-rects-spec =
     Inv-loop
     μ-loop
     loop-holds
-    mul-put-rect
-    add-put-rect
-    mul-put-rect-2
-    array-copy-out-put-rect
-    put-rect-requires
-    add-i
-    loop-less
+    (λ c. omega arith)
+    (λ c. omega arith)
+    (λ c. omega arith)
+    (λ c. omega arith)
+    (λ c κs. search needs)
+    (λ c. omega arith)
+    (λ c. omega arith)
     loop-again
-    same-length
+    (λ c. search needs)
     returns)

@@ -3,55 +3,8 @@ use Rattle.arranged.specs.Places.{atOf}
 use Rattle.arranged.proofs.Places.at.Statement.{statement}
 use Rattle.arranged.proofs.Places.at.Tie as tie
 
-returns : tie.Need-returns
-unfolding atOf
-returns c = rw (c .before .enum-told .given .1)
-
-returns-2 : tie.Need-returns-2
-unfolding atOf
-returns-2 c = rw (c .before .enum-told2 .given .1)
-
-returns-3 : tie.Need-returns-3
-unfolding atOf
-returns-3 c = rw (c .before .enum-told3 .given .1)
-
-returns-4 : tie.Need-returns-4
-unfolding atOf
-returns-4 c = rw (c .before .enum-told4 .given .1)
-
-returns-5 : tie.Need-returns-5
-unfolding atOf
-returns-5 c = rw (c .before .enum-told5 .given .1)
-
-returns-6 : tie.Need-returns-6
-unfolding atOf
-returns-6 c = rw (c .before .enum-told6 .given .1)
-
-returns-7 : tie.Need-returns-7
-unfolding atOf
-returns-7 c = rw (c .before .enum-told7 .given .1)
-
-returns-8 : tie.Need-returns-8
-unfolding atOf
-returns-8 c = rw (c .before .enum-told8 .given .1)
-
-returns-9 : tie.Need-returns-9
-unfolding atOf
-returns-9 c = rw (c .before .enum-told9 .given .1)
-
-returns-10 : tie.Need-returns-10
-unfolding atOf
-returns-10 c = rw (c .before .enum-told10 .given .1)
-
-returns-11 : tie.Need-returns-11
-unfolding atOf
-returns-11 c = rw (c .before .enum-told11 .given .1)
-
-returns-12 : tie.Need-returns-12
-unfolding atOf
-returns-12 c = rw (c .before .enum-told12 .given .1)
-
 pub at-spec : {M : Type 1} → statement M
+unfolding atOf
 at-spec =
     tie.close
     (tie.spec
@@ -67,15 +20,15 @@ at-spec =
     (λ c. search needs)
     (λ c. search needs)
     (λ c. search needs)
-    returns
-    returns-2
-    returns-3
-    returns-4
-    returns-5
-    returns-6
-    returns-7
-    returns-8
-    returns-9
-    returns-10
-    returns-11
-    returns-12)
+    (λ c. rw (c .before .enum-told .given .1))
+    (λ c. rw (c .before .enum-told2 .given .1))
+    (λ c. rw (c .before .enum-told3 .given .1))
+    (λ c. rw (c .before .enum-told4 .given .1))
+    (λ c. rw (c .before .enum-told5 .given .1))
+    (λ c. rw (c .before .enum-told6 .given .1))
+    (λ c. rw (c .before .enum-told7 .given .1))
+    (λ c. rw (c .before .enum-told8 .given .1))
+    (λ c. rw (c .before .enum-told9 .given .1))
+    (λ c. rw (c .before .enum-told10 .given .1))
+    (λ c. rw (c .before .enum-told11 .given .1))
+    (λ c. rw (c .before .enum-told12 .given .1)))

@@ -20,25 +20,10 @@ loop-holds c =
     let m : length (c .args .t1 .at) ≡ 16 = search sized in
     (omega arith, omega arith, refl)
 
-mul-overlaps : tie.Need-mul-overlaps Inv-loop μ-loop
-mul-overlaps c = omega arith
-
-element-copy-out-overlaps : tie.Need-element-copy-out-overlaps Inv-loop μ-loop
-element-copy-out-overlaps c = omega arith
-
-overlaps-requires : tie.Need-overlaps-requires Inv-loop μ-loop
-overlaps-requires c κs = search needs
-
 returns : tie.Need-returns Inv-loop μ-loop
 returns c =
     let l = c .before .before .before .before .loop in
     any-hit _ _ _ _ _ _ (l .inv .2) (next-of _ _ _ _ _ refl (l .inv .1) (c .before .before .before .loop-test .taken)) (c .before .overlaps .ensures) (c .if1 .taken)
-
-add-k : tie.Need-add-k Inv-loop μ-loop
-add-k c = omega arith
-
-loop-less : tie.Need-loop-less Inv-loop μ-loop
-loop-less c = omega arith
 
 loop-again : tie.Need-loop-again Inv-loop μ-loop
 loop-again c =
@@ -57,11 +42,11 @@ overlap-spec =
     Inv-loop
     μ-loop
     loop-holds
-    mul-overlaps
-    element-copy-out-overlaps
-    overlaps-requires
+    (λ c. omega arith)
+    (λ c. omega arith)
+    (λ c κs. search needs)
     returns
-    add-k
-    loop-less
+    (λ c. omega arith)
+    (λ c. omega arith)
     loop-again
     returns-2)

@@ -13,39 +13,6 @@ use Rattle.layout.proofs.Stores.{stored, two}
 use Rattle.layout.proofs.Layout.controller_elements.Statement.{statement}
 use Rattle.layout.proofs.Layout.controller_elements.Tie as tie
 
-elements-requires : tie.Need-elements-requires
-elements-requires c κs = search needs
-
-array-copy-out-at : tie.Need-array-copy-out-at
-array-copy-out-at c = search needs
-
-add-at : tie.Need-add-at
-add-at c = search needs
-
-mul-at : tie.Need-mul-at
-mul-at c = search needs
-
-array-set-from-at : tie.Need-array-set-from-at
-array-set-from-at c = search needs
-
-array-copy-out-at-2 : tie.Need-array-copy-out-at-2
-array-copy-out-at-2 c = search needs
-
-add-at-2 : tie.Need-add-at-2
-add-at-2 c = search needs
-
-mul-at-2 : tie.Need-mul-at-2
-mul-at-2 c = search needs
-
-array-set-from-at-2 : tie.Need-array-set-from-at-2
-array-set-from-at-2 c = search needs
-
-add-t10 : tie.Need-add-t10
-add-t10 c = search needs
-
-add-t9 : tie.Need-add-t9
-add-t9 c = search needs
-
 returns : tie.Need-returns
 returns c =
     let start = c .before .before .before .before .before .before in
@@ -65,15 +32,15 @@ pub controller-elements-spec : {M : Type 1} → statement M
 controller-elements-spec =
     tie.close
     (tie.spec
-    elements-requires
-    array-copy-out-at
-    add-at
-    mul-at
-    array-set-from-at
-    array-copy-out-at-2
-    add-at-2
-    mul-at-2
-    array-set-from-at-2
-    add-t10
-    add-t9
+    (λ c κs. search needs)
+    (λ c. search needs)
+    (λ c. search needs)
+    (λ c. search needs)
+    (λ c. search needs)
+    (λ c. search needs)
+    (λ c. search needs)
+    (λ c. search needs)
+    (λ c. search needs)
+    (λ c. search needs)
+    (λ c. search needs)
     returns)

@@ -21,30 +21,6 @@ abbrev μ-loop : tie.MeasureT-loop
 loop-holds : tie.Need-loop-holds Inv-loop μ-loop
 loop-holds c = (omega arith, omega arith, rw length-map at (c .before .good .0 .1 .1 .1 .1 .0 .1 .0 .1), refl, refl)
 
-mul-c : tie.Need-mul-c Inv-loop μ-loop
-mul-c c = omega arith
-
-array-copy-out-c : tie.Need-array-copy-out-c Inv-loop μ-loop
-array-copy-out-c c = omega arith
-
-on-psp-requires : tie.Need-on-psp-requires Inv-loop μ-loop
-on-psp-requires c κs = search needs
-
-mul-controls : tie.Need-mul-controls Inv-loop μ-loop
-mul-controls c = omega arith
-
-array-set-from-controls : tie.Need-array-set-from-controls Inv-loop μ-loop
-array-set-from-controls c = omega arith
-
-add-count : tie.Need-add-count Inv-loop μ-loop
-add-count c = omega arith
-
-add-i : tie.Need-add-i Inv-loop μ-loop
-add-i c = omega arith
-
-loop-less : tie.Need-loop-less Inv-loop μ-loop
-loop-less c = omega arith
-
 loop-again : tie.Need-loop-again Inv-loop μ-loop
 loop-again c =
     let l = c .before .before .before .before in
@@ -58,9 +34,6 @@ loop-again c =
     (λ t. (omega arith, omega arith, ap length (t .1) ∙ simp length-set (l .loop .inv .2), t .2 ∙ put-count onPsp cs i anyControl h f _ (t .0 .taken) (l .loop .inv .3), t .1 ∙ put-list onPsp cs i anyControl h f _ _ (t .0 .taken) (l .loop .inv .3) (l .loop .inv .4)))
     (λ t. (omega arith, omega arith, ap length (t .1) ∙ l .loop .inv .2, t .2 ∙ skip-count onPsp cs i anyControl h f _ (t .0 .left) (l .loop .inv .3), t .1 ∙ skip-list onPsp cs i anyControl h f _ (t .0 .left) (l .loop .inv .4)))
     (c .if1 .came)
-
-at-most-one-requires : tie.Need-at-most-one-requires Inv-loop μ-loop
-at-most-one-requires c κs = search needs
 
 returns : tie.Need-returns Inv-loop μ-loop
 unfolding pspInputsOf
@@ -79,14 +52,14 @@ psp-inputs-spec =
     Inv-loop
     μ-loop
     loop-holds
-    mul-c
-    array-copy-out-c
-    on-psp-requires
-    mul-controls
-    array-set-from-controls
-    add-count
-    add-i
-    loop-less
+    (λ c. omega arith)
+    (λ c. omega arith)
+    (λ c κs. search needs)
+    (λ c. omega arith)
+    (λ c. omega arith)
+    (λ c. omega arith)
+    (λ c. omega arith)
+    (λ c. omega arith)
     loop-again
-    at-most-one-requires
+    (λ c κs. search needs)
     returns)

@@ -20,35 +20,8 @@ Inv-loop self n at controls sticks₀ i₀ i-end sticks i = (i ≤ i-end) × (le
 abbrev μ-loop : tie.MeasureT-loop
 μ-loop self n at controls sticks₀ i₀ i-end sticks i = i-end - i
 
-set-bounds-requires : tie.Need-set-bounds-requires Inv-loop μ-loop
-set-bounds-requires c κs = search needs
-
 loop-holds : tie.Need-loop-holds Inv-loop μ-loop
 loop-holds c = (omega arith, rw length-map at (c .before .before .before .before .good .0 .1 .1 .1 .1 .1 .1 .1 .1 .1 .1 .0 .1 .0 .1), refl)
-
-add-sticks : tie.Need-add-sticks Inv-loop μ-loop
-add-sticks c = omega arith
-
-add-sticks-2 : tie.Need-add-sticks-2 Inv-loop μ-loop
-add-sticks-2 c = omega arith
-
-mul-sticks : tie.Need-mul-sticks Inv-loop μ-loop
-mul-sticks c = omega arith
-
-array-copy-out-sticks : tie.Need-array-copy-out-sticks Inv-loop μ-loop
-array-copy-out-sticks c = omega arith
-
-mul-sticks-2 : tie.Need-mul-sticks-2 Inv-loop μ-loop
-mul-sticks-2 c = omega arith
-
-array-set-from-sticks : tie.Need-array-set-from-sticks Inv-loop μ-loop
-array-set-from-sticks c = omega arith
-
-add-i : tie.Need-add-i Inv-loop μ-loop
-add-i c = omega arith
-
-loop-less : tie.Need-loop-less Inv-loop μ-loop
-loop-less c = omega arith
 
 loop-again : tie.Need-loop-again Inv-loop μ-loop
 loop-again c =
@@ -60,45 +33,6 @@ loop-again c =
     let k : length at ≡ 19 = rw length-map at (s .good .1 .0 .1 .1 .0 .1 .0 .1) in
     let d = length-drop (n + 5) at in
     (omega arith, rw length-set (l .loop .inv .1), replaceFirst-next (drop (n + 5) at) (s .args .self .sticks) (l .loop .sticks) (l .loop .i) anyRect (omega arith) (omega arith) (l .loop .inv .2) (sym (getD-drop (n + 5) at (l .loop .i) anyRect)))
-
-array-copy-out-t24 : tie.Need-array-copy-out-t24 Inv-loop μ-loop
-array-copy-out-t24 c = omega arith
-
-add-t25 : tie.Need-add-t25 Inv-loop μ-loop
-add-t25 c = omega arith
-
-mul-t26 : tie.Need-mul-t26 Inv-loop μ-loop
-mul-t26 c = omega arith
-
-array-copy-out-t29 : tie.Need-array-copy-out-t29 Inv-loop μ-loop
-array-copy-out-t29 c = omega arith
-
-add-t30 : tie.Need-add-t30 Inv-loop μ-loop
-add-t30 c = omega arith
-
-mul-t31 : tie.Need-mul-t31 Inv-loop μ-loop
-mul-t31 c = omega arith
-
-array-copy-out-t34 : tie.Need-array-copy-out-t34 Inv-loop μ-loop
-array-copy-out-t34 c = omega arith
-
-add-t35 : tie.Need-add-t35 Inv-loop μ-loop
-add-t35 c = omega arith
-
-mul-t36 : tie.Need-mul-t36 Inv-loop μ-loop
-mul-t36 c = omega arith
-
-array-copy-out-t39 : tie.Need-array-copy-out-t39 Inv-loop μ-loop
-array-copy-out-t39 c = omega arith
-
-add-t40 : tie.Need-add-t40 Inv-loop μ-loop
-add-t40 c = omega arith
-
-mul-t41 : tie.Need-mul-t41 Inv-loop μ-loop
-mul-t41 c = omega arith
-
-array-copy-out-t44 : tie.Need-array-copy-out-t44 Inv-loop μ-loop
-array-copy-out-t44 c = omega arith
 
 returns : tie.Need-returns Inv-loop μ-loop
 unfolding setElementsOf
@@ -117,28 +51,28 @@ set-elements-spec =
     (tie.spec
     Inv-loop
     μ-loop
-    set-bounds-requires
+    (λ c κs. search needs)
     loop-holds
-    add-sticks
-    add-sticks-2
-    mul-sticks
-    array-copy-out-sticks
-    mul-sticks-2
-    array-set-from-sticks
-    add-i
-    loop-less
+    (λ c. omega arith)
+    (λ c. omega arith)
+    (λ c. omega arith)
+    (λ c. omega arith)
+    (λ c. omega arith)
+    (λ c. omega arith)
+    (λ c. omega arith)
+    (λ c. omega arith)
     loop-again
-    array-copy-out-t24
-    add-t25
-    mul-t26
-    array-copy-out-t29
-    add-t30
-    mul-t31
-    array-copy-out-t34
-    add-t35
-    mul-t36
-    array-copy-out-t39
-    add-t40
-    mul-t41
-    array-copy-out-t44
+    (λ c. omega arith)
+    (λ c. omega arith)
+    (λ c. omega arith)
+    (λ c. omega arith)
+    (λ c. omega arith)
+    (λ c. omega arith)
+    (λ c. omega arith)
+    (λ c. omega arith)
+    (λ c. omega arith)
+    (λ c. omega arith)
+    (λ c. omega arith)
+    (λ c. omega arith)
+    (λ c. omega arith)
     returns)

@@ -3,18 +3,6 @@ use borrow.Author.Needs.{needs}
 use Rattle.settings.proofs.Preset.picture_fit.Statement.{statement}
 use Rattle.settings.proofs.Preset.picture_fit.Tie as tie
 
-enum-told : tie.Need-enum-told
-enum-told c = search needs
-
-untouched-requires : tie.Need-untouched-requires
-untouched-requires c κs = search needs
-
-enum-told-2 : tie.Need-enum-told-2
-enum-told-2 c = search needs
-
-enum-told-3 : tie.Need-enum-told-3
-enum-told-3 c = search needs
-
 returns : tie.Need-returns
 unfolding pictureFitOf
 returns c = rw (← c .before .untouched .ensures, c .before .before .enum-told .given .1, c .if1 .taken)
@@ -35,10 +23,10 @@ pub picture-fit-spec : {M : Type 1} → statement M
 picture-fit-spec =
     tie.close
     (tie.spec
-    enum-told
-    untouched-requires
-    enum-told-2
-    enum-told-3
+    (λ c. search needs)
+    (λ c κs. search needs)
+    (λ c. search needs)
+    (λ c. search needs)
     returns
     returns-2
     returns-3
