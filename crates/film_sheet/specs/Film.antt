@@ -2,18 +2,19 @@
 use mathlib.Core.List.{List}
 use Prim.Native.Nat.{ℕ}
 use Rattle.geometry.specs.Answer.{Answer, accepted, refused}
-use Rattle.layout.specs.declared.Layout.{Layout}
+use Rattle.settings.specs.declared.Settings.{Settings}
+use Rattle.reader.specs.Order.{readOrderOf}
+use Rattle.preset.specs.Preset.{settingsLayoutOf}
 use Rattle.sheet.specs.declared.Sheet.{Sheet}
 use Rattle.sheet.specs.Sheet.{linesOf, sheetText, refusedText, pageOf}
-use Rattle.order.specs.Orders.{orderLayout}
 
-abbrev pub answerText : Answer Layout → List ℕ
-answerText (accepted l) = sheetText (linesOf l)
+-- the lines of the layout, or `REFUSED` and a number
+abbrev pub answerText : Answer Settings → List ℕ
+answerText (accepted s) = sheetText (linesOf (settingsLayoutOf s))
 answerText (refused n) = refusedText n
 
--- the lines of the order's layout, or `REFUSED` and a number
 unfoldable pub filmTextOf : List ℕ → List ℕ
-filmTextOf order = answerText (orderLayout order)
+filmTextOf order = answerText (readOrderOf order)
 
 -- in 1,024 bytes, with zeros after its end, and its length
 unfoldable pub filmSheetOf : List ℕ → Sheet

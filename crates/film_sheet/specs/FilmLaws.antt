@@ -5,32 +5,27 @@ use Prim.Native.Nat.{ℕ, _≤_}
 use native.Mathlib.Omega.{arith}
 use lib.ListN.{length, length-append}
 use Rattle.geometry.specs.Answer.{Answer, accepted, refused}
-use Rattle.layout.specs.Layout.{cutoutList}
 use Rattle.search.specs.Bounded.{Bounded, BoundedGame}
 use Rattle.settings.specs.declared.Settings.{Settings}
 use Rattle.limits.specs.SettingsRanges.{accepted-in-range}
 use Rattle.reader.specs.Accepted.{accepted-order, refused-order, order-f32}
-use Rattle.reader.specs.Order.{andThen, readOrderOf}
-use Rattle.preset.specs.PresetRanges.{layout-bounded, game-bounded}
+use Rattle.reader.specs.Order.{readOrderOf}
+use Rattle.preset.specs.Preset.{settingsLayoutOf}
+use Rattle.preset.specs.PresetLabels.{settings-few}
+use Rattle.preset.specs.PresetRanges.{settings-bounded}
 use Rattle.sheet.specs.Sheet.{refusedText}
 use Rattle.sheet.specs.SheetLaws.{refused-fits, sheet-fits}
-use Rattle.order.specs.Orders.{settingsLayoutOf, orderLayout}
-use Rattle.order.specs.OrderLaws.{settings-few}
 use Rattle.film_sheet.specs.Film.{answerText, filmTextOf, filmSheetOf}
 
 -- what `layout_sheet` asks
 pub order-bounded : (order : List ℕ) {s : Settings} → readOrderOf order ≡ accepted s → Bounded (settingsLayoutOf s) × BoundedGame (settingsLayoutOf s .game)
-unfolding settingsLayoutOf
-order-bounded order {s} e =
-    let r = accepted-in-range s (accepted-order order e) (order-f32 order e) in
-    let cutouts = cutoutList (s .cutouts) in
-    (layout-bounded (s .preset) (r .w) (r .h) cutouts (r .cutouts) (r .area), game-bounded (s .preset) (r .w) (r .h) cutouts (r .cutouts) (r .area) (r .scale) (r .offset-x) (r .offset-y))
+order-bounded order {s} e = settings-bounded s (accepted-in-range s (accepted-order order e) (order-f32 order e))
 
 pub film-fits : (order : List ℕ) → length (filmTextOf order) ≤ 788
-unfolding filmTextOf orderLayout refusedText
+unfolding filmTextOf refusedText
 film-fits order = go (readOrderOf order) refl
   where
-    go : (a : Answer Settings) → readOrderOf order ≡ a → length (answerText (andThen a (λ s. accepted (settingsLayoutOf s)))) ≤ 788
+    go : (a : Answer Settings) → readOrderOf order ≡ a → length (answerText a) ≤ 788
     go (accepted s) e =
         let n = settings-few s in
         let b = order-bounded order e in

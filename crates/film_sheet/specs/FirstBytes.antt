@@ -8,23 +8,17 @@ use borrow.Author.Tests.{eqb-true, leb-true, leb-false, le-leb}
 use lib.Dec.{eqb, leb}
 use lib.ListN.{length, take, drop, length-append, length-drop, take-append-drop}
 use lib.Seq.{length-take-le, take-all, take-append-le, drop-append-le}
-use Rattle.geometry.specs.Answer.{Answer, accepted, refused}
+use Rattle.geometry.specs.Answer.{accepted, must}
+use Rattle.geometry.specs.AnswerLaws.{must-met, then-same}
 use Rattle.numerics.specs.Each.{Each}
 use Rattle.numerics.specs.Lists.{each-take, each-drop}
 use Rattle.settings.specs.declared.Settings.{Settings}
 use Rattle.reader.specs.declared.Tag.{Tag}
 use Rattle.reader.specs.declared.Tag.the-variants as Tag
-use Rattle.reader.specs.Order.{must, andThen, shortOf, readScreenOf, readPictureOf, readModeOf, readFitOf, readPlaceOf, readCutoutsOf, readSavedOf, fromByteOf, readFieldOf, fields, readOrderOf}
-use Rattle.order.specs.Orders.{orderLayout}
-use Rattle.order.specs.OrderLaws.{never}
+use Rattle.reader.specs.Order.{shortOf, readScreenOf, readPictureOf, readModeOf, readFitOf, readPlaceOf, readCutoutsOf, readSavedOf, fromByteOf, readFieldOf, fields, readOrderOf}
 use Rattle.film_sheet.specs.Film.{filmTextOf}
 
 -- ---- an accepted value is short
-must-met : {A : Type 0} (test : Bool) (n : ℕ) (a : Answer A) {x : A} → must test n a ≡ accepted x → (test ≡ true) × (a ≡ accepted x)
-unfolding must
-must-met true n a e = (refl, e)
-must-met false n a e = absurd (never (sym e))
-
 short-value : (tag : Tag) (v : List ℕ) (s : Settings) {t : Settings} → readFieldOf tag v s ≡ accepted t → length v ≤ 512
 unfolding readFieldOf readScreenOf readPictureOf readModeOf readFitOf readPlaceOf readCutoutsOf readSavedOf
 short-value Tag.Screen v s e = let l = eqb-true (length v) 8 (must-met _ _ _ e .0) in omega arith
@@ -46,10 +40,6 @@ short-value Tag.Saved v s e =
 -- ---- bytes after enough others change nothing
 abbrev pub Byte : ℕ → Type 0
 Byte b = b < 256
-
-then-same : {A B : Type 0} (a : Answer A) {f g : A → Answer B} → ((x : A) → a ≡ accepted x → f x ≡ g x) → andThen a f ≡ andThen a g
-then-same (accepted x) h = h x refl
-then-same (refused n) h = refl
 
 fields-first : (turns last : ℕ) (screen : Bool) (s : Settings) (xs ys : List ℕ) → Each Byte xs → 65538 + 515 * turns ≤ length xs → fields turns last screen s (xs ++ ys) ≡ fields turns last screen s xs
 unfolding fields
@@ -77,5 +67,5 @@ first-bytes order b n h = go (leb n (length order)) refl
     go false e = ap readOrderOf (take-all n order (omega (arith, leb-false n (length order) e)))
 
 pub first-bytes-film : (order : List ℕ) → Each Byte order → (n : ℕ) → 69658 ≤ n → filmTextOf (take n order) ≡ filmTextOf order
-unfolding filmTextOf orderLayout
+unfolding filmTextOf
 first-bytes-film order b n h = rw (first-bytes order b n h)

@@ -1,7 +1,7 @@
 // The film sheet of document 01, made from an order's bytes.
 ghost use mathlib.Core.Path.{_≡_};
 ghost use Rattle.film_sheet.specs.Film.{filmSheetOf};
-use order::settings_layout;
+use preset::settings_layout;
 use reader::read_order;
 use sheet::Sheet;
 use sheet::layout_sheet;

@@ -1,3 +1,4 @@
 pub mod Rect
 pub mod Answer
+pub mod AnswerLaws
 pub mod Choice

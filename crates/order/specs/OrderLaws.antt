@@ -7,44 +7,26 @@ use native.Mathlib.Omega.{arith}
 use lib.Dec.{leb}
 use lib.Ieee.{Float}
 use lib.ListN.{length, drop}
-use Rattle.geometry.specs.Answer.{Answer, accepted, refused}
+use Rattle.geometry.specs.Answer.{Answer, accepted, refused, must}
+use Rattle.geometry.specs.AnswerLaws.{never, refused-then}
 use Rattle.layout.specs.declared.Layout.{Layout}
-use Rattle.layout.specs.Layout.{cutoutList}
-use Rattle.limits.specs.InRange.{InRange}
 use Rattle.limits.specs.SettingsRanges.{accepted-in-range}
 use Rattle.settings.specs.declared.Preset.{Preset}
 use Rattle.settings.specs.declared.Settings.{Settings}
 use Rattle.settings.specs.Settings.{topsInLimitsOf}
 use Rattle.band.specs.BandLabels.{bandLabels, bandSticks}
 use Rattle.reader.specs.Accepted.{accepted-order, refused-order, order-f32}
-use Rattle.reader.specs.Order.{must, andThen, readOrderOf}
+use Rattle.reader.specs.Order.{readOrderOf}
 use Rattle.writer.specs.Bytes.{layoutBytes, writeLayoutOf, outputOf}
 use Rattle.writer.specs.Length.{lengthFor, length-layout}
 use Rattle.written.specs.Written.{LayoutIsF32}
 use Rattle.written.specs.WidestWritten.{widest-written}
-use Rattle.chosen.specs.ChosenLabels.{OfMode, Few, few}
-use Rattle.preset.specs.Preset.{hasSticks}
-use Rattle.preset.specs.Demand.{WidestFor}
-use Rattle.preset.specs.PresetLabels as PresetLabels
-use Rattle.preset.specs.PresetLabels.{layout-mode}
-use Rattle.preset.specs.PresetWidest.{layout-widest}
-use Rattle.order.specs.Orders.{settingsLayoutOf, orderLayout, writtenAnswer, writtenOutput, layoutOf, layoutOutputOf, touchOf, settingsViewportOf, orderViewport, viewportLayoutOf, viewportOutputOf}
+use Rattle.chosen.specs.ChosenLabels.{OfMode, few}
+use Rattle.preset.specs.Preset.{hasSticks, settingsLayoutOf}
+use Rattle.preset.specs.PresetLabels.{settings-mode, settings-viewport-mode}
+use Rattle.preset.specs.PresetWidest.{settings-widest}
+use Rattle.order.specs.Orders.{orderLayout, writtenAnswer, writtenOutput, layoutOf, layoutOutputOf, touchOf, orderViewport, viewportLayoutOf, viewportOutputOf}
 use Rattle.order.specs.Demands.{WidestWritten}
-
--- ---- modes
-pub settings-mode : (s : Settings) → OfMode (hasSticks (s .preset)) (s .preset .psp) (settingsLayoutOf s)
-unfolding settingsLayoutOf
-settings-mode s = layout-mode _ _ _ _ _
-
-pub viewport-mode : (s : Settings) (reusable covered : Float) → OfMode (hasSticks (s .preset)) (s .preset .psp) (settingsViewportOf s reusable covered)
-unfolding settingsViewportOf
-viewport-mode s reusable covered = PresetLabels.viewport-mode (s .preset) (s .w) (s .h) (cutoutList (s .cutouts)) (s .picture) reusable covered
-
-pub settings-few : (s : Settings) → Few (settingsLayoutOf s)
-settings-few s = few (hasSticks (s .preset)) (s .preset .psp) _ (settings-mode s)
-
-pub viewport-few : (s : Settings) (reusable covered : Float) → Few (settingsViewportOf s reusable covered)
-viewport-few s reusable covered = few (hasSticks (s .preset)) (s .preset .psp) _ (viewport-mode s reusable covered)
 
 -- ---- "It takes 285 bytes standard, 353 analog, 265 psp."
 abbrev pub bytesFor : Bool → Bool → ℕ
@@ -76,12 +58,9 @@ module _ (order : List ℕ) {s : Settings} (e : readOrderOf order ≡ accepted s
 
   pub viewport-answer : (reusable covered : Float) → topsInLimitsOf reusable covered ≡ true → viewportLayoutOf order reusable covered out ≡ roomFor (bytesFor (s .preset .analog) (s .preset .psp)) out
   unfolding viewportLayoutOf orderViewport must
-  viewport-answer reusable covered t = rw (e, t) (mode-answer (s .preset) _ (viewport-mode s reusable covered) out)
+  viewport-answer reusable covered t = rw (e, t) (mode-answer (s .preset) _ (settings-viewport-mode s reusable covered) out)
 
 -- ---- the bytes that are written, or none
-pub never : {A : Type 0} {x : A} {n : ℕ} → accepted x ≡ refused n → ⊥
-never e = let z : _≡_ {A = ℕ} 0 1 = cc in omega arith
-
 module _ (l : Layout) (out : List ℕ) where
   written-case : (C : Answer ℕ → List ℕ → Type 0) → C (accepted (length (layoutBytes l))) (layoutBytes l ++ drop (length (layoutBytes l)) out) → C (refused 8) out → C (writeLayoutOf l out) (outputOf l out)
   unfolding writeLayoutOf outputOf
@@ -98,10 +77,6 @@ module _ (l : Layout) (out : List ℕ) where
   refused-bytes {n} = written-case (λ a after. a ≡ refused n → (n ≡ 8) × (after ≡ out)) (λ e. absurd (never e)) (λ e. (cc, refl))
 
 -- ---- demand 1: one of the eight refusals, and "a refused order changes no byte of the lent output"
-refused-then : {A B : Type 0} (C : Type 0) (a : Answer A) {f : A → Answer B} {n : ℕ} → (a ≡ refused n → C) → ((x : A) → f x ≡ refused n → C) → andThen a f ≡ refused n → C
-refused-then C (accepted x) g h e = h x e
-refused-then C (refused m) g h e = g (cc)
-
 -- "the same refusal"
 pub touch-refused : (order : List ℕ) (x y : Float) (previous : ℕ) {n : ℕ} → touchOf order x y previous ≡ refused n → readOrderOf order ≡ refused n
 unfolding touchOf orderLayout
@@ -131,10 +106,6 @@ viewport-refused order reusable covered out {n} e = written-refused _ (refused-t
     go false l r = let six : n ≡ 6 = cc in (omega arith, omega arith)
 
 -- ---- demand 3
-settings-widest : (s : Settings) → InRange s → WidestFor s (settingsLayoutOf s)
-unfolding settingsLayoutOf
-settings-widest s r = layout-widest s r
-
 pub order-widest : (order : List ℕ) {s : Settings} → readOrderOf order ≡ accepted s → LayoutIsF32 (settingsLayoutOf s) → (out : List ℕ) → WidestWritten order (writeLayoutOf (settingsLayoutOf s) out) (outputOf (settingsLayoutOf s) out)
 order-widest order {s} e f out t n r a k =
     let same : t ≡ s = cc in

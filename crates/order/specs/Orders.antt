@@ -2,15 +2,13 @@
 use mathlib.Core.List.{List}
 use Prim.Native.Nat.{ℕ}
 use lib.Ieee.{Float}
-use Rattle.geometry.specs.Answer.{Answer, accepted, refused}
+use Rattle.geometry.specs.Answer.{Answer, accepted, refused, must, andThen}
 use Rattle.layout.specs.declared.Layout.{Layout}
-use Rattle.layout.specs.Layout.{cutoutList}
-use Rattle.settings.specs.declared.Settings.{Settings}
 use Rattle.settings.specs.Settings.{topsInLimitsOf}
 use Rattle.touch.specs.Touch.{maskNearOf}
-use Rattle.reader.specs.Order.{must, andThen, readOrderOf}
+use Rattle.reader.specs.Order.{readOrderOf}
 use Rattle.writer.specs.Bytes.{writeLayoutOf, outputOf}
-use Rattle.preset.specs.Preset as Preset
+use Rattle.preset.specs.Preset.{settingsLayoutOf, settingsViewportOf}
 use Rattle.order.specs.declared.LayoutAnswer.{LayoutAnswer}
 use Rattle.order.specs.declared.LayoutAnswer.the-variants as Layout
 use Rattle.order.specs.declared.TouchAnswer.{TouchAnswer}
@@ -26,10 +24,6 @@ touchAnswer (Touch.Mask n) = accepted n
 touchAnswer (Touch.Refused n) = refused n
 
 -- ---- the layout of an order
-
--- `Preset::layout_in`. Without tag 2 the reader gives the picture 0, 0, max(w, 1), max(h, 1), and this is `layout_with_cutouts`.
-unfoldable pub settingsLayoutOf : Settings → Layout
-settingsLayoutOf s = Preset.layoutInOf (s .preset) (s .w) (s .h) (cutoutList (s .cutouts)) (s .picture)
 
 unfoldable pub orderLayout : List ℕ → Answer Layout
 orderLayout order = andThen (readOrderOf order) (λ s. accepted (settingsLayoutOf s))
@@ -52,11 +46,7 @@ layoutOutputOf order out = writtenOutput (orderLayout order) out
 unfoldable pub touchOf : List ℕ → Float → Float → ℕ → Answer ℕ
 touchOf order x y previous = andThen (orderLayout order) (λ l. accepted (maskNearOf l x y previous))
 
--- ---- `PlayerViewport::layout`: tag 1 has its controls, tag 2 its picture
-
-unfoldable pub settingsViewportOf : Settings → Float → Float → Layout
-settingsViewportOf s reusable covered =
-    Preset.viewportLayoutOf (s .preset) (s .w) (s .h) (s .picture) reusable covered (cutoutList (s .cutouts))
+-- ---- `PlayerViewport::layout`
 
 -- "Faults are taken in tag order, the tops last."
 unfoldable pub orderViewport : List ℕ → Float → Float → Answer Layout

@@ -1,15 +1,13 @@
 // The functions that hosts call with an order: its layout in bytes, the mask of a touch, and `PlayerViewport::layout`.
 ghost use mathlib.Core.Path.{_≡_};
-ghost use mathlib.Core.Bool.{true};
 ghost use Prim.Native.Nat.{_≤_};
-ghost use Rattle.settings.specs.Settings.{acceptedOf};
 ghost use Rattle.writer.specs.Bytes.{writeLayoutOf, outputOf};
-ghost use Rattle.order.specs.Orders.{layoutAnswer, touchAnswer, settingsLayoutOf, layoutOf, layoutOutputOf, touchOf, settingsViewportOf, viewportLayoutOf, viewportOutputOf};
+ghost use Rattle.order.specs.Orders.{layoutAnswer, touchAnswer, layoutOf, layoutOutputOf, touchOf, viewportLayoutOf, viewportOutputOf};
 ghost use Rattle.order.specs.Demands.{WidestWritten};
 use layout::Layout;
-use preset::layout_in;
+use preset::settings_layout;
+use preset::settings_viewport;
 use reader::read_order;
-use settings::Settings;
 use settings::tops_in_limits;
 use touch::mask_near;
 use writer::Written;
@@ -25,29 +23,6 @@ pub enum LayoutAnswer {
 pub enum TouchAnswer {
     Mask(u16),
     Refused(u8),
-}
-
-// For crate film_sheet, of settings that the reader accepted; no host calls it.
-pub fn settings_layout(s: Settings) -> Layout
-    requires { ⌜ acceptedOf s ≡ true ⌝ }
-    ensures { λ r. ⌜ r ≡ settingsLayoutOf s ⌝ }
-{
-    layout_in(s.preset, s.w, s.h, s.cutouts, s.picture)
-}
-
-fn settings_viewport(s: Settings, reusable_top: f32, covered_top: f32) -> Layout
-    requires { ⌜ acceptedOf s ≡ true ⌝ }
-    ensures { λ r. ⌜ r ≡ settingsViewportOf s «reusable_top» «covered_top» ⌝ }
-{
-    preset::viewport_layout(
-        s.preset,
-        s.w,
-        s.h,
-        s.picture,
-        reusable_top,
-        covered_top,
-        s.cutouts,
-    )
 }
 
 fn write(l: Layout, out: &mut [u8]) -> LayoutAnswer

@@ -7,10 +7,12 @@ use Rattle.float.specs.MinMax.{maxOf}
 use Rattle.geometry.specs.declared.Rect.{Rect}
 use Rattle.geometry.specs.Rect.{newOf}
 use Rattle.layout.specs.declared.Layout.{Layout}
+use Rattle.layout.specs.Layout.{cutoutList}
 use Rattle.search.specs.Search.{placeGameInAspectOf}
 use Rattle.settings.specs.declared.Fit.{Fit}
 use Rattle.settings.specs.declared.Fit.the-variants.{Unset, Maximum, KeepClear}
 use Rattle.settings.specs.declared.Preset.{Preset}
+use Rattle.settings.specs.declared.Settings.{Settings}
 use Rattle.settings.specs.Settings.{savedList, untouchedOf, pictureFitOf}
 use Rattle.saved.specs.Saved.{isEmpty, withSavedOf}
 use Rattle.toolbar.specs.Toolbar.{anchorToolbarOf}
@@ -70,3 +72,14 @@ unfoldable pub viewportLayoutOf : Preset → Float → Float → Rect → Float 
 viewportLayoutOf p w h picture reusable covered cutouts =
     let anchored = anchorToolbarOf (layoutInOf p w h cutouts picture) w h reusable k0 cutouts in
     cond (lt k0 covered) (anchorToolbarOf anchored w h reusable covered cutouts) anchored
+
+-- ---- of the settings that an order gives
+
+-- Without tag 2 the reader gives the picture 0, 0, max(w, 1), max(h, 1), and this is `layout_with_cutouts`.
+unfoldable pub settingsLayoutOf : Settings → Layout
+settingsLayoutOf s = layoutInOf (s .preset) (s .w) (s .h) (cutoutList (s .cutouts)) (s .picture)
+
+-- A viewport's controls have the screen of tag 1, its picture is tag 2.
+unfoldable pub settingsViewportOf : Settings → Float → Float → Layout
+settingsViewportOf s reusable covered =
+    viewportLayoutOf (s .preset) (s .w) (s .h) (s .picture) reusable covered (cutoutList (s .cutouts))

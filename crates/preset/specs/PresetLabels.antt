@@ -11,6 +11,7 @@ use Rattle.layout.specs.LabelLaws.{set-elements-formed}
 use Rattle.layout.specs.Layout.{elementsOf}
 use Rattle.numerics.specs.Bounds.{or-r}
 use Rattle.settings.specs.declared.Preset.{Preset}
+use Rattle.settings.specs.declared.Settings.{Settings}
 use Rattle.settings.specs.Settings.{savedList}
 use Rattle.saved.specs.Saved.{isEmpty, withSavedOf}
 use Rattle.saved.specs.SavedLaws.{length-restored}
@@ -20,9 +21,9 @@ use Rattle.band.specs.BandLabels.{bandLabels, bandSticks}
 use Rattle.cutouts.specs.Cutouts.{avoidCutoutsOf}
 use Rattle.landscape.specs.LandscapeLaws.{landscape-formed}
 use Rattle.chosen.specs.Chosen.{reusableTop}
-use Rattle.chosen.specs.ChosenLabels.{OfMode, few, anchor-mode, place-mode, avoid-mode, arrangement-mode, first-mode}
+use Rattle.chosen.specs.ChosenLabels.{OfMode, Few, few, anchor-mode, place-mode, avoid-mode, arrangement-mode, first-mode}
 use Rattle.preset.specs.PresetCases.{firstFor, areaFor, arrangementFor, placedFor, laid-out-case}
-use Rattle.preset.specs.Preset.{settledOf, maximumOf, freeOf, hasSticks, laidOutOf, layoutInOf, viewportLayoutOf}
+use Rattle.preset.specs.Preset.{settledOf, maximumOf, freeOf, hasSticks, laidOutOf, layoutInOf, viewportLayoutOf, settingsLayoutOf, settingsViewportOf}
 
 module _ (analog psp : Bool) (l : Layout) (f : OfMode analog psp l) (w h : Float) (cutouts : List Rect) where
   pub saved-mode : (saved : List Rect) → OfMode analog psp (withSavedOf l w h saved)
@@ -62,3 +63,19 @@ module _ (p : Preset) (w h : Float) (cutouts : List Rect) (picture : Rect) where
   pub viewport-mode : (reusable covered : Float) → OfMode (hasSticks p) (p .psp) (viewportLayoutOf p w h picture reusable covered cutouts)
   unfolding viewportLayoutOf anchorToolbarOf
   viewport-mode reusable covered = either (OfMode (hasSticks p) (p .psp)) (lt k0 covered) layout-mode layout-mode
+
+module _ (s : Settings) where
+  pub settings-mode : OfMode (hasSticks (s .preset)) (s .preset .psp) (settingsLayoutOf s)
+  unfolding settingsLayoutOf
+  settings-mode = layout-mode _ _ _ _ _
+
+  pub settings-few : Few (settingsLayoutOf s)
+  settings-few = few (hasSticks (s .preset)) (s .preset .psp) _ settings-mode
+
+  module _ (reusable covered : Float) where
+    pub settings-viewport-mode : OfMode (hasSticks (s .preset)) (s .preset .psp) (settingsViewportOf s reusable covered)
+    unfolding settingsViewportOf
+    settings-viewport-mode = viewport-mode _ _ _ _ _ reusable covered
+
+    pub viewport-few : Few (settingsViewportOf s reusable covered)
+    viewport-few = few (hasSticks (s .preset)) (s .preset .psp) _ settings-viewport-mode

@@ -7,6 +7,7 @@ use Rattle.float.specs.Float.{k0}
 use Rattle.geometry.specs.declared.Rect.{Rect}
 use Rattle.geometry.specs.Choice.{either}
 use Rattle.layout.specs.declared.Layout.{Layout}
+use Rattle.layout.specs.Layout.{cutoutList}
 use Rattle.numerics.specs.Value.{Whole}
 use Rattle.numerics.specs.Rects.{Element, Area, OnScreen, Key, margin}
 use Rattle.numerics.specs.Range.{In, at, minus}
@@ -19,7 +20,9 @@ use Rattle.search.specs.Search.{placeGameInAspectOf}
 use Rattle.search.proofs.Changes.{every-imp}
 use Rattle.search.proofs.Layouts.{place-bounded, place-game-in}
 use Rattle.settings.specs.declared.Preset.{Preset}
+use Rattle.settings.specs.declared.Settings.{Settings}
 use Rattle.settings.specs.Settings.{savedList}
+use Rattle.limits.specs.InRange.{InRange}
 use Rattle.saved.specs.Saved.{isEmpty, withSavedOf}
 use Rattle.saved.specs.SavedLaws.{not-empty}
 use Rattle.saved.specs.SavedRanges.{saved-bounded}
@@ -33,7 +36,7 @@ use Rattle.chosen.specs.ChosenCases.{whole-area}
 use Rattle.chosen.specs.ChosenLabels.{OfMode, anchor-mode, first-mode}
 use Rattle.chosen.specs.MaximumRanges.{shape, lowered-game-in, below-toolbar-in}
 use Rattle.chosen.specs.ChosenRanges.{Holds, holds, avoid-in, anchored-in, first-in, arrangement-bounded, arrangement-in}
-use Rattle.preset.specs.Preset.{settledOf, maximumOf, freeOf, hasSticks, rowAllowedOf, laidOutOf, layoutInOf, viewportLayoutOf}
+use Rattle.preset.specs.Preset.{settledOf, maximumOf, freeOf, hasSticks, rowAllowedOf, laidOutOf, layoutInOf, viewportLayoutOf, settingsLayoutOf}
 use Rattle.preset.specs.PresetCases.{firstFor, settledFor, placedFor, laid-out-case, RowAllowed, row-allowed}
 use Rattle.preset.specs.PresetLabels.{saved-mode, arranged-mode, placed-mode, layout-mode}
 
@@ -115,3 +118,10 @@ module _ (p : Preset) {w h : Float} (W : In w (at 0) (at 8192)) (H : In h (at 0)
   pub viewport-game-bounded : (reusable covered : Float) → Whole (p .scale) → Whole (p .offset .x) → Whole (p .offset .y) → BoundedGame (viewportLayoutOf p w h picture reusable covered cutouts .game)
   unfolding viewportLayoutOf anchorToolbarOf
   viewport-game-bounded reusable covered scale across down = let G = game-bounded scale across down in either (λ (m : Layout). BoundedGame (m .game)) (lt k0 covered) G G
+
+-- what a film sheet asks
+pub settings-bounded : (s : Settings) → InRange s → Bounded (settingsLayoutOf s) × BoundedGame (settingsLayoutOf s .game)
+unfolding settingsLayoutOf
+settings-bounded s r =
+    let cutouts = cutoutList (s .cutouts) in
+    (layout-bounded (s .preset) (r .w) (r .h) cutouts (r .cutouts) (r .area), game-bounded (s .preset) (r .w) (r .h) cutouts (r .cutouts) (r .area) (r .scale) (r .offset-x) (r .offset-y))

@@ -24,7 +24,7 @@ use Rattle.landscape.specs.LandscapeRanges.{landscape-widest}
 use Rattle.chosen.specs.ChosenCases.{whole-area}
 use Rattle.chosen.specs.MaximumRanges.{shape}
 use Rattle.preset.specs.Demand.{WidestPicture, WidestFor}
-use Rattle.preset.specs.Preset.{maximumOf, laidOutOf, layoutInOf}
+use Rattle.preset.specs.Preset.{maximumOf, laidOutOf, layoutInOf, settingsLayoutOf}
 use Rattle.preset.specs.PresetCases.{areaFor, settledFor, placedFor, laid-out-case}
 use Rattle.preset.specs.PresetRanges.{row-in, settled-layout, placed-holds}
 
@@ -42,6 +42,6 @@ module _ (p : Preset) (fit : pictureFitOf p ≡ KeepClear) (overlap : p .overlap
       subst (λ (b : Rect). WidestPicture (p .psp) b (laidOutOf p w h cutouts picture)) same
       (laid-out-case p w h cutouts picture (WidestPicture (p .psp) area) G (λ t. landscape-widest (placedFor p w h cutouts picture) (K .controls) (K .stick) (row-in W H A p cutouts O t) W H (shape (p .psp)) whole G))
 
-pub layout-widest : (s : Settings) → InRange s → WidestFor s (layoutInOf (s .preset) (s .w) (s .h) (cutoutList (s .cutouts)) (s .picture))
-unfolding layoutInOf
-layout-widest s r k = laid-out-widest (s .preset) (k .fit) (k .apart) (r .whole-size (k .whole)) (r .offset-x) (r .offset-y) (r .raised-w) (r .raised-h) (cutoutList (s .cutouts)) (r .cutouts) (r .area)
+pub settings-widest : (s : Settings) → InRange s → WidestFor s (settingsLayoutOf s)
+unfolding settingsLayoutOf layoutInOf
+settings-widest s r k = laid-out-widest (s .preset) (k .fit) (k .apart) (r .whole-size (k .whole)) (r .offset-x) (r .offset-y) (r .raised-w) (r .raised-h) (cutoutList (s .cutouts)) (r .cutouts) (r .area)

@@ -1,10 +1,12 @@
 // `Preset::layout_in` and `layout_with_cutouts` of input.rs, and `PlayerViewport::layout`; the first steps are in crate `chosen`.
 ghost use mathlib.Core.Path.{_≡_};
+ghost use mathlib.Core.Bool.{true};
 ghost use Prim.Native.Nat.{_≤_};
 ghost use lib.ListN.{take};
 ghost use Rattle.layout.specs.Layout.{cutoutList};
+ghost use Rattle.settings.specs.Settings.{acceptedOf};
 ghost use Rattle.chosen.specs.ChosenLabels.{OfMode};
-ghost use Rattle.preset.specs.Preset.{settledOf, isMaximum, freeOf, rowAllowedOf, laidOutOf, layoutInOf, layoutWithCutoutsOf, viewportLayoutOf};
+ghost use Rattle.preset.specs.Preset.{settledOf, isMaximum, freeOf, rowAllowedOf, laidOutOf, layoutInOf, layoutWithCutoutsOf, viewportLayoutOf, settingsLayoutOf, settingsViewportOf};
 use band::aspect;
 use chosen::area;
 use chosen::arrangement;
@@ -18,6 +20,7 @@ use saved::with_saved;
 use search::place_game_in_aspect;
 use settings::Fit;
 use settings::Preset;
+use settings::Settings;
 use toolbar::anchor_toolbar;
 
 // The elements where they stay: the saved ones at their places, all clear of cutouts, the toolbar anchored.
@@ -129,4 +132,27 @@ pub fn viewport_layout(
         return anchor_toolbar(anchored, w, h, reusable_top, covered_top, cutouts);
     }
     anchored
+}
+
+// Of settings that the reader accepted.
+pub fn settings_layout(s: Settings) -> Layout
+    requires { ⌜ acceptedOf s ≡ true ⌝ }
+    ensures { λ r. ⌜ r ≡ settingsLayoutOf s ⌝ }
+{
+    layout_in(s.preset, s.w, s.h, s.cutouts, s.picture)
+}
+
+pub fn settings_viewport(s: Settings, reusable_top: f32, covered_top: f32) -> Layout
+    requires { ⌜ acceptedOf s ≡ true ⌝ }
+    ensures { λ r. ⌜ r ≡ settingsViewportOf s «reusable_top» «covered_top» ⌝ }
+{
+    viewport_layout(
+        s.preset,
+        s.w,
+        s.h,
+        s.picture,
+        reusable_top,
+        covered_top,
+        s.cutouts,
+    )
 }

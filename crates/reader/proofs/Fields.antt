@@ -8,11 +8,11 @@ use borrow.Author.Tests.{lt-ltb, le-ltb, le-leb, lt-leb, eq-eqb, ne-eqb}
 use lib.Dec.{eqb, ltb, leb}
 use lib.ListN.{length, getD, take, drop, length-drop}
 use lib.Seq.{drop-cons, drop-drop}
-use Rattle.geometry.specs.Answer.{accepted, refused}
+use Rattle.geometry.specs.Answer.{accepted, refused, must, andThen}
 use Rattle.settings.specs.declared.Settings.{Settings}
 use Rattle.reader.specs.declared.Reading.{Reading}
 use Rattle.reader.specs.declared.Tag.{Tag}
-use Rattle.reader.specs.Order.{answerOf, must, andThen, shortOf, fromByteOf, readFieldOf, fields, blankOf, readOrderOf}
+use Rattle.reader.specs.Order.{answerOf, shortOf, fromByteOf, readFieldOf, fields, blankOf, readOrderOf}
 
 three-left : (l : List ℕ) (i : ℕ) → i + 3 ≤ length l → drop i l ≡ getD l i 0 ∷ getD l (i + 1) 0 ∷ getD l (i + 2) 0 ∷ drop (i + 3) l
 three-left l i h =

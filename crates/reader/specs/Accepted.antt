@@ -13,7 +13,7 @@ use lib.Seq.{take-at}
 use Rattle.float.specs.Float.{k0, k1}
 use Rattle.float.specs.MinMax.{maxOf}
 use Rattle.geometry.specs.declared.Rect.{Rect}
-use Rattle.geometry.specs.Answer.{Answer, accepted, refused}
+use Rattle.geometry.specs.Answer.{Answer, accepted, refused, must, andThen}
 use Rattle.geometry.specs.Choice.{either, both}
 use Rattle.geometry.specs.Rect.{newOf, emptyRect}
 use Rattle.layout.specs.declared.Cutouts.{Cutouts}
@@ -24,7 +24,7 @@ use Rattle.settings.specs.declared.Settings.{Settings}
 use Rattle.settings.specs.Settings.{defaultOf, least, inLimitsOf, screenInLimitsOf, rectInLimitsOf, placeInLimitsOf, cutoutsInLimitsOf, acceptedOf, rectIsF32, IsF32}
 use Rattle.reader.specs.declared.Tag.{Tag}
 use Rattle.reader.specs.declared.Tag.the-variants as Tag
-use Rattle.reader.specs.Order.{must, andThen, shortOf, numberAtOf, rectAtOf, rects, filled, readScreenOf, readPictureOf, readModeOf, readFitOf, readPlaceOf, readCutoutsOf, readSavedOf, fromByteOf, readFieldOf, fields, blankOf, readOrderOf}
+use Rattle.reader.specs.Order.{shortOf, numberAtOf, rectAtOf, rects, filled, readScreenOf, readPictureOf, readModeOf, readFitOf, readPlaceOf, readCutoutsOf, readSavedOf, fromByteOf, readFieldOf, fields, blankOf, readOrderOf}
 
 -- ---- a property of the value that an answer accepts, while a refusal has one of the reader's numbers
 abbrev ofReader : ℕ → Bool

@@ -5,11 +5,11 @@ use Prim.Native.Nat.{ℕ}
 use lib.Ieee.{ofBits, lt, le, eq, ne, neg}
 use lib.ListN.{replicate}
 use Rattle.float.specs.MinMax.{maxOf}
-use Rattle.geometry.specs.Answer.{Answer, accepted, refused}
+use Rattle.geometry.specs.Answer.{Answer, accepted, refused, must}
 use Rattle.layout.specs.Lists.{allOf}
 use Rattle.settings.specs.declared.Settings.{Settings}
 use Rattle.settings.specs.Settings.{defaultOf, inLimitsOf, screenInLimitsOf, rectInLimitsOf, placeInLimitsOf, cutoutsInLimitsOf}
-use Rattle.reader.specs.Order.{must, numberAtOf, rectAtOf, rects, filled, hasBit, fitMarkOf, readScreenOf, readPictureOf, readModeOf, readFitOf, readPlaceOf, readCutoutsOf, readSavedOf, fromByteOf, readFieldOf, fields, blankOf, readOrderOf}
+use Rattle.reader.specs.Order.{numberAtOf, rectAtOf, rects, filled, hasBit, fitMarkOf, readScreenOf, readPictureOf, readModeOf, readFitOf, readPlaceOf, readCutoutsOf, readSavedOf, fromByteOf, readFieldOf, fields, blankOf, readOrderOf}
 
 -- 0 for accepted
 abbrev refusal : Answer Settings → ℕ

@@ -1,3 +1,4 @@
 pub mod Order
 pub mod Accepted
+pub mod Readings
 pub mod Cases

@@ -8,7 +8,7 @@ use lib.ListN.{length, getD, take, drop, replicate}
 use Rattle.float.specs.Float.{k0, k1}
 use Rattle.float.specs.MinMax.{maxOf}
 use Rattle.geometry.specs.declared.Rect.{Rect}
-use Rattle.geometry.specs.Answer.{Answer, accepted, refused}
+use Rattle.geometry.specs.Answer.{Answer, accepted, refused, must, andThen}
 use Rattle.geometry.specs.Rect.{newOf, emptyRect}
 use Rattle.layout.specs.declared.Cutouts.{Cutouts}
 use Rattle.search.specs.declared.Offset.{Offset}
@@ -24,15 +24,6 @@ use Rattle.reader.specs.declared.Tag.the-variants as Tag
 -- what a reading says; the settings of a refused one are left open
 unfoldable pub answerOf : Reading → Answer Settings
 answerOf r = cond (eqb (r .refusal) 0) (accepted (r .settings)) (refused (r .refusal))
-
--- the answer, if a test is met, else a refusal
-unfoldable pub must : {A : Type 0} → Bool → ℕ → Answer A → Answer A
-must test number answer = cond test answer (refused number)
-
--- what f makes of an accepted value
-abbrev pub andThen : {A B : Type 0} → Answer A → (A → Answer B) → Answer B
-andThen (accepted x) f = f x
-andThen (refused n) f = refused n
 
 -- ---- bytes of a value: numbers, rectangles, bits
 

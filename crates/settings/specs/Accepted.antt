@@ -1,6 +1,8 @@
 -- What accepted settings hold, part by part.
 use mathlib.Core.Path.{_≡_}
 use mathlib.Core.Bool.{true}
+use Prim.Native.Nat.{_≤_}
+use borrow.Author.Tests.{leb-true}
 use lib.Dec.{leb}
 use Rattle.float.specs.Float.{k0}
 use Rattle.geometry.specs.Choice.{both}
@@ -24,3 +26,6 @@ accepted-parts s e =
     let d = both _ _ (c .1) in
     let f = both _ _ (d .0) in
     record { screen = a .0; picture = b .0; place = c .0; few-cutouts = f .0; cutouts = f .1; few-saved = d .1 }
+
+pub few-settings : (s : Settings) → acceptedOf s ≡ true → (s .preset .count ≤ 32) × (s .cutouts .count ≤ 16)
+few-settings s e = let a = accepted-parts s e in (leb-true _ _ (a .few-saved), leb-true _ _ (a .few-cutouts))

@@ -10,12 +10,12 @@ use lib.Ieee.{Float}
 use lib.IntN.{ℤ, negsuc}
 use lib.ListN.{length, drop}
 use lib.Signed.{mag}
-use Rattle.geometry.specs.Answer.{Answer, accepted, refused}
+use Rattle.geometry.specs.Answer.{Answer, accepted, refused, must, andThen}
 use Rattle.settings.specs.declared.Settings.{Settings}
 use Rattle.settings.specs.Settings.{topsInLimitsOf}
 use Rattle.safe_area.specs.Safe.{allOnScaleOf, contentOf, safeContentOf, mergedOf, safeEdgesOf}
 use Rattle.reader.specs.Accepted.{refused-order}
-use Rattle.reader.specs.Order.{must, andThen, readOrderOf}
+use Rattle.reader.specs.Order.{readOrderOf}
 use Rattle.order.specs.Orders.{orderLayout, layoutOf, layoutOutputOf, orderViewport, viewportLayoutOf, viewportOutputOf}
 use Rattle.order.specs.OrderLaws.{bytesFor, roomFor, layout-answer, viewport-answer, layout-refused, viewport-refused, touch-refused}
 use Rattle.film_sheet.specs.Film.{filmTextOf, filmSheetOf}

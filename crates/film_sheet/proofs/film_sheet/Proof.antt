@@ -2,9 +2,8 @@ use borrow.Author.Needs.{needs}
 use native.Mathlib.Omega.{arith}
 use Rattle.reader.specs.Accepted.{accepted-order, refused-order}
 use Rattle.sheet.specs.Sheet.{layoutSheetOf, refusedSheetOf}
-use Rattle.order.specs.Orders.{orderLayout}
-use Rattle.order.specs.OrderLaws.{settings-few}
-use Rattle.order.proofs.Steps.{read-refused, read-accepted}
+use Rattle.reader.specs.Readings.{read-refused, read-accepted}
+use Rattle.preset.specs.PresetLabels.{settings-few}
 use Rattle.film_sheet.specs.Film.{filmTextOf, filmSheetOf}
 use Rattle.film_sheet.specs.FilmLaws.{order-bounded}
 use Rattle.film_sheet.proofs.film_sheet.Statement.{statement}
@@ -15,7 +14,7 @@ refused-sheet-requires c κs =
     let b = refused-order _ (read-refused _ (c .before .before .before .read-order .ensures) (c .before .if1 .taken)) in omega arith
 
 returns : tie.Need-returns
-unfolding filmSheetOf filmTextOf orderLayout refusedSheetOf
+unfolding filmSheetOf filmTextOf refusedSheetOf
 returns c = rw (read-refused _ (c .before .before .before .before .read-order .ensures) (c .before .before .if1 .taken)) (c .refused-sheet .ensures)
 
 settings-layout-requires : tie.Need-settings-layout-requires
@@ -29,7 +28,7 @@ layout-sheet-requires c κs =
     rw (c .settings-layout .ensures) (n .count, n .stickcount, b .0, b .1)
 
 returns-2 : tie.Need-returns-2
-unfolding filmSheetOf filmTextOf orderLayout layoutSheetOf
+unfolding filmSheetOf filmTextOf layoutSheetOf
 returns-2 c =
     rw (read-accepted _ (c .before .before .before .before .read-order .ensures) (c .before .before .if1 .left), ← c .before .settings-layout .ensures) (c .layout-sheet .ensures)
 

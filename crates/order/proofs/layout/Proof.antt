@@ -3,8 +3,10 @@ use borrow.Author.Needs.{needs}
 use Rattle.reader.specs.Accepted.{accepted-order}
 use Rattle.written.proofs.Owned.{layout-owned}
 use Rattle.order.specs.Orders.{orderLayout, layoutOf, layoutOutputOf}
-use Rattle.order.specs.OrderLaws.{settings-few, never}
-use Rattle.order.proofs.Steps.{read-refused, read-accepted, layout-accepted}
+use Rattle.geometry.specs.AnswerLaws.{never}
+use Rattle.preset.specs.PresetLabels.{settings-few}
+use Rattle.reader.specs.Readings.{read-refused, read-accepted}
+use Rattle.order.proofs.Steps.{layout-accepted}
 use Rattle.order.proofs.layout.Statement.{statement}
 use Rattle.order.proofs.layout.Tie as tie
 

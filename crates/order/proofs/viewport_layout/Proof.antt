@@ -1,10 +1,10 @@
 use borrow.Author.Needs.{needs}
 use borrow.Author.Tests.{not-true, not-false}
+use Rattle.geometry.specs.Answer.{must}
 use Rattle.reader.specs.Accepted.{accepted-order}
-use Rattle.reader.specs.Order.{must}
 use Rattle.order.specs.Orders.{orderViewport, viewportLayoutOf, viewportOutputOf}
-use Rattle.order.specs.OrderLaws.{viewport-few}
-use Rattle.order.proofs.Steps.{read-refused, read-accepted}
+use Rattle.preset.specs.PresetLabels.{viewport-few}
+use Rattle.reader.specs.Readings.{read-refused, read-accepted}
 use Rattle.order.proofs.viewport_layout.Statement.{statement}
 use Rattle.order.proofs.viewport_layout.Tie as tie
 

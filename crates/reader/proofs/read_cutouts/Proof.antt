@@ -1,6 +1,7 @@
 use borrow.Author.Tests.{ne-eqb, eq-eqb, le-leb, lt-leb, not-true, not-false}
 use mathlib.Core.Path.{_∙_}
-use Rattle.reader.specs.Order.{answerOf, must, readCutoutsOf}
+use Rattle.geometry.specs.Answer.{must}
+use Rattle.reader.specs.Order.{answerOf, readCutoutsOf}
 use borrow.Author.Needs.{needs}
 use Rattle.reader.proofs.read_cutouts.Statement.{statement}
 use Rattle.reader.proofs.read_cutouts.Tie as tie

@@ -1,6 +1,7 @@
 use borrow.Author.Tests.{ne-eqb, eq-eqb}
 use mathlib.Core.Path.{_∙_}
-use Rattle.reader.specs.Order.{answerOf, must, readModeOf}
+use Rattle.geometry.specs.Answer.{must}
+use Rattle.reader.specs.Order.{answerOf, readModeOf}
 use lib.ListN.{getD}
 use Rattle.reader.proofs.Bits.{test-bit}
 use borrow.Author.Needs.{needs}

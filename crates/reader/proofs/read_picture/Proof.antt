@@ -1,6 +1,7 @@
 use borrow.Author.Tests.{ne-eqb, eq-eqb, not-true, not-false}
 use mathlib.Core.Path.{_∙_}
-use Rattle.reader.specs.Order.{answerOf, must, readPictureOf}
+use Rattle.geometry.specs.Answer.{must}
+use Rattle.reader.specs.Order.{answerOf, readPictureOf}
 use borrow.Author.Needs.{needs}
 use Rattle.reader.proofs.read_picture.Statement.{statement}
 use Rattle.reader.proofs.read_picture.Tie as tie

@@ -1,6 +1,7 @@
 use borrow.Author.Tests.{ne-eqb, eq-eqb, le-leb, lt-leb}
 use mathlib.Core.Path.{_∙_}
-use Rattle.reader.specs.Order.{answerOf, must, readSavedOf}
+use Rattle.geometry.specs.Answer.{must}
+use Rattle.reader.specs.Order.{answerOf, readSavedOf}
 use borrow.Author.Needs.{needs}
 use Rattle.reader.proofs.read_saved.Statement.{statement}
 use Rattle.reader.proofs.read_saved.Tie as tie

@@ -1,6 +1,7 @@
 use borrow.Author.Tests.{ne-eqb, eq-eqb, not-true, not-false}
 use mathlib.Core.Path.{_∙_}
-use Rattle.reader.specs.Order.{answerOf, must, readScreenOf}
+use Rattle.geometry.specs.Answer.{must}
+use Rattle.reader.specs.Order.{answerOf, readScreenOf}
 use borrow.Author.Needs.{needs}
 use Rattle.reader.proofs.read_screen.Statement.{statement}
 use Rattle.reader.proofs.read_screen.Tie as tie

@@ -1,5 +1,5 @@
+use Rattle.geometry.specs.Answer.{must}
 use Rattle.thumb_layout.specs.Interface.{contentFour, tlSafeContentOf, tlSafeContentOutputOf}
-use Rattle.reader.specs.Order.{must}
 use borrow.Author.Tests.{eq-eqb, ne-eqb}
 use Rattle.geometry.proofs.Signed.{stored}
 use borrow.Author.Needs.{needs}

@@ -1,7 +1,7 @@
-use Rattle.order.specs.Orders.{settingsViewportOf}
-use Rattle.order.proofs.Steps.{few-settings}
-use Rattle.order.proofs.settings_viewport.Statement.{statement}
-use Rattle.order.proofs.settings_viewport.Tie as tie
+use Rattle.preset.specs.Preset.{settingsViewportOf}
+use Rattle.settings.specs.Accepted.{few-settings}
+use Rattle.preset.proofs.settings_viewport.Statement.{statement}
+use Rattle.preset.proofs.settings_viewport.Tie as tie
 
 viewport-layout-requires : tie.Need-viewport-layout-requires
 viewport-layout-requires c κs = few-settings (c .args .s) (c .pre)

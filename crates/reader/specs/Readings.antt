@@ -1,0 +1,16 @@
+-- What a reading says of its order, by its refusal's number.
+use mathlib.Core.Path.{_≡_, sym, _∙_}
+use borrow.Author.Tests.{eq-eqb, ne-eqb}
+use Rattle.geometry.specs.Answer.{Answer, accepted, refused}
+use Rattle.settings.specs.declared.Settings.{Settings}
+use Rattle.reader.specs.declared.Reading.{Reading}
+use Rattle.reader.specs.Order.{answerOf}
+
+module _ (r : Reading) {a : Answer Settings} (e : answerOf r ≡ a) where
+  pub read-refused : (r .refusal ≡ 0 → ⊥) → a ≡ refused (r .refusal)
+  unfolding answerOf
+  read-refused h = sym e ∙ rw (ne-eqb (r .refusal) 0 h)
+
+  pub read-accepted : r .refusal ≡ 0 → a ≡ accepted (r .settings)
+  unfolding answerOf
+  read-accepted h = sym e ∙ rw (eq-eqb (r .refusal) 0 h)
