@@ -1,6 +1,6 @@
-// Runs the lists in data/, whose README has their form: orders, calls of our functions and the Rust's answers, every byte
-// of which is compared. A case with a name prints `ok NAME` or `WRONG NAME`; a list prints how many calls of each kind it
-// has, and how many are wrong.
+// Makes the sheets of the examples, and runs the lists in data/, whose README has their form: orders, calls of our functions and the
+// Rust's answers, every byte of which is compared. A case with a name prints `ok NAME` or `WRONG NAME`; a list prints how many calls
+// of each kind it has, and how many are wrong.
 ghost use Prim.Native.Nat.{_<_};
 ghost use Rattle.io.specs.Counts.{Counts};
 use film_sheet::film_sheet;
@@ -8,11 +8,13 @@ use order::LayoutAnswer;
 use order::TouchAnswer;
 use tally::Tally;
 
+mod examples;
 mod functions;
 mod layouts;
 mod tally;
 
 fn main() {
+    examples::all();
     replay(b"cases");
     replay(b"functions");
     replay(b"orders");
