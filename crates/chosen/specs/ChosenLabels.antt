@@ -2,7 +2,6 @@
 use mathlib.Core.Path.{_≡_, _∙_}
 use mathlib.Core.Bool.{Bool, true, false, _||_}
 use mathlib.Core.List.{List}
-use mathlib.Core.Option.{Option, some}
 use Prim.Native.Nat.{_≤_}
 use native.Mathlib.Omega.{arith}
 use lib.Dec.{T}
@@ -25,7 +24,7 @@ use Rattle.cutouts.specs.Cutouts.{avoidCutoutsOf}
 use Rattle.cutouts.specs.CutoutLaws.{face-count}
 use Rattle.camera_rails.specs.CameraLabels.{avoid-formed, camera-rails-formed}
 use Rattle.picture.specs.PictureLabels.{controls-formed}
-use Rattle.chosen.specs.Chosen.{startOf, reusableTop, largestOf, foundOr, aroundOf, tryRailsOf, besideOf, firstOf, arrangementOf}
+use Rattle.chosen.specs.Chosen.{startOf, reusableTop, largestOf, aroundOf, tryRailsOf, besideOf, firstOf, arrangementOf}
 use Rattle.chosen.specs.ChosenCases.{found-case, rails-case}
 
 -- a layout of a mode: its labels, its sticks, and arrays of 12 and 2
@@ -52,37 +51,34 @@ module _ (w h : Float) (cutouts : List Rect) (picture : Rect) where
   start-mode false true = analog-formed w h
   start-mode false false = default-formed w h cutouts picture
 
-module _ (analog psp : Bool) (l : Layout) (f : OfMode analog psp l) (w h : Float) (cutouts : List Rect) where
-  pub anchor-mode : (top covered : Float) → OfMode analog psp (anchorToolbarOf l w h top covered cutouts)
+module _ (analog psp : Bool) (l : Layout) (f : OfMode analog psp l) where
+  pub anchor-mode : (w h top covered : Float) (cutouts : List Rect) → OfMode analog psp (anchorToolbarOf l w h top covered cutouts)
   unfolding anchorToolbarOf
-  anchor-mode top covered = f
+  anchor-mode w h top covered cutouts = f
 
   pub place-mode : (area : Rect) (overlap : Bool) (scale : Float) (offset : Offset) (aspect : Float) → OfMode analog psp (placeGameInAspectOf l area overlap scale offset aspect)
   unfolding placeGameInAspectOf
   place-mode area overlap scale offset aspect = f
 
-  pub avoid-mode : OfMode analog psp (avoidCutoutsOf l w h cutouts)
-  avoid-mode = let n = few analog psp l f in avoid-formed (bandLabels analog psp) (bandSticks analog psp) w h l (n .count) (n .stickcount) cutouts f
-
-  pub found-mode : (o : Option Layout) → ((m : Layout) → o ≡ some m → OfMode analog psp m) → OfMode analog psp (foundOr l o)
-  found-mode o g = found-case (OfMode analog psp) o f g
+  pub avoid-mode : (w h : Float) (cutouts : List Rect) → OfMode analog psp (avoidCutoutsOf l w h cutouts)
+  avoid-mode w h cutouts = let n = few analog psp l f in avoid-formed (bandLabels analog psp) (bandSticks analog psp) w h l (n .count) (n .stickcount) cutouts f
 
 module _ (psp : Bool) (l : Layout) (f : OfMode true psp l) (w h : Float) (cutouts : List Rect) (picture : Rect) where
   pub rails-mode : OfMode true psp (tryRailsOf l w h picture cutouts psp)
   rails-mode =
-      let clear = place-mode true psp (avoidCutoutsOf l w h cutouts) (avoid-mode true psp l f w h cutouts) w h cutouts picture false k1 middle (aspectOf psp) in
+      let clear = place-mode true psp (avoidCutoutsOf l w h cutouts) (avoid-mode true psp l f w h cutouts) picture false k1 middle (aspectOf psp) in
       rails-case w h picture cutouts psp (OfMode true psp) l f clear (camera-rails-formed w h picture cutouts psp)
 
 module _ (w h : Float) (area : Rect) (cutouts : List Rect) where
   pub beside-mode : (analog psp : Bool) (l : Layout) → OfMode analog psp l → OfMode analog psp (besideOf l w h area cutouts analog psp)
   unfolding besideOf
-  beside-mode true psp l f = rails-mode psp _ (found-mode true psp l f w h cutouts _ (band-formed w h true psp area)) w h cutouts area
-  beside-mode false psp l f = found-mode false psp l f w h cutouts _ (band-formed w h false psp area)
+  beside-mode true psp l f = rails-mode psp _ (found-case (OfMode true psp) _ f (band-formed w h true psp area)) w h cutouts area
+  beside-mode false psp l f = found-case (OfMode false psp) _ f (band-formed w h false psp area)
 
   module _ (analog psp : Bool) (k : T psp → T analog) (first : Layout) (f : OfMode analog psp first) where
     pub around-mode : OfMode analog psp (aroundOf first w h area cutouts analog psp)
     unfolding aroundOf
-    around-mode = found-mode analog psp first f w h cutouts _ (λ m. controls-formed w h (largestOf area (aspectOf psp)) analog psp cutouts m k)
+    around-mode = found-case (OfMode analog psp) _ f (λ m. controls-formed w h (largestOf area (aspectOf psp)) analog psp cutouts m k)
 
     pub arrangement-mode : (maximum free : Bool) → OfMode analog psp (arrangementOf maximum free first w h area cutouts analog psp)
     unfolding arrangementOf
@@ -94,4 +90,4 @@ module _ (w h : Float) (cutouts : List Rect) (picture : Rect) where
   first-mode psp analog maximum =
       let start = startOf psp analog w h cutouts picture in
       let f = start-mode w h cutouts picture psp analog in
-      either (OfMode (analog || psp) psp) maximum (anchor-mode (analog || psp) psp start f w h cutouts (reusableTop picture) k0) f
+      either (OfMode (analog || psp) psp) maximum (anchor-mode (analog || psp) psp start f w h (reusableTop picture) k0 cutouts) f

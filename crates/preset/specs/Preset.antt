@@ -28,13 +28,13 @@ settledOf arrangement w h picture cutouts saved =
     anchorToolbarOf (avoidCutoutsOf restored w h cutouts) w h (reusableTop picture) k0 cutouts
 
 -- `picture_fit() == PictureFit::Maximum`, where a fit is never unset
-abbrev pub isMaximum : Fit → Bool
-isMaximum Unset = false
-isMaximum Maximum = true
-isMaximum KeepClear = false
+abbrev pub isMaximumOf : Fit → Bool
+isMaximumOf Unset = false
+isMaximumOf Maximum = true
+isMaximumOf KeepClear = false
 
 abbrev pub maximumOf : Preset → Bool
-maximumOf p = isMaximum (pictureFitOf p)
+maximumOf p = isMaximumOf (pictureFitOf p)
 
 -- nothing was saved, and no overlap asked for
 abbrev pub freeOf : Preset → Bool

@@ -25,18 +25,17 @@ use Rattle.chosen.specs.ChosenLabels.{OfMode, Few, few, anchor-mode, place-mode
 use Rattle.preset.specs.PresetCases.{firstFor, areaFor, arrangementFor, placedFor, laid-out-case}
 use Rattle.preset.specs.Preset.{settledOf, maximumOf, freeOf, hasSticks, laidOutOf, layoutInOf, viewportLayoutOf, settingsLayoutOf, settingsViewportOf}
 
-module _ (analog psp : Bool) (l : Layout) (f : OfMode analog psp l) (w h : Float) (cutouts : List Rect) where
-  pub saved-mode : (saved : List Rect) → OfMode analog psp (withSavedOf l w h saved)
-  unfolding withSavedOf
-  saved-mode saved = let n = few analog psp l f in either (OfMode analog psp) (isEmpty saved) f (set-elements-formed (bandLabels analog psp) (bandSticks analog psp) l (n .count) (n .stickcount) _ (length-restored w h saved (elementsOf l)) f)
+pub saved-mode : (analog psp : Bool) (l : Layout) → OfMode analog psp l → (w h : Float) (saved : List Rect) → OfMode analog psp (withSavedOf l w h saved)
+unfolding withSavedOf
+saved-mode analog psp l f w h saved = let n = few analog psp l f in either (OfMode analog psp) (isEmpty saved) f (set-elements-formed (bandLabels analog psp) (bandSticks analog psp) l (n .count) (n .stickcount) _ (length-restored w h saved (elementsOf l)) f)
 
 module _ (w h : Float) (cutouts : List Rect) (picture : Rect) where
   pub settled-mode : (analog psp : Bool) (l : Layout) → OfMode analog psp l → (saved : List Rect) → OfMode analog psp (settledOf l w h picture cutouts saved)
   unfolding settledOf
   settled-mode analog psp l f saved =
       let restored = withSavedOf l w h saved in
-      let g = avoid-mode analog psp restored (saved-mode analog psp l f w h cutouts saved) w h cutouts in
-      anchor-mode analog psp (avoidCutoutsOf restored w h cutouts) g w h cutouts (reusableTop picture) k0
+      let g = avoid-mode analog psp restored (saved-mode analog psp l f w h saved) w h cutouts in
+      anchor-mode analog psp (avoidCutoutsOf restored w h cutouts) g w h (reusableTop picture) k0 cutouts
 
 module _ (p : Preset) (w h : Float) (cutouts : List Rect) (picture : Rect) where
   pub arranged-mode : OfMode (hasSticks p) (p .psp) (arrangementFor p w h cutouts picture)
@@ -47,7 +46,7 @@ module _ (p : Preset) (w h : Float) (cutouts : List Rect) (picture : Rect) where
   pub placed-mode : OfMode (hasSticks p) (p .psp) (placedFor p w h cutouts picture)
   placed-mode =
       let settled = settled-mode w h cutouts picture (hasSticks p) (p .psp) _ arranged-mode (savedList p) in
-      place-mode (hasSticks p) (p .psp) _ settled w h cutouts (areaFor p w h cutouts picture) (p .overlap || maximumOf p) (p .scale) (p .offset) (aspectOf (p .psp))
+      place-mode (hasSticks p) (p .psp) _ settled (areaFor p w h cutouts picture) (p .overlap || maximumOf p) (p .scale) (p .offset) (aspectOf (p .psp))
 
   pub laid-out-mode : OfMode (hasSticks p) (p .psp) (laidOutOf p w h cutouts picture)
   laid-out-mode =

@@ -50,7 +50,7 @@ module _ {w h : Float} (W : In w (at 1) (at 8192)) (H : In h (at 1) (at 8192)) {
   settled-bounded cutouts O analog psp l f L saved =
       let restored = withSavedOf l w h saved in
       let J = holds analog psp l f in
-      let K = holds analog psp restored (saved-mode analog psp l f w h cutouts saved) in
+      let K = holds analog psp restored (saved-mode analog psp l f w h saved) in
       keys-in (anchored-in W H A cutouts O _ (avoid-in W H cutouts restored K (saved-bounded W H l (J .controls) (J .sticks) L saved)))
 
   -- ---- with no cutouts and nothing saved no element moves
@@ -111,7 +111,7 @@ module _ (p : Preset) {w h : Float} (W : In w (at 0) (at 8192)) (H : In h (at 0)
   viewport-bounded {reusable} {covered} R C =
       let l = layoutInOf p w h cutouts picture in
       let anchored = anchorToolbarOf l w h reusable k0 cutouts in
-      let K = holds (hasSticks p) (p .psp) anchored (anchor-mode (hasSticks p) (p .psp) l (layout-mode p w h cutouts picture) w h cutouts reusable k0) in
+      let K = holds (hasSticks p) (p .psp) anchored (anchor-mode (hasSticks p) (p .psp) l (layout-mode p w h cutouts picture) w h reusable k0 cutouts) in
       let L = keys-in (anchor-in l cutouts W H R (in-more (minus 8192) (at 8192) i0 tt tt) (uncovered-in l cutouts O) layout-bounded) in
       either Bounded (lt k0 covered) (keys-in (anchor-in anchored cutouts W H R C (avoided-in anchored covered cutouts (K .controls) (K .sticks) L O) L)) L
 

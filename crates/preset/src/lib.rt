@@ -6,7 +6,7 @@ ghost use lib.ListN.{take};
 ghost use Rattle.layout.specs.Layout.{cutoutList};
 ghost use Rattle.settings.specs.Settings.{acceptedOf};
 ghost use Rattle.chosen.specs.ChosenLabels.{OfMode};
-ghost use Rattle.preset.specs.Preset.{settledOf, isMaximum, freeOf, rowAllowedOf, laidOutOf, layoutInOf, layoutWithCutoutsOf, viewportLayoutOf, settingsLayoutOf, settingsViewportOf};
+ghost use Rattle.preset.specs.Preset.{settledOf, isMaximumOf, freeOf, rowAllowedOf, laidOutOf, layoutInOf, layoutWithCutoutsOf, viewportLayoutOf, settingsLayoutOf, settingsViewportOf};
 use band::aspect;
 use chosen::area;
 use chosen::arrangement;
@@ -44,7 +44,7 @@ fn settled(
 }
 
 fn is_maximum(fit: Fit) -> bool
-    ensures { λ r. ⌜ r ≡ isMaximum fit ⌝ }
+    ensures { λ r. ⌜ r ≡ isMaximumOf fit ⌝ }
 {
     match fit {
         Fit::Unset => false,

@@ -1,8 +1,8 @@
 use Rattle.chosen.specs.Chosen.{foundOr, besideOf}
-use Rattle.chosen.specs.ChosenLabels.{OfMode, found-mode}
+use Rattle.chosen.specs.ChosenCases.{found-case}
+use Rattle.chosen.specs.ChosenLabels.{OfMode}
 use mathlib.Core.Path.{_≡_, _∙_}
 use mathlib.Core.Logic.{⊎-elim}
-use Rattle.layout.specs.Layout.{cutoutList}
 use Rattle.band.specs.Band.{controllerBandOf}
 use Rattle.band.specs.BandLabels.{band-formed}
 use borrow.Author.Needs.{needs}
@@ -14,7 +14,7 @@ try-rails-requires c κs = let l = c .before in
     let a = l .before .before .args in
     let b = l .before .controller-band in
     let e : l .if1 .banded ≡ foundOr (a .layout) (controllerBandOf (a .w) (a .h) (a .analog) (a .psp) (a .picture)) = ⊎-elim (λ t. t .2 ∙ rw (← b .ensures .0, t .0 .taken)) (λ t. t .1 ∙ rw (← b .ensures .0, t .0 .left)) (l .if1 .came) in
-    let p : OfMode (a .analog) (a .psp) (l .if1 .banded) = rw e (found-mode (a .analog) (a .psp) (a .layout) (l .before .before .pre .1) (a .w) (a .h) (cutoutList (a .cutouts)) _ (band-formed (a .w) (a .h) (a .analog) (a .psp) (a .picture))) in
+    let p : OfMode (a .analog) (a .psp) (l .if1 .banded) = rw e (found-case (OfMode (a .analog) (a .psp)) _ (l .before .before .pre .1) (band-formed (a .w) (a .h) (a .analog) (a .psp) (a .picture))) in
     (l .before .before .pre .0, rw (c .if2 .taken) at p)
 
 returns : tie.Need-returns

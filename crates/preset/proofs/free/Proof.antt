@@ -7,7 +7,10 @@ use Rattle.preset.proofs.free.Statement.{statement}
 use Rattle.preset.proofs.free.Tie as tie
 
 returns : tie.Need-returns
-returns c = let a = c .before .before .args in let p = c .before .before .pre in let k : length (a .p .elements) ≡ 32 = search sized in rw (none-counted (a .p .count) (a .p .elements) (omega arith))
+returns c =
+    let p = c .before .before .args .p in
+    let all : length (p .elements) ≡ 32 = search sized in
+    rw (none-counted (p .count) (p .elements) (omega arith))
 
 pub free-spec : {M : Type 1} → statement M
 free-spec = tie.close (tie.spec returns)

@@ -7,28 +7,39 @@ use Rattle.preset.proofs.laid_out.Statement.{statement}
 use Rattle.preset.proofs.laid_out.Tie as tie
 
 settled-requires : tie.Need-settled-requires
-settled-requires c κs = (c .before .before .before .before .before .before .before .pre .1, (c .before .before .before .before .before .before .before .pre .0, c .before .arrangement .ensures .1))
+settled-requires c κs = let pre = c .before .before .before .before .before .before .before .pre in (pre .1, (pre .0, c .before .arrangement .ensures .1))
 
 place-game-in-aspect-requires : tie.Need-place-game-in-aspect-requires
-place-game-in-aspect-requires c κs = let p = c .before .before .before .before .before .before .before .before .before .before .args .p in let n = few (hasSticks p) (p .psp) (c .before .before .settled .result) (c .before .before .settled .ensures .1) in (n .count, n .stickcount)
+place-game-in-aspect-requires c κs =
+    let p = c .before .before .before .before .before .before .before .before .before .before .args .p in
+    let n = few (hasSticks p) (p .psp) _ (c .before .before .settled .ensures .1) in
+    (n .count, n .stickcount)
 
 row-allowed-requires : tie.Need-row-allowed-requires
-row-allowed-requires c κs = (c .before .before .before .before .before .before .before .before .before .before .before .pre .0, c .before .before .before .before .before .before .before .before .before .before .before .pre .1)
+row-allowed-requires c κs = c .before .before .before .before .before .before .before .before .before .before .before .pre
 
 fit-landscape-controls-requires : tie.Need-fit-landscape-controls-requires
-fit-landscape-controls-requires c κs = let p = c .before .before .before .before .before .before .before .before .before .before .before .before .before .args .p in let n : Few (c .before .before .place-game-in-aspect .result) = rw (c .before .before .place-game-in-aspect .ensures) (few (hasSticks p) (p .psp) _ (place-mode (hasSticks p) (p .psp) (c .before .before .before .before .before .settled .result) (c .before .before .before .before .before .settled .ensures .1) (c .before .before .before .before .before .before .before .before .before .before .before .before .before .args .w) (c .before .before .before .before .before .before .before .before .before .before .before .before .before .args .h) (cutoutList (c .before .before .before .before .before .before .before .before .before .before .before .before .before .args .cutouts)) _ _ _ _ _)) in (n .count, n .stickcount)
+fit-landscape-controls-requires c κs =
+    let p = c .before .before .before .before .before .before .before .before .before .before .before .before .before .args .p in
+    let m = place-mode (hasSticks p) (p .psp) _ (c .before .before .before .before .before .settled .ensures .1) _ _ _ _ _ in
+    let n : Few (c .before .before .place-game-in-aspect .result) = rw (c .before .before .place-game-in-aspect .ensures) (few (hasSticks p) (p .psp) _ m) in
+    (n .count, n .stickcount)
 
 returns : tie.Need-returns
 unfolding laidOutOf
 returns c =
-    let a = c .before .before .before .before .before .before .before .before .before .before .before .before .before .before .args in
-    rw (← c .before .before .before .before .before .before .before .before .before .before .free .ensures, ← c .before .before .before .before .before .before .before .before .before .before .before .before .picture-fit .ensures, ← c .before .before .before .before .before .before .before .before .before .before .before .is-maximum .ensures, same-area (a .w) (a .h) (cutoutList (a .cutouts)) (a .picture) (a .p .psp) (a .p .analog) (c .before .before .before .before .before .before .before .before .before .before .before .is-maximum .result), ← c .before .before .before .before .before .before .before .before .before .area .ensures, ← c .before .before .before .before .before .before .before .before .arrangement .ensures .0, ← c .before .before .before .before .before .before .settled .ensures .0, ← c .before .before .before .before .before .aspect .ensures, ← c .before .before .before .place-game-in-aspect .ensures, ← c .before .before .row-allowed .ensures, c .before .if1 .taken) (c .fit-landscape-controls .ensures)
+    let s = c .before .before .before .before .before .before .before .before .before .before in
+    let a = s .before .before .before .before .args in
+    let area = same-area (a .w) (a .h) (cutoutList (a .cutouts)) (a .picture) (a .p .psp) (a .p .analog) (s .before .is-maximum .result) in
+    rw (← s .free .ensures, ← s .before .before .picture-fit .ensures, ← s .before .is-maximum .ensures, area, ← c .before .before .before .before .before .before .before .before .before .area .ensures, ← c .before .before .before .before .before .before .before .before .arrangement .ensures .0, ← c .before .before .before .before .before .before .settled .ensures .0, ← c .before .before .before .before .before .aspect .ensures, ← c .before .before .before .place-game-in-aspect .ensures, ← c .before .before .row-allowed .ensures, c .before .if1 .taken) (c .fit-landscape-controls .ensures)
 
 returns-2 : tie.Need-returns-2
 unfolding laidOutOf
 returns-2 c =
-    let a = c .before .before .before .before .before .before .before .before .before .before .before .before .before .args in
-    rw (← c .before .before .before .before .before .before .before .before .before .free .ensures, ← c .before .before .before .before .before .before .before .before .before .before .before .picture-fit .ensures, ← c .before .before .before .before .before .before .before .before .before .before .is-maximum .ensures, same-area (a .w) (a .h) (cutoutList (a .cutouts)) (a .picture) (a .p .psp) (a .p .analog) (c .before .before .before .before .before .before .before .before .before .before .is-maximum .result), ← c .before .before .before .before .before .before .before .before .area .ensures, ← c .before .before .before .before .before .before .before .arrangement .ensures .0, ← c .before .before .before .before .before .settled .ensures .0, ← c .before .before .before .before .aspect .ensures, ← c .before .before .place-game-in-aspect .ensures, ← c .before .row-allowed .ensures, c .if1 .left)
+    let s = c .before .before .before .before .before .before .before .before .before in
+    let a = s .before .before .before .before .args in
+    let area = same-area (a .w) (a .h) (cutoutList (a .cutouts)) (a .picture) (a .p .psp) (a .p .analog) (s .before .is-maximum .result) in
+    rw (← s .free .ensures, ← s .before .before .picture-fit .ensures, ← s .before .is-maximum .ensures, area, ← c .before .before .before .before .before .before .before .before .area .ensures, ← c .before .before .before .before .before .before .before .arrangement .ensures .0, ← c .before .before .before .before .before .settled .ensures .0, ← c .before .before .before .before .aspect .ensures, ← c .before .before .place-game-in-aspect .ensures, ← c .before .row-allowed .ensures, c .if1 .left)
 
 pub laid-out-spec : {M : Type 1} → statement M
 laid-out-spec =

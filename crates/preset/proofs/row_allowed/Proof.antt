@@ -10,7 +10,10 @@ use Rattle.preset.proofs.row_allowed.Tie as tie
 
 returns : tie.Need-returns
 unfolding rowAllowedOf
-returns c = let a = c .before .before .before .before .before .before .args in let p = c .before .before .before .before .before .before .pre in let g = c .before .before .before .before .before .before .good in let m : length (a .cutouts .at) ≡ 16 = search sized in rw (← c .before .before .before .before .before .free .ensures, ← c .before .before .before .before .picture-fit .ensures, ← c .before .before .before .is-maximum .ensures, ← c .before .untouched .ensures, none-counted (a .cutouts .count) (a .cutouts .at) (omega arith))
+returns c =
+    let s = c .before .before .before .before .before .before in
+    let at : length (s .args .cutouts .at) ≡ 16 = search sized in
+    rw (← c .before .before .before .before .before .free .ensures, ← c .before .before .before .before .picture-fit .ensures, ← c .before .before .before .is-maximum .ensures, ← c .before .untouched .ensures, none-counted (s .args .cutouts .count) (s .args .cutouts .at) (omega arith))
 
 pub row-allowed-spec : {M : Type 1} → statement M
 row-allowed-spec =

@@ -9,17 +9,31 @@ use Rattle.preset.specs.Preset.{settledOf}
 use Rattle.layout.specs.Layout.{cutoutList}
 
 with-saved-requires : tie.Need-with-saved-requires
-with-saved-requires c κs = let a = c .args in let n = few (a .analog) (a .psp) (a .arrangement) (c .pre .1 .1) in (c .pre .1 .0, (n .count, n .stickcount))
+with-saved-requires c κs =
+    let a = c .args in
+    let n = few (a .analog) (a .psp) (a .arrangement) (c .pre .1 .1) in
+    (c .pre .1 .0, (n .count, n .stickcount))
 
 avoid-cutouts-requires : tie.Need-avoid-cutouts-requires
-avoid-cutouts-requires c κs = let a = c .before .args in let n : Few (c .with-saved .result) = rw (c .with-saved .ensures) (few (a .analog) (a .psp) _ (saved-mode (a .analog) (a .psp) (a .arrangement) (c .before .pre .1 .1) _ _ (cutoutList (a .cutouts)) _)) in ((n .count, n .stickcount), (c .before .pre .0, n .faces))
+avoid-cutouts-requires c κs =
+    let a = c .before .args in
+    let s = saved-mode (a .analog) (a .psp) (a .arrangement) (c .before .pre .1 .1) _ _ _ in
+    let n : Few (c .with-saved .result) = rw (c .with-saved .ensures) (few (a .analog) (a .psp) _ s) in
+    ((n .count, n .stickcount), (c .before .pre .0, n .faces))
 
 anchor-toolbar-requires : tie.Need-anchor-toolbar-requires
-anchor-toolbar-requires c κs = let a = c .before .before .before .before .args in let s = saved-mode (a .analog) (a .psp) (a .arrangement) (c .before .before .before .before .pre .1 .1) _ _ (cutoutList (a .cutouts)) _ in let n : Few (c .before .before .avoid-cutouts .result) = rw (c .before .before .avoid-cutouts .ensures, c .before .before .before .with-saved .ensures) (few (a .analog) (a .psp) _ (avoid-mode (a .analog) (a .psp) _ s _ _ _)) in (c .before .before .before .before .pre .0, n .count, n .stickcount)
+anchor-toolbar-requires c κs =
+    let a = c .before .before .before .before .args in
+    let s = saved-mode (a .analog) (a .psp) (a .arrangement) (c .before .before .before .before .pre .1 .1) _ _ _ in
+    let n : Few (c .before .before .avoid-cutouts .result) = rw (c .before .before .avoid-cutouts .ensures, c .before .before .before .with-saved .ensures) (few (a .analog) (a .psp) _ (avoid-mode (a .analog) (a .psp) _ s _ _ _)) in
+    (c .before .before .before .before .pre .0, n .count, n .stickcount)
 
 returns : tie.Need-returns
 unfolding settledOf
-returns c = let a = c .before .before .before .before .before .args in holds (OfMode (a .analog) (a .psp)) (settled-mode (a .w) (a .h) (cutoutList (a .cutouts)) (a .picture) (a .analog) (a .psp) (a .arrangement) (c .before .before .before .before .before .pre .1 .1) (take (a .n) (a .saved))) (rw (← c .before .before .before .before .with-saved .ensures, ← c .before .before .before .avoid-cutouts .ensures, ← c .before .max .ensures) (c .anchor-toolbar .ensures))
+returns c =
+    let a = c .before .before .before .before .before .args in
+    let m = settled-mode (a .w) (a .h) (cutoutList (a .cutouts)) (a .picture) (a .analog) (a .psp) (a .arrangement) (c .before .before .before .before .before .pre .1 .1) (take (a .n) (a .saved)) in
+    holds (OfMode (a .analog) (a .psp)) m (rw (← c .before .before .before .before .with-saved .ensures, ← c .before .before .before .avoid-cutouts .ensures, ← c .before .max .ensures) (c .anchor-toolbar .ensures))
 
 pub settled-spec : {M : Type 1} → statement M
 settled-spec =
