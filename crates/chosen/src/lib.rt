@@ -6,7 +6,8 @@ ghost use Rattle.float.specs.Float.{k0};
 ghost use Rattle.layout.specs.Layout.{cutoutList};
 ghost use Rattle.toolbar.specs.Toolbar.{anchorToolbarOf};
 ghost use Rattle.arranged.specs.Blank.{blankOf};
-ghost use Rattle.chosen.specs.Chosen.{startOf, reusableTop, belowToolbarOf, largestOf, aroundOf, railsWinOf, tryRailsOf, besideOf, firstOf, areaOf, arrangementOf};
+ghost use Rattle.band.specs.Band.{controllerBandOf};
+ghost use Rattle.chosen.specs.Chosen.{startOf, reusableTop, belowToolbarOf, largestOf, foundOr, aroundOf, railsWinOf, tryRailsOf, besideOf, firstOf, areaOf, arrangementOf};
 ghost use Rattle.chosen.specs.ChosenLabels.{OfMode};
 use arranged::blank;
 use band::aspect;
@@ -118,6 +119,17 @@ fn try_rails(layout: Layout, w: f32, h: f32, picture: Rect, cutouts: Cutouts, ps
     clear
 }
 
+// The band, else the layout.
+fn banded(layout: Layout, w: f32, h: f32, picture: Rect, analog: bool, psp: bool) -> Layout
+    ensures { λ r. ⌜ r ≡ foundOr layout (controllerBandOf w h analog psp picture) ⌝ }
+{
+    let candidate = controller_band(w, h, analog, psp, picture);
+    if candidate.some {
+        return candidate.layout;
+    }
+    layout
+}
+
 fn beside(
     layout: Layout,
     w: f32,
@@ -130,12 +142,7 @@ fn beside(
     requires { ⌜ (cutouts .count ≤ 16) × OfMode analog psp layout ⌝ }
     ensures { λ r. ⌜ r ≡ besideOf layout w h picture (cutoutList cutouts) analog psp ⌝ }
 {
-    let candidate = controller_band(w, h, analog, psp, picture);
-    let banded = if candidate.some {
-        candidate.layout
-    } else {
-        layout
-    };
+    let banded = banded(layout, w, h, picture, analog, psp);
     if analog {
         return try_rails(banded, w, h, picture, cutouts, psp);
     }

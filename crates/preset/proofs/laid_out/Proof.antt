@@ -12,7 +12,7 @@ settled-requires c κs = let pre = c .before .before .before .before .before .be
 place-game-in-aspect-requires : tie.Need-place-game-in-aspect-requires
 place-game-in-aspect-requires c κs =
     let p = c .before .before .before .before .before .before .before .before .before .before .args .p in
-    let n = few (hasSticks p) (p .psp) _ (c .before .before .settled .ensures .1) in
+    let n = few (hasSticks p) (p .psp) (c .before .before .settled .result) (c .before .before .settled .ensures .1) in
     (n .count, n .stickcount)
 
 row-allowed-requires : tie.Need-row-allowed-requires
@@ -21,7 +21,7 @@ row-allowed-requires c κs = c .before .before .before .before .before .before .
 fit-landscape-controls-requires : tie.Need-fit-landscape-controls-requires
 fit-landscape-controls-requires c κs =
     let p = c .before .before .before .before .before .before .before .before .before .before .before .before .before .args .p in
-    let m = place-mode (hasSticks p) (p .psp) _ (c .before .before .before .before .before .settled .ensures .1) _ _ _ _ _ in
+    let m = place-mode (hasSticks p) (p .psp) (c .before .before .before .before .before .settled .result) (c .before .before .before .before .before .settled .ensures .1) _ _ _ _ _ in
     let n : Few (c .before .before .place-game-in-aspect .result) = rw (c .before .before .place-game-in-aspect .ensures) (few (hasSticks p) (p .psp) _ m) in
     (n .count, n .stickcount)
 
