@@ -12,9 +12,12 @@ enum { MOST = 70000 };
 static const char *const words[] = {
     "", "cut off", "out of turn", "bad length", "no screen", "odd mark", "off the scale", "overfull", "sheet too small"};
 
-/* The names of the buttons, by the bit in a mask. The four bits of the d-pad have no control. */
-static const char *const buttons[16] = {
-    "X", "SQ", "SELECT", "START", NULL, NULL, NULL, NULL, "O", "TRI", "L1", "R1", "L2", "R2", "L3", "R3"};
+static const struct {
+    unsigned mask;
+    const char *name;
+} buttons[] = {
+    {TL_TRI, "TRI"}, {TL_O, "O"}, {TL_X, "X"}, {TL_SQ, "SQ"}, {TL_L1, "L1"}, {TL_L2, "L2"},
+    {TL_R2, "R2"}, {TL_R1, "R1"}, {TL_SELECT, "SELECT"}, {TL_START, "START"}, {TL_L3, "L3"}, {TL_R3, "R3"}};
 
 static unsigned short_at(const uint8_t *p) { return (unsigned)p[0] << 8 | p[1]; }
 
@@ -33,9 +36,9 @@ static void print_line(const char *name, const uint8_t *rect)
 
 static const char *button(unsigned mask)
 {
-    for (int bit = 0; bit < 16; bit++)
-        if (mask == 1u << bit && buttons[bit])
-            return buttons[bit];
+    for (size_t i = 0; i < sizeof buttons / sizeof *buttons; i++)
+        if (mask == buttons[i].mask)
+            return buttons[i].name;
     return "?";
 }
 

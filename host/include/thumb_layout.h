@@ -16,7 +16,8 @@
      - An output overlaps no other argument, and no other thread touches it during the call.
      - Floats are computed as C starts a program: rounding to nearest, no flushing to zero.
 
-   There is no state: nothing is kept between calls, nothing is allocated, and threads may call at the same time. */
+   There is no state: nothing is kept between calls, nothing is allocated, and threads may call at the same time.
+   A call takes under 24 KB of stack; that is measured (docs/SPEED.md), not proved. */
 #ifndef THUMB_LAYOUT_H
 #define THUMB_LAYOUT_H
 
@@ -39,6 +40,26 @@ enum tl_refusal {
     TL_SHEET_TOO_SMALL = 8  /* an output too short for the answer */
 };
 
+/* The bits of a button mask, by the names of the film sheet. A psp has none above TL_R1, only analog has L3 and R3. */
+enum tl_button {
+    TL_X = 1 << 0,
+    TL_SQ = 1 << 1,
+    TL_SELECT = 1 << 2,
+    TL_START = 1 << 3,
+    TL_DPAD_UP = 1 << 4,
+    TL_DPAD_DOWN = 1 << 5,
+    TL_DPAD_LEFT = 1 << 6,
+    TL_DPAD_RIGHT = 1 << 7,
+    TL_O = 1 << 8,
+    TL_TRI = 1 << 9,
+    TL_L1 = 1 << 10,
+    TL_R1 = 1 << 11,
+    TL_L2 = 1 << 12,
+    TL_R2 = 1 << 13,
+    TL_L3 = 1 << 14,
+    TL_R3 = 1 << 15
+};
+
 /* Bytes of a layout: standard, analog, psp. An output of TL_LAYOUT_MOST bytes has room for any. */
 enum { TL_LAYOUT_STANDARD = 285, TL_LAYOUT_ANALOG = 353, TL_LAYOUT_PSP = 265, TL_LAYOUT_MOST = 353 };
 
@@ -48,11 +69,11 @@ enum { TL_SHEET = 1024 };
 /* The layout of an order, written to `out`.
    Fields of the layout: a tag of one byte, a length of two bytes (high byte first), the value. Tag 1 is the game, four f32 of four
    bytes each (high byte first): x, y, w, h. Tag 2 has the elements, 16 bytes each: the d-pad, the controls, pause, playback, speed,
-   mute, then the sticks. Tag 3 has a button mask of two bytes for each control.
+   mute, then the sticks. Tag 3 has a button mask of two bytes for each control, one bit of tl_button.
    Answers: the number of bytes written, 285, 353 or 265; later bytes of `out` stay. Or -1 to -8. */
 int32_t tl_layout(const uint8_t *order, size_t order_len, uint8_t *out, size_t out_len);
 
-/* The buttons that a touch at x, y presses on the order's layout; `previous` is the mask of the touch before.
+/* The buttons (tl_button) that a touch at x, y presses on the order's layout; `previous` is the mask of the touch before.
    Any x and y, also infinities and NaN.
    Answers: the mask, 0 to 65,535. Or -1 to -7. */
 int32_t tl_touch(const uint8_t *order, size_t order_len, float x, float y, uint16_t previous);

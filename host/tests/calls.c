@@ -22,6 +22,8 @@ static const uint8_t standard[] = {1, 0, 8, 0x44, 0x7A, 0, 0, 0x44, 0x7A, 0, 0};
 
 static const uint8_t psp[] = {1, 0, 8, 0x44, 0x7A, 0, 0, 0x44, 0x7A, 0, 0, 3, 0, 1, 1};
 
+static const uint8_t analog[] = {1, 0, 8, 0x44, 0x7A, 0, 0, 0x44, 0x7A, 0, 0, 3, 0, 1, 2};
+
 /* A layout into `room` bytes: the answer, and that no byte past it has changed. */
 static void layout(int line, const uint8_t *order, size_t length, size_t room, int viewport, long want)
 {
@@ -52,7 +54,7 @@ static void orders(void)
     EXPECT(tl_viewport_layout(standard, sizeof standard, 0, NAN, NULL, 0), -6);
     EXPECT(tl_viewport_layout(NULL, 0, NAN, NAN, NULL, 0), -4);
     /* the example's triangle is 63.9 wide at 876, 830 */
-    EXPECT(tl_touch(standard, sizeof standard, 908, 862, 0), 1 << 9);
+    EXPECT(tl_touch(standard, sizeof standard, 908, 862, 0), TL_TRI);
     EXPECT(tl_touch(standard, sizeof standard, NAN, INFINITY, 0xFFFF), 0);
     EXPECT(tl_touch(NULL, 0, 0, 0, 0), -4);
 }
@@ -83,6 +85,37 @@ static void films(void)
     film(__LINE__, NULL, 0, TL_SHEET - 1, "", -8);
     EXPECT(tl_film(standard, sizeof standard, NULL, 0), -8);
     EXPECT(tl_film(NULL, 0, NULL, 0), -8);
+}
+
+/* That the controls of an analog layout, which has all of them, have these masks, and their lines on the sheet these names. */
+static void buttons(void)
+{
+    static const struct {
+        unsigned mask;
+        const char *name;
+    } controls[] = {
+        {TL_TRI, "TRI"}, {TL_O, "O"}, {TL_X, "X"}, {TL_SQ, "SQ"}, {TL_L1, "L1"}, {TL_L2, "L2"},
+        {TL_R2, "R2"}, {TL_R1, "R1"}, {TL_SELECT, "SELECT"}, {TL_START, "START"}, {TL_L3, "L3"}, {TL_R3, "R3"}};
+    uint8_t layout[TL_LAYOUT_MOST] = {0};
+    char sheet[TL_SHEET + 1] = {0};
+    EXPECT(tl_layout(analog, sizeof analog, layout, sizeof layout), TL_LAYOUT_ANALOG);
+    EXPECT(tl_film(analog, sizeof analog, (uint8_t *)sheet, TL_SHEET) > 0, 1);
+    const uint8_t *mask = layout + TL_LAYOUT_ANALOG - 2 * 12;
+    const char *line = sheet;
+    for (int skipped = 0; skipped < 3; skipped++) /* the head, GAME, DPAD */
+        line = strchr(line, '\n') + 1;
+    for (int i = 0; i < 12; i++) {
+        EXPECT(mask[2 * i] << 8 | mask[2 * i + 1], controls[i].mask);
+        EXPECT(strcspn(line, " "), strlen(controls[i].name));
+        EXPECT(strncmp(line, controls[i].name, strlen(controls[i].name)), 0);
+        line = strchr(line, '\n') + 1;
+    }
+    /* the example's d-pad is 160 wide, its centre at 92, 910 */
+    EXPECT(tl_touch(standard, sizeof standard, 92, 850, 0), TL_DPAD_UP);
+    EXPECT(tl_touch(standard, sizeof standard, 92, 970, 0), TL_DPAD_DOWN);
+    EXPECT(tl_touch(standard, sizeof standard, 32, 910, 0), TL_DPAD_LEFT);
+    EXPECT(tl_touch(standard, sizeof standard, 152, 910, 0), TL_DPAD_RIGHT);
+    EXPECT(tl_touch(standard, sizeof standard, 152, 970, 0), TL_DPAD_RIGHT | TL_DPAD_DOWN);
 }
 
 static void safe_area(void)
@@ -117,6 +150,7 @@ int main(void)
 {
     orders();
     films();
+    buttons();
     safe_area();
     if (failures == 0)
         puts("calls: ok");

@@ -288,8 +288,7 @@ fn avoid(name: &str, r: &mut Random, count: usize) {
         let (screen, layout) = layout(r);
         let cutouts: Vec<Rect> = (0..count)
             .map(|_| {
-                let index = r.below(access::element_count(&layout) as u64) as usize;
-                let e = access::element(&layout, index);
+                let e = r.pick(&layout.elements());
                 Rect::new(e.x + e.w / 2., e.y + e.h / 2., 20., 20.)
             })
             .collect();

@@ -1,9 +1,8 @@
 //! How much stack a call takes: the stack below a frame is painted, and
 //! afterwards the lowest byte that changed is looked for.
 use check::{orders, random::Random};
-use player::order;
+use player::{order, sheet};
 use std::{arch::asm, thread};
-use thumb_layout::LAYOUT_MOST;
 
 /// How far is painted, and how far below the frame that begins, since the
 /// frame's own calls use what lies next to it.
@@ -11,6 +10,20 @@ const ROOM: usize = 1 << 18;
 const NEXT: usize = 1 << 10;
 const PAINT: u8 = 0xA5;
 const ORDERS: usize = 20_000;
+/// Room for a film sheet, and so for any layout.
+const OUT: usize = 1024;
+
+unsafe extern "C" {
+    fn tl_film(order: *const u8, order_len: usize, sheet: *mut u8, sheet_len: usize) -> i32;
+}
+
+/// `tl_film` without the wrapper of `host/rust`, which has a sheet of its own
+/// on the stack.
+fn film(order: &[u8], out: &mut [u8]) -> bool {
+    // SAFETY: each pointer is passed with the length of what it points to.
+    let length = unsafe { tl_film(order.as_ptr(), order.len(), out.as_mut_ptr(), out.len()) };
+    length > 0 && out.starts_with(b"FILM")
+}
 
 /// The bytes of stack below this frame that `call` uses, at least `NEXT`.
 #[inline(never)]
@@ -37,7 +50,7 @@ fn deepest(call: Call) -> usize {
     let each = move || {
         let r = &mut Random::new(1);
         let orders = r.list(ORDERS as i64, ORDERS as i64, orders::sound);
-        let mut out = [0; LAYOUT_MOST];
+        let mut out = [0; OUT];
         depth(&mut || {
             for order in &orders {
                 assert!(call(&order.bytes, &mut out), "a sound order");
@@ -70,6 +83,11 @@ const CALLS: &[(&str, Call, Call)] = &[
         "stack touch",
         |order, _| order::touch(order, [500.; 2], 0).is_ok(),
         |order, _| thumb_layout::touch(order, 500., 500., 0).is_ok(),
+    ),
+    (
+        "stack film",
+        |order, _| sheet::film_sheet(order).0.starts_with(b"FILM"),
+        film,
     ),
 ];
 

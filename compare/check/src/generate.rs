@@ -322,8 +322,7 @@ pub fn touch(r: &mut Random, layout: &LayoutData) -> [f32; 2] {
     if r.below(8) == 0 {
         return [any_number(r), any_number(r)];
     }
-    let index = r.below(access::element_count(layout) as u64) as usize;
-    let e = access::element(layout, index);
+    let e = r.pick(&layout.elements());
     [(e.x, e.w), (e.y, e.h)].map(|(start, size)| start + size * r.between(-0.2, 1.2))
 }
 

@@ -314,10 +314,7 @@ fn touch_classes((order, ..): &Touch, answer: &Answer<u16>) -> Vec<Class> {
 
 pub fn touched(answer: Answer<u16>) -> &'static str {
     match answer {
-        Ok(0) => "no bits",
-        Ok(mask) if mask & 0xF0 != 0 => "d-pad",
-        Ok(mask) if mask & 0x303 != 0 => "face button",
-        Ok(_) => "other button",
+        Ok(mask) => masks::pressed(mask),
         Err(refusal) => REFUSALS[refusal as usize],
     }
 }

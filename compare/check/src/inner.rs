@@ -239,7 +239,7 @@ fn area(r: &mut Random) -> Area {
     let screen = screen(r);
     let [w, h] = screen;
     let obstacles = match r.below(4) {
-        0 => elements(&layout(r, screen)),
+        0 => layout(r, screen).elements(),
         1 => stacked(r, 19, screen),
         _ => {
             let most = r.pick(&[3, 8, 19]);
@@ -258,11 +258,6 @@ fn any_area(r: &mut Random) -> Area {
     let side = r.pick(&[number, any_number]);
     let rect = r.pick(&[generate::rect, any_rect]);
     (side(r), side(r), r.list(0, 19, rect), side(r))
-}
-
-fn elements(layout: &LayoutData) -> Vec<Rect> {
-    let count = access::element_count(layout);
-    (0..count).map(|i| access::element(layout, i)).collect()
 }
 
 /// Arguments of `anchor_toolbar`: a layout, a screen, the reusable and the
@@ -408,7 +403,7 @@ fn holes(r: &mut Random) -> Holes {
     let screen = screen(r);
     let layout = layout(r, screen);
     let mut cutouts = cutouts(r, screen);
-    let elements = elements(&layout);
+    let elements = layout.elements();
     for cutout in &mut cutouts {
         if r.yes() {
             let e = r.pick(&elements);

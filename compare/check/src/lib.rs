@@ -19,3 +19,9 @@ pub mod orders;
 pub mod picture;
 pub mod random;
 pub mod widest;
+
+/// The number that follows an option.
+pub fn number_after(option: &str, words: &mut impl Iterator<Item = String>) -> Result<u64, String> {
+    let value = words.next().ok_or(format!("{option} needs a number"))?;
+    value.parse().map_err(|e| format!("{option} {value}: {e}"))
+}

@@ -1,5 +1,8 @@
 //! Runs comparisons and prints a line for each.
-use check::driver::{Comparison, Limits};
+use check::{
+    driver::{Comparison, Limits},
+    number_after,
+};
 use std::{process::ExitCode, time::Duration};
 
 const HELP: &str = "\
@@ -41,10 +44,7 @@ fn options(mut words: impl Iterator<Item = String>) -> Result<Option<Options>, S
     let mut cases = None;
     let mut names = Vec::new();
     while let Some(word) = words.next() {
-        let mut number = || -> Result<u64, String> {
-            let value = words.next().ok_or(format!("{word} needs a number"))?;
-            value.parse().map_err(|e| format!("{word} {value}: {e}"))
-        };
+        let mut number = || number_after(&word, &mut words);
         match word.as_str() {
             "--help" => return Ok(None),
             "--cases" => cases = Some(number()?),

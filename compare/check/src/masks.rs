@@ -1,5 +1,5 @@
-//! `mask_near` of input.rs with hypot as an argument: the Rust's own has the
-//! platform's, which is not the nearest.
+//! Button masks: `mask_near` of input.rs with hypot as an argument, since the
+//! Rust's own has the platform's, which is not the nearest.
 use player::{
     Rect,
     access::{LABELS, LayoutData},
@@ -61,4 +61,14 @@ pub fn mask_near(
         }
     }
     result | nearest.1
+}
+
+/// What a touch presses; if more than one, the first of these.
+pub fn pressed(mask: u16) -> &'static str {
+    match mask {
+        0 => "no bits",
+        _ if mask & 0xF0 != 0 => "d-pad",
+        _ if mask & 0x303 != 0 => "face button",
+        _ => "other button",
+    }
 }

@@ -46,21 +46,18 @@ pub fn order(r: &mut Random) -> Order {
 /// An order that is not refused.
 pub fn sound(r: &mut Random) -> Order {
     let (kind, parts) = r.pick(KINDS);
-    let parts = parts(r);
-    Order {
-        bytes: bytes(&fields(&parts)),
-        kind,
-        damage: "none",
-        length: length(&parts),
-    }
+    undamaged(kind, parts(r))
 }
 
 /// A sound order of which demand 3 speaks.
 pub fn keep_clear(r: &mut Random) -> Order {
-    let parts = keep_clear::parts(r);
+    undamaged("keep clear", keep_clear::parts(r))
+}
+
+fn undamaged(kind: &'static str, parts: Parts) -> Order {
     Order {
         bytes: bytes(&fields(&parts)),
-        kind: "keep clear",
+        kind,
         damage: "none",
         length: length(&parts),
     }

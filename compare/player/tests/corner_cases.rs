@@ -7,11 +7,6 @@ fn rect(x: f32, y: f32, w: f32, h: f32) -> Rect {
     Rect::new(x, y, w, h)
 }
 
-fn elements(layout: &LayoutData) -> Vec<Rect> {
-    let count = access::element_count(layout);
-    (0..count).map(|i| access::element(layout, i)).collect()
-}
-
 #[test]
 fn saved_rectangles_that_are_not_finite_are_passed_over() {
     let saved = |saved: &[Rect]| {
@@ -19,7 +14,7 @@ fn saved_rectangles_that_are_not_finite_are_passed_over() {
             elements: saved.to_vec(),
             ..Preset::default()
         };
-        elements(&access::layout_with_cutouts(&preset, 1000., 1000., &[]))
+        access::layout_with_cutouts(&preset, 1000., 1000., &[]).elements()
     };
     let passed_over = saved(&[rect(f32::NAN, 0., 0., 0.)]);
     for bad in [f32::NAN, f32::INFINITY, f32::NEG_INFINITY] {
@@ -124,7 +119,7 @@ fn film_example() {
     let layout = access::layout_with_cutouts(&Preset::default(), 1000., 1000., &[]);
     let names = ["GAME", "DPAD"].into_iter().chain(layout.labels());
     let names = names.chain(["PAUSE", "PLAY", "SPEED", "MUTE"]);
-    let rects = std::iter::once(layout.game).chain(elements(&layout));
+    let rects = std::iter::once(layout.game).chain(layout.elements());
     let lines: Vec<_> = names
         .zip(rects)
         .map(|(name, r)| (name, [r.x, r.y, r.w, r.h].map(tenths)))

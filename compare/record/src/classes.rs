@@ -1,5 +1,5 @@
 //! What the orders of a list are: counts for its README.
-use check::orders::Order;
+use check::{masks::pressed, orders::Order};
 use player::{
     PictureFit, Rect,
     access::{self, LayoutData, picture},
@@ -47,14 +47,7 @@ impl Tally {
         self.add("accepted, arrangement", arrangement(settings));
     }
     pub fn touch(&mut self, answer: Answer<u16>) {
-        let name = match answer {
-            Ok(0) => "no bits",
-            Ok(mask) if mask & 0xF0 != 0 => "d-pad",
-            Ok(mask) if mask & 0x303 != 0 => "face button",
-            Ok(_) => "other button",
-            Err(_) => "refused",
-        };
-        self.add("touch", name);
+        self.add("touch", answer.map_or("refused", pressed));
     }
 }
 
@@ -84,8 +77,7 @@ fn arrangement(settings: &Settings) -> &'static str {
     }
     let [w, h] = settings.screen.map(|n| n.max(1.));
     let cutouts = &settings.cutouts;
-    let whole = Rect::new(0., 0., w, h);
-    let area = settings.picture.unwrap_or(whole);
+    let area = settings.area();
     let (psp, analog) = (preset.psp, preset.analog || preset.psp);
     // The game under the same fit at size factor 1.
     let mut plain = settings.clone();

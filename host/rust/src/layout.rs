@@ -1,4 +1,4 @@
-use crate::{LAYOUT_MOST, Refusal};
+use crate::{LAYOUT_MOST, Refusal, button};
 
 /// A rectangle in layout units.
 #[derive(Clone, Copy, Debug, Default, PartialEq)]
@@ -16,7 +16,7 @@ pub struct Layout {
     /// Where the picture of the game is.
     pub game: Rect,
     pub dpad: Rect,
-    /// Each control, with its bit in a button mask.
+    /// Each control, with its bit of [`button`].
     pub controls: Vec<(Rect, u16)>,
     pub pause: Rect,
     pub playback: Rect,
@@ -29,9 +29,16 @@ pub struct Layout {
 impl Layout {
     /// The layout of an order.
     pub fn of_order(order: &[u8]) -> Result<Layout, Refusal> {
-        let mut out = [0; LAYOUT_MOST];
-        let written = crate::layout(order, &mut out)?;
-        Ok(Layout::from_bytes(&out[..written]).expect("a written layout is whole"))
+        written(|out| crate::layout(order, out))
+    }
+
+    /// The layout of a viewport, as [`crate::viewport_layout`] has it.
+    pub fn of_viewport(
+        order: &[u8],
+        reusable_top: f32,
+        covered_top: f32,
+    ) -> Result<Layout, Refusal> {
+        written(|out| crate::viewport_layout(order, reusable_top, covered_top, out))
     }
 
     /// The layout that these bytes hold; none if they are not exactly one.
@@ -63,7 +70,8 @@ impl Layout {
     /// the order of the written layout.
     pub fn lines(&self) -> Vec<(&'static str, Rect)> {
         let mut lines = vec![("GAME", self.game), ("DPAD", self.dpad)];
-        lines.extend(self.controls.iter().map(|&(r, mask)| (button(mask), r)));
+        let name = |bit| button::name(bit).unwrap_or("?");
+        lines.extend(self.controls.iter().map(|&(r, bit)| (name(bit), r)));
         lines.push(("PAUSE", self.pause));
         lines.push(("PLAY", self.playback));
         lines.push(("SPEED", self.speed));
@@ -75,6 +83,13 @@ impl Layout {
         );
         lines
     }
+}
+
+/// The layout that a call writes.
+fn written(call: impl FnOnce(&mut [u8]) -> Result<usize, Refusal>) -> Result<Layout, Refusal> {
+    let mut out = [0; LAYOUT_MOST];
+    let length = call(&mut out)?;
+    Ok(Layout::from_bytes(&out[..length]).expect("a written layout is whole"))
 }
 
 /// The value of a field with this tag, and what follows the field.
@@ -98,23 +113,4 @@ fn rects(value: &[u8]) -> Option<Vec<Rect>> {
         .len()
         .is_multiple_of(16)
         .then(|| value.chunks(16).map(rect).collect())
-}
-
-/// The name of a control's button.
-fn button(mask: u16) -> &'static str {
-    match mask {
-        0x0001 => "X",
-        0x0002 => "SQ",
-        0x0004 => "SELECT",
-        0x0008 => "START",
-        0x0100 => "O",
-        0x0200 => "TRI",
-        0x0400 => "L1",
-        0x0800 => "R1",
-        0x1000 => "L2",
-        0x2000 => "R2",
-        0x4000 => "L3",
-        0x8000 => "R3",
-        _ => "?",
-    }
 }

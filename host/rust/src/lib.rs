@@ -5,6 +5,7 @@
 //! every function may be called from any thread. A refused call changes no
 //! element of an output.
 
+pub mod button;
 mod calls;
 mod layout;
 mod refusal;

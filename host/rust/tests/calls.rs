@@ -2,7 +2,7 @@
 //! outputs.
 use std::thread;
 use thumb_layout::{
-    LAYOUT_MOST, Layout, Rect, Refusal, film, layout, safe_content, safe_edges, touch,
+    LAYOUT_MOST, Layout, Rect, Refusal, button, film, layout, safe_content, safe_edges, touch,
     viewport_layout,
 };
 
@@ -64,6 +64,7 @@ fn every_refusal() {
         assert_eq!(viewport_layout(&order, 0., 0., &mut out), Err(refusal));
         assert_eq!(touch(&order, 0., 0., 0), Err(refusal));
         assert_eq!(Layout::of_order(&order), Err(refusal));
+        assert_eq!(Layout::of_viewport(&order, 0., 0.), Err(refusal));
         assert_eq!(film(&order), format!("REFUSED {}\n", refusal.number()));
         assert_eq!(out, [0xAA; LAYOUT_MOST]);
     }
@@ -125,8 +126,31 @@ fn touches() {
         let (x, y) = (bounds.x + bounds.w / 2., bounds.y + bounds.h / 2.);
         assert_eq!(touch(&order, x, y, 0), Ok(mask));
     }
+    let (x, y) = (layout.dpad.x + 80., layout.dpad.y + 80.);
+    let sides = [
+        (0., -60., button::DPAD_UP),
+        (0., 60., button::DPAD_DOWN),
+        (-60., 0., button::DPAD_LEFT),
+        (60., 0., button::DPAD_RIGHT),
+        (60., 60., button::DPAD_RIGHT | button::DPAD_DOWN),
+    ];
+    for (across, down, mask) in sides {
+        assert_eq!(touch(&order, x + across, y + down, 0), Ok(mask));
+    }
     assert_eq!(touch(&order, f32::NAN, 0., 0xFFFF), Ok(0));
     assert_eq!(touch(&order, f32::INFINITY, f32::NEG_INFINITY, 0), Ok(0));
+}
+
+#[test]
+fn viewports() {
+    let order = order(&[]);
+    let level = Layout::of_viewport(&order, 0., 0.).unwrap();
+    assert_eq!(Layout::of_order(&order).unwrap(), level);
+    let mut out = [0; LAYOUT_MOST];
+    let length = viewport_layout(&order, 24., 24.5, &mut out).unwrap();
+    let lower = Layout::of_viewport(&order, 24., 24.5).unwrap();
+    assert_eq!(Layout::from_bytes(&out[..length]), Some(lower.clone()));
+    assert_ne!(lower, Layout::of_viewport(&order, 24.5, 24.).unwrap());
 }
 
 #[test]

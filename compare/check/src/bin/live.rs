@@ -1,5 +1,8 @@
 //! Compares generated orders in every way, on all cores, for a given time.
-use check::live::{BLOCK, Counts, block};
+use check::{
+    live::{BLOCK, Counts, block},
+    number_after,
+};
 use std::{
     process::ExitCode,
     sync::{
@@ -41,10 +44,7 @@ fn options(mut words: impl Iterator<Item = String>) -> Result<Option<Options>, S
         shown: 3,
     };
     while let Some(word) = words.next() {
-        let mut number = || -> Result<u64, String> {
-            let value = words.next().ok_or(format!("{word} needs a number"))?;
-            value.parse().map_err(|e| format!("{word} {value}: {e}"))
-        };
+        let mut number = || number_after(&word, &mut words);
         match word.as_str() {
             "--help" => return Ok(None),
             "--seconds" => options.time = Duration::from_secs(number()?),

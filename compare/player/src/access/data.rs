@@ -40,6 +40,11 @@ pub struct LayoutData {
 }
 
 impl LayoutData {
+    /// All elements, in the order of their indices.
+    pub fn elements(&self) -> Vec<Rect> {
+        let layout = Layout::from(self);
+        (0..layout.element_count()).map(|i| layout.element(i)).collect()
+    }
     pub fn labels(&self) -> impl Iterator<Item = &'static str> {
         self.controls.iter().map(|c| LABELS[c.label].0)
     }
