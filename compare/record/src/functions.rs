@@ -1,6 +1,6 @@
-//! The calls of crates/replay/data/functions.txt, each answered as document 01
-//! says.
-use crate::{cases::cases, steps::List};
+//! The calls of crates/corner_cases/data/functions.txt, each answered as
+//! document 01 says.
+use crate::{cases::cases, steps};
 use check::{masks, nearest::nearest_hypot};
 use player::{
     Rect,
@@ -56,18 +56,32 @@ impl From<Rect> for Value {
     }
 }
 
-/// The list of the calls. It panics where the Rust answers otherwise than the
-/// text.
-pub fn list(text: &str) -> List {
-    let mut list = List::default();
+/// How many bytes a step has for arguments or a name, for the rectangle of the
+/// answer, and for a function's number and the number of the answer.
+const PARTS: [usize; 3] = [96, 16, 4];
+
+/// The list of the calls (README.md beside the text). It panics where the Rust
+/// answers otherwise than the text.
+pub fn list(text: &str) -> Vec<u8> {
+    let mut list = Vec::new();
     for (name, lines) in cases(text) {
-        lines.iter().for_each(|line| call(&mut list, name, line));
-        list.name(name);
+        lines.iter().for_each(|line| list.extend(call(name, line)));
+        list.extend(step(name.as_bytes(), &[], &[0, name.len() as u8]));
     }
     list
 }
 
-fn call(list: &mut List, name: &str, line: &str) {
+/// Each part with zeros after its end.
+fn step(arguments: &[u8], rect: &[u8], numbers: &[u8]) -> Vec<u8> {
+    let padded = |(part, length): (&[u8], usize)| {
+        assert!(part.len() <= length, "too long");
+        [part, &vec![0; length - part.len()]].concat()
+    };
+    let parts = [arguments, rect, numbers].into_iter().zip(PARTS);
+    parts.flat_map(padded).collect()
+}
+
+fn call(name: &str, line: &str) -> Vec<u8> {
     let line = line.replace(['[', ']'], " ");
     let (asked, want) = line.split_once('=').expect("an answer");
     let asked: Vec<&str> = asked.split_whitespace().collect();
@@ -94,10 +108,16 @@ fn call(list: &mut List, name: &str, line: &str) {
         Ok(Value::Floats(floats)) => (Ok(0), floats),
         Err(refusal) => (Err(refusal), Vec::new()),
     };
-    let mut words: Vec<u32> = floats.into_iter().map(f32::to_bits).collect();
-    words.resize(4, 0);
-    words.extend(arguments.words);
-    list.function(function as u8 + 1, number, &words);
+    let bytes = |words: &[u32]| {
+        words
+            .iter()
+            .flat_map(|w| w.to_be_bytes())
+            .collect::<Vec<_>>()
+    };
+    let floats: Vec<u32> = floats.into_iter().map(f32::to_bits).collect();
+    let mut numbers = steps::number(number).to_be_bytes();
+    numbers[0] = function as u8 + 1;
+    step(&bytes(&arguments.words), &bytes(&floats), &numbers)
 }
 
 fn same(a: &Answer<Value>, b: &Answer<Value>, open: bool) -> bool {

@@ -1,4 +1,5 @@
-//! Writes the lists that crates/replay runs, and prints what their orders are.
+//! Writes the lists that crates/replay and crates/corner_cases run, and prints
+//! what the orders are.
 mod cases;
 mod classes;
 mod functions;
@@ -71,20 +72,20 @@ fn main() -> ExitCode {
             return ExitCode::from(2);
         }
     };
-    let folder = Path::new(env!("CARGO_MANIFEST_DIR")).join("../../crates/replay/data");
+    let crates = Path::new(env!("CARGO_MANIFEST_DIR")).join("../../crates");
+    let text = |name| fs::read_to_string(crates.join(name)).expect(name);
     let (orders, tally) = orders();
-    let text = |name| fs::read_to_string(folder.join(name)).expect(name);
-    let cases = cases::list(&text("cases.txt"));
-    let functions = functions::list(&text("functions.txt"));
+    let cases = cases::list(&text("replay/data/cases.txt"));
+    let functions = functions::list(&text("corner_cases/data/functions.txt"));
     for (name, list) in [
-        ("cases", cases),
-        ("functions", functions),
-        ("orders", orders),
+        ("replay/data/cases", cases.bytes),
+        ("replay/data/orders", orders.bytes),
+        ("corner_cases/data/functions", functions),
     ] {
-        let path = folder.join(name);
+        let path = crates.join(name);
         if !check {
-            fs::write(&path, &list.bytes).expect("the list is written");
-        } else if fs::read(&path).ok() != Some(list.bytes) {
+            fs::write(&path, &list).expect("the list is written");
+        } else if fs::read(&path).ok() != Some(list) {
             eprintln!("{} is another list", path.display());
             return ExitCode::FAILURE;
         }

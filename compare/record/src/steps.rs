@@ -14,7 +14,7 @@ struct Step<'a> {
     at: [f32; 2],
     /// How many bytes are lent, or the previous mask.
     given: u16,
-    /// What each lent byte was before, or a function's number.
+    /// What each lent byte was before.
     mark: u8,
     answer: u32,
     bytes: &'a [u8],
@@ -28,7 +28,7 @@ pub struct List {
 }
 
 /// An answer in 24 bits: the high byte is a refusal's number, or 0.
-fn number(answer: Answer<u16>) -> u32 {
+pub fn number(answer: Answer<u16>) -> u32 {
     match answer {
         Ok(n) => u32::from(n),
         Err(refusal) => (refusal as u32) << 16,
@@ -113,17 +113,5 @@ impl List {
             ..Step::default()
         });
         text
-    }
-    /// A call of a function. Its words are the rectangle of the answer and the
-    /// arguments.
-    pub fn function(&mut self, function: u8, answer: Answer<u16>, words: &[u32]) {
-        let bytes: Vec<u8> = words.iter().flat_map(|word| word.to_be_bytes()).collect();
-        self.push(Step {
-            kind: b'F',
-            mark: function,
-            answer: number(answer),
-            bytes: &bytes,
-            ..Step::default()
-        });
     }
 }

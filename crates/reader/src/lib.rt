@@ -35,20 +35,20 @@ fn refuse(refusal: u8, settings: Settings) -> Reading
     Reading { refusal, settings }
 }
 
-fn short(high: u8, low: u8) -> usize
+pub fn short(high: u8, low: u8) -> usize
     ensures { λ r. ⌜ (r ≡ shortOf high low) × (r < 65536) ⌝ }
 {
     high as usize * 256 + low as usize
 }
 
-fn word(a: u8, b: u8, c: u8, d: u8) -> u32
+pub fn word(a: u8, b: u8, c: u8, d: u8) -> u32
     ensures { λ r. ⌜ r ≡ ((a * 256 + b) * 256 + c) * 256 + d ⌝ }
 {
     ((a as u32 * 256 + b as u32) * 256 + c as u32) * 256 + d as u32
 }
 
 // The f32 with the bit pattern n; each NaN pattern gives the one NaN.
-fn from_bits(n: u32) -> f32
+pub fn from_bits(n: u32) -> f32
     ensures { λ r. ⌜ r ≡ ofBits binary32 n ⌝ }
 {
     if 0x7f80_0000 < n % 0x8000_0000 {

@@ -1,22 +1,21 @@
-// Makes the sheets of the examples, and runs the lists in data/, whose README has their form: orders, calls of our functions and the
-// Rust's answers, every byte of which is compared. A case with a name prints `ok NAME` or `WRONG NAME`; a list prints how many calls
+// Makes the sheets of the examples, and runs the lists in data/, whose README has their form: orders, calls and the Rust's answers,
+// every byte of which is compared. A case with a name prints `ok NAME` or `WRONG NAME`; a list prints how many calls
 // of each kind it has, and how many are wrong.
-ghost use Prim.Native.Nat.{_<_};
 ghost use Rattle.io.specs.Counts.{Counts};
 use film_sheet::film_sheet;
 use order::LayoutAnswer;
 use order::TouchAnswer;
+use reader::from_bits;
+use reader::short;
+use reader::word;
 use tally::Tally;
 
 mod examples;
-mod functions;
-mod layouts;
 mod tally;
 
 fn main() {
     examples::all();
     replay(b"cases");
-    replay(b"functions");
     replay(b"orders");
 }
 
@@ -66,7 +65,6 @@ fn agrees(head: &[u8; 17], order: &[u8], bytes: &[u8]) -> bool {
         b'V' => viewport_agrees(head, order, bytes),
         b'T' => touch_agrees(head, order),
         b'S' => sheet_agrees(order, bytes),
-        b'F' => functions::agrees(head, bytes),
         _ => kind == b'N',
     }
 }
@@ -126,11 +124,11 @@ fn answer_of(head: &[u8; 17]) -> usize {
 }
 
 fn x_of(head: &[u8; 17]) -> f32 {
-    number(word(head[1], head[2], head[3], head[4]))
+    from_bits(word(head[1], head[2], head[3], head[4]))
 }
 
 fn y_of(head: &[u8; 17]) -> f32 {
-    number(word(head[5], head[6], head[7], head[8]))
+    from_bits(word(head[5], head[6], head[7], head[8]))
 }
 
 // `n`, or all of the bytes where they are fewer.
@@ -138,23 +136,4 @@ fn within(n: usize, bytes: &[u8]) -> usize
     ensures { λ r. ⌜ Counts r (now (bytes .entry)) ⌝ }
 {
     if n < bytes.len() { n } else { bytes.len() }
-}
-
-fn short(high: u8, low: u8) -> usize
-    ensures { λ r. ⌜ r < 65536 ⌝ }
-{
-    high as usize * 256 + low as usize
-}
-
-fn word(a: u8, b: u8, c: u8, d: u8) -> u32 {
-    (short(a, b) * 65536 + short(c, d)) as u32
-}
-
-// The f32 with a bit pattern; each NaN pattern gives the one NaN.
-fn number(n: u32) -> f32 {
-    if 0x7f80_0000 < n % 0x8000_0000 {
-        0.0 / 0.0
-    } else {
-        f32::from_bits(n)
-    }
 }

@@ -7,7 +7,6 @@ pub struct Tally {
     viewports: u64,
     touches: u64,
     sheets: u64,
-    functions: u64,
     wrong: u64,
     // The number of the first wrong step's order.
     first: u64,
@@ -22,7 +21,6 @@ pub fn none() -> Tally {
         viewports: 0,
         touches: 0,
         sheets: 0,
-        functions: 0,
         wrong: 0,
         first: 0,
         fault: false,
@@ -37,7 +35,6 @@ pub fn counted(t: Tally, kind: u8, same: bool) -> Tally {
         viewports: more(t.viewports, kind == b'V'),
         touches: more(t.touches, kind == b'T'),
         sheets: more(t.sheets, kind == b'S'),
-        functions: more(t.functions, kind == b'F'),
         wrong: more(t.wrong, !same),
         first: if same | (t.wrong > 0) {
             t.first
@@ -69,7 +66,6 @@ pub fn report(list: &[u8], t: Tally) {
     print(b", viewports ", t.viewports);
     print(b", touches ", t.touches);
     print(b", sheets ", t.sheets);
-    print(b", functions ", t.functions);
     print(b", wrong ", t.wrong);
     if t.wrong > 0 {
         print(b", the first at order ", t.first);

@@ -1,35 +1,31 @@
 // Calls of single functions (data/README.md). Arguments are words of 4 bytes: an f32 by its bit pattern, a whole number, or
 // 1 for yes and 0 for no.
 ghost use Prim.Native.Nat.{_≤_};
-use super::answer_of;
 use super::layouts;
-use super::number;
-use super::word;
 use geometry::Rect;
+use reader::from_bits;
+use reader::short;
+use reader::word;
 use safe_area::SafeContent;
 use safe_area::SafeEdges;
 
-// A number as `answer_of` has it, and a rectangle; of one number, that is its x.
+// A number, and a rectangle; of one f32, that is its x.
 pub struct Answer {
     number: usize,
     at: Rect,
 }
 
-// Before the arguments stands the rectangle that is to be answered.
-pub fn agrees(head: &[u8; 17], bytes: &[u8]) -> bool {
-    if bytes.len() < 16 {
-        return false;
-    }
-    let got = call(head[11], &bytes[16..]);
+pub fn agrees(step: &[u8; 116]) -> bool {
+    let got = call(step[112], step);
     let at = got.at;
-    (got.number == answer_of(head))
-        & (bits(at.x) == word_at(bytes, 0))
-        & (bits(at.y) == word_at(bytes, 1))
-        & (bits(at.w) == word_at(bytes, 2))
-        & (bits(at.h) == word_at(bytes, 3))
+    (got.number == short(0, step[113]) * 65536 + short(step[114], step[115]))
+        & (bits(at.x) == word_at(step, 24))
+        & (bits(at.y) == word_at(step, 25))
+        & (bits(at.w) == word_at(step, 26))
+        & (bits(at.h) == word_at(step, 27))
 }
 
-fn call(function: u8, a: &[u8]) -> Answer {
+fn call(function: u8, a: &[u8; 116]) -> Answer {
     match function {
         1..=5 => area(Rect::new(value(function, a), 0.0, 0.0, 0.0)),
         6 => one(contains(a) as usize),
@@ -61,25 +57,20 @@ fn bits(x: f32) -> u32 {
     if x != x { 0x7fc0_0000 } else { f32::to_bits(x) }
 }
 
-// Past the end there are zeros.
-pub fn word_at(a: &[u8], i: usize) -> u32
-    requires { ⌜ i ≤ 23 ⌝ }
+pub fn word_at(a: &[u8; 116], i: usize) -> u32
+    requires { ⌜ i ≤ 27 ⌝ }
 {
-    let at = i * 4;
-    if at + 3 < a.len() {
-        word(a[at], a[at + 1], a[at + 2], a[at + 3])
-    } else {
-        0
-    }
+    let at = 4 * i;
+    word(a[at], a[at + 1], a[at + 2], a[at + 3])
 }
 
-pub fn float_at(a: &[u8], i: usize) -> f32
+pub fn float_at(a: &[u8; 116], i: usize) -> f32
     requires { ⌜ i ≤ 23 ⌝ }
 {
-    number(word_at(a, i))
+    from_bits(word_at(a, i))
 }
 
-pub fn rect_at(a: &[u8], i: usize) -> Rect
+pub fn rect_at(a: &[u8; 116], i: usize) -> Rect
     requires { ⌜ i ≤ 20 ⌝ }
 {
     Rect::new(
@@ -96,7 +87,7 @@ fn whole(n: u32) -> i32 {
     if n < 0x8000_0000 { size } else { -size }
 }
 
-fn edges_at(a: &[u8], i: usize) -> [i32; 4]
+fn edges_at(a: &[u8; 116], i: usize) -> [i32; 4]
     requires { ⌜ i ≤ 20 ⌝ }
 {
     [
@@ -107,13 +98,13 @@ fn edges_at(a: &[u8], i: usize) -> [i32; 4]
     ]
 }
 
-fn size_at(a: &[u8], i: usize) -> [i32; 2]
+fn size_at(a: &[u8; 116], i: usize) -> [i32; 2]
     requires { ⌜ i ≤ 20 ⌝ }
 {
     [whole(word_at(a, i)), whole(word_at(a, i + 1))]
 }
 
-fn value(function: u8, a: &[u8]) -> f32 {
+fn value(function: u8, a: &[u8; 116]) -> f32 {
     let x = float_at(a, 0);
     let y = float_at(a, 1);
     match function {
@@ -125,17 +116,17 @@ fn value(function: u8, a: &[u8]) -> f32 {
     }
 }
 
-fn contains(a: &[u8]) -> bool {
+fn contains(a: &[u8; 116]) -> bool {
     let r = rect_at(a, 0);
     r.contains(float_at(a, 4), float_at(a, 5))
 }
 
-fn overlaps(a: &[u8]) -> bool {
+fn overlaps(a: &[u8; 116]) -> bool {
     let r = rect_at(a, 0);
     r.overlaps(rect_at(a, 4))
 }
 
-fn safe_content(a: &[u8]) -> Answer {
+fn safe_content(a: &[u8; 116]) -> Answer {
     match safe_area::safe_content(size_at(a, 0), size_at(a, 2), edges_at(a, 4)) {
         SafeContent::Area(r) => area(r),
         SafeContent::OffScale => one(6 * 65536),
@@ -143,7 +134,7 @@ fn safe_content(a: &[u8]) -> Answer {
 }
 
 // The edges are answered as f32.
-fn safe_edges(a: &[u8]) -> Answer {
+fn safe_edges(a: &[u8; 116]) -> Answer {
     let local = word_at(a, 12) > 0;
     match safe_area::safe_edges(edges_at(a, 0), edges_at(a, 4), edges_at(a, 8), local) {
         SafeEdges::Merged(e) => area(Rect::new(

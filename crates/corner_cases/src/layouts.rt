@@ -16,7 +16,7 @@ use layout::Label;
 use layout::Layout;
 
 // The layout that a function answers with.
-pub fn layout(function: u8, a: &[u8]) -> MaybeLayout {
+pub fn layout(function: u8, a: &[u8; 116]) -> MaybeLayout {
     let w = float_at(a, 1);
     let h = float_at(a, 2);
     let analog = word_at(a, 3) > 0;
@@ -31,7 +31,7 @@ pub fn layout(function: u8, a: &[u8]) -> MaybeLayout {
 }
 
 // On the layout that is arranged for the screen.
-fn anchor_toolbar(a: &[u8]) -> MaybeLayout {
+fn anchor_toolbar(a: &[u8; 116]) -> MaybeLayout {
     let w = float_at(a, 1);
     let h = float_at(a, 2);
     let holes = cutouts(word_at(a, 5), rect_at(a, 6));
@@ -83,7 +83,7 @@ fn label(n: u32) -> Label {
     }
 }
 
-fn control_at(a: &[u8], i: usize) -> Control
+fn control_at(a: &[u8; 116], i: usize) -> Control
     requires { ⌜ i ≤ 15 ⌝ }
 {
     Control {
@@ -93,7 +93,7 @@ fn control_at(a: &[u8], i: usize) -> Control
 }
 
 // A layout of a d-pad and two controls, with the game and every key of the toolbar at one place.
-fn layout_at(a: &[u8], i: usize) -> Layout
+fn layout_at(a: &[u8; 116], i: usize) -> Layout
     requires { ⌜ i ≤ 6 ⌝ }
     ensures { λ r. ⌜ (r .count ≡ 2) × (r .stickcount ≡ 0) ⌝ }
 {
@@ -115,7 +115,7 @@ fn layout_at(a: &[u8], i: usize) -> Layout
 }
 
 // Clear of at most three obstacles.
-pub fn clear_picture_aspect(a: &[u8]) -> Rect {
+pub fn clear_picture_aspect(a: &[u8; 116]) -> Rect {
     let mut at = [rect_at(a, 4); 19];
     at[1] = rect_at(a, 8);
     at[2] = rect_at(a, 12);
@@ -128,7 +128,7 @@ pub fn clear_picture_aspect(a: &[u8]) -> Rect {
     )
 }
 
-pub fn fits(a: &[u8]) -> bool {
+pub fn fits(a: &[u8; 116]) -> bool {
     let game = rect_at(a, 2);
     fits::fits(
         layout_at(a, 6),
@@ -139,7 +139,7 @@ pub fn fits(a: &[u8]) -> bool {
     )
 }
 
-pub fn mask_near(a: &[u8]) -> u16 {
+pub fn mask_near(a: &[u8; 116]) -> u16 {
     let previous = (word_at(a, 2) % 65536) as u16;
     touch::mask_near(layout_at(a, 3), float_at(a, 0), float_at(a, 1), previous)
 }
