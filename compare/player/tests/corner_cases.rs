@@ -1,5 +1,5 @@
-//! What document 01 says of the unchanged Rust, where crates/replay/data has no
-//! case of it.
+//! What document 01 says of the unchanged Rust, where the lists of crates/replay
+//! and crates/corner_cases have no case of it.
 use player::access::{self, LayoutData, picture};
 use player::{PictureFit, PlayerViewport, Preset, Rect};
 

@@ -1,15 +1,12 @@
 -- `Layout::arranged` and `Layout::side_rails` of input.rs. Definitions only.
 use mathlib.Core.Bool.{Bool, true, false, cond, _||_}
-use mathlib.Core.List.{List, _∷_, [], foldl}
+use mathlib.Core.List.{List, [], foldl}
 use lib.Ieee.{Float, lt}
 use lib.ListN.{replicate}
 use Rattle.float.specs.Float.{_⊕_, _⊖_, _⊗_, _⊘_, k0, k0·4, k0·5, k1, k2, k3, k4, k8, k16, k20, k24, k32, k48, k56, k64, k76, k80, k84, k96, k100, k112, k122, k128, k140, k160, k168, k196, k200, k224}
 use Rattle.float.specs.MinMax.{minOf, maxOf, clampOf}
 use Rattle.geometry.specs.declared.Rect.{Rect}
 use Rattle.geometry.specs.Rect.{newOf, emptyRect, overlapsOf}
-use Rattle.layout.specs.declared.Control.{Control}
-use Rattle.layout.specs.declared.Label.{Label}
-use Rattle.layout.specs.declared.Label.the-variants.{Tri, O, X, Sq, L1, L2, R2, R1, Select, Start}
 use Rattle.layout.specs.declared.Layout.{Layout}
 use Rattle.layout.specs.Layout.{withDpad}
 use Rattle.search.specs.declared.Offset.{Offset}
@@ -19,11 +16,11 @@ use Rattle.arranged.specs.declared.Wells.{Wells}
 use Rattle.arranged.specs.declared.Dock.{Dock}
 use Rattle.arranged.specs.declared.Rails.{Rails}
 use Rattle.arranged.specs.declared.Places.{Places}
-use Rattle.arranged.specs.Places.{capOf, placeFacesOf, placedOf}
+use Rattle.arranged.specs.Places.{capOf, placeFacesOf, controllerOf, placedOf}
 
 -- `[0.5; 2]`
-abbrev pub middle : Offset
-middle = record { x = k0·5; y = k0·5 }
+abbrev pub centred : Offset
+centred = record { x = k0·5; y = k0·5 }
 
 -- with the toolbar at its place
 abbrev pub anchoredOf : Layout → Float → Float → Layout
@@ -31,7 +28,7 @@ anchoredOf l w h = anchorToolbarOf l w h k0 k0 []
 
 -- and the largest game that is clear of all elements: what arrangements end with
 unfoldable pub finishedOf : Layout → Float → Float → Layout
-finishedOf l w h = placeGameOf (anchoredOf l w h) w h false k1 middle
+finishedOf l w h = placeGameOf (anchoredOf l w h) w h false k1 centred
 
 -- ---- `arranged`: the controls in a dock of their own below the picture
 
@@ -59,98 +56,82 @@ placeDockOf false w h wells select start =
     let shoulder = (wells .cluster ⊖ k8) ⊘ k2 in
     record { fy = fy; l1 = k16; l2 = k24 ⊕ shoulder; r2 = w ⊖ k16 ⊖ wells .cluster; r1 = w ⊖ k16 ⊖ shoulder; y1 = top ⊖ k56; y2 = top ⊖ k56; select = select; start = start; row = h ⊖ k64 }
 
-abbrev pub control : Rect → Label → Control
-control bounds label = record { bounds = bounds; label = label }
-
-abbrev pub noControl : Control
-noControl = control emptyRect Tri
-
-unfoldable pub composedOf : Float → Wells → Dock → Layout
-composedOf w wells dock =
-    let size = wells .size in
-    let offset = (wells .cluster ⊖ size) ⊘ k2 in
+unfoldable pub dockPlacesOf : Float → Wells → Dock → Places
+dockPlacesOf w wells dock =
+    let offset = (wells .cluster ⊖ wells .size) ⊘ k2 in
+    let vertical = (wells .height ⊖ wells .size) ⊘ k2 in
     let fx = w ⊖ k16 ⊖ wells .cluster ⊘ k2 in
-    let fy = dock .fy in
-    let vertical = (wells .height ⊖ size) ⊘ k2 in
-    let faces = placeFacesOf fx fy offset vertical size in
-    let shoulder = (wells .cluster ⊖ k8) ⊘ k2 in
+    let shoulderWidth = (wells .cluster ⊖ k8) ⊘ k2 in
     record {
-      game = emptyRect;
-      dpad = newOf k16 (fy ⊖ wells .height ⊘ k2) (wells .cluster) (wells .height);
-      controls =
-          control (faces .tri) Tri
-          ∷ control (faces .o) O
-          ∷ control (faces .x) X
-          ∷ control (faces .sq) Sq
-          ∷ control (newOf (dock .l1) (dock .y1) shoulder k48) L1
-          ∷ control (newOf (dock .l2) (dock .y2) shoulder k48) L2
-          ∷ control (newOf (dock .r2) (dock .y2) shoulder k48) R2
-          ∷ control (newOf (dock .r1) (dock .y1) shoulder k48) R1
-          ∷ control (newOf (dock .select) (dock .row) k96 k48) Select
-          ∷ control (newOf (dock .start) (dock .row) k96 k48) Start
-          ∷ noControl ∷ noControl ∷ [];
-      count = 10;
-      pause = newOf (w ⊖ k56) k4 k48 k48;
-      playback = newOf (w ⊖ k224) k4 k48 k48;
-      speed = newOf (w ⊖ k168) k4 k48 k48;
-      mute = newOf (w ⊖ k112) k4 k48 k48;
-      sticks = replicate 2 emptyRect;
-      stickcount = 0;
+      faces = placeFacesOf fx (dock .fy) offset vertical (wells .size);
+      l1 = newOf (dock .l1) (dock .y1) shoulderWidth k48;
+      l2 = newOf (dock .l2) (dock .y2) shoulderWidth k48;
+      r2 = newOf (dock .r2) (dock .y2) shoulderWidth k48;
+      r1 = newOf (dock .r1) (dock .y1) shoulderWidth k48;
+      select = newOf (dock .select) (dock .row) k96 k48;
+      start = newOf (dock .start) (dock .row) k96 k48;
+      l3 = emptyRect;
+      r3 = emptyRect;
     }
 
--- the layout before the toolbar and the game are put in place
+-- The layout before the toolbar and the game are put in place. The Rust sets the toolbar's keys here too; they are anchored
+-- anew before anything looks at them.
 unfoldable pub dockedOf : Float → Float → Bool → Layout
 dockedOf w h compact =
     let wells = sizeWellsOf w h compact in
-    composedOf w wells (placeDockOf compact w h wells (maxOf (w ⊘ k2 ⊖ k196) k16) (minOf (w ⊘ k2 ⊕ k100) (w ⊖ k112)))
+    let dock = placeDockOf compact w h wells (maxOf (w ⊘ k2 ⊖ k196) k16) (minOf (w ⊘ k2 ⊕ k100) (w ⊖ k112)) in
+    let dpad = newOf k16 (dock .fy ⊖ wells .height ⊘ k2) (wells .cluster) (wells .height) in
+    controllerOf (dockPlacesOf w wells dock) dpad 10 (replicate 2 emptyRect) 0
 
 unfoldable pub arrangedOf : Float → Float → Bool → Layout
 arrangedOf w h compact = finishedOf (dockedOf w h compact) w h
 
 -- ---- `side_rails`: the wells in rails beside a picture of full height
 
+-- what lies below the controls, here and in `controller_band`
+abbrev pub bottom : Float
+bottom = k4
+
 unfoldable pub measureRailsOf : Float → Float → Float → Rails
 measureRailsOf w h cluster =
     let size = capOf cluster in
-    let y = h ⊖ k4 ⊖ cluster in
+    let mainY = h ⊖ bottom ⊖ cluster in
     let shoulder = minOf ((cluster ⊖ k8) ⊘ k2) k64 in
     record {
       w = w;
-      y = y;
+      mainy = mainY;
       size = size;
       offset = (cluster ⊖ size) ⊘ k2;
       fx = w ⊖ k16 ⊖ cluster ⊘ k2;
-      fy = y ⊕ cluster ⊘ k2;
+      fy = mainY ⊕ cluster ⊘ k2;
       shoulder = shoulder;
       shoulderx = k16 ⊕ cluster ⊖ k2 ⊗ shoulder ⊖ k8;
-      shouldery = y ⊖ k112;
+      shouldery = mainY ⊖ k112;
       systemx = k16 ⊕ cluster ⊖ k80;
-      systemy = y ⊖ k56;
+      systemy = mainY ⊖ k56;
     }
 
 unfoldable pub railPlacesOf : Rails → Places
 railPlacesOf r =
-    let faces = placeFacesOf (r .fx) (r .fy) (r .offset) (r .offset) (r .size) in
-    let start = newOf (r .w ⊖ r .systemx ⊖ k80) (r .systemy) k80 k48 in
     record {
-      tri = faces .tri;
-      o = faces .o;
-      x = faces .x;
-      sq = faces .sq;
+      faces = placeFacesOf (r .fx) (r .fy) (r .offset) (r .offset) (r .size);
       l1 = newOf (r .shoulderx) (r .shouldery) (r .shoulder) k48;
       l2 = newOf (r .shoulderx ⊕ r .shoulder ⊕ k8) (r .shouldery) (r .shoulder) k48;
       r2 = newOf (r .w ⊖ r .shoulderx ⊖ k2 ⊗ r .shoulder ⊖ k8) (r .shouldery) (r .shoulder) k48;
       r1 = newOf (r .w ⊖ r .shoulderx ⊖ r .shoulder) (r .shouldery) (r .shoulder) k48;
       select = newOf (r .systemx) (r .systemy) k80 k48;
-      start = start;
-      l3 = start;
-      r3 = start;
+      start = newOf (r .w ⊖ r .systemx ⊖ k80) (r .systemy) k80 k48;
+      l3 = emptyRect;
+      r3 = emptyRect;
     }
+
+abbrev pub railDpad : Rails → Float → Rect
+railDpad rails cluster = newOf k16 (rails .mainy) cluster cluster
 
 unfoldable pub railedOf : Float → Float → Float → Layout
 railedOf w h cluster =
     let rails = measureRailsOf w h cluster in
-    finishedOf (withDpad (placedOf (arrangedOf w h false) (railPlacesOf rails)) (newOf k16 (rails .y) cluster cluster)) w h
+    finishedOf (withDpad (placedOf (arrangedOf w h false) (railPlacesOf rails)) (railDpad rails cluster)) w h
 
 unfoldable pub requestedOf : Float → Float → Float → Float
 requestedOf w h pictureHeight =
@@ -160,10 +141,10 @@ requestedOf w h pictureHeight =
 -- what one cutout leaves of the wells' width: both sides give way alike
 unfoldable pub narrowOf : Float → Float → Float → Float → Rect → Float
 narrowOf w h requested cluster c =
-    let y = h ⊖ k4 ⊖ requested in
+    let y = h ⊖ bottom ⊖ requested in
     let left = newOf k16 y requested requested in
     let right = newOf (w ⊖ k16 ⊖ requested) y requested requested in
-    cond (overlapsOf left c || overlapsOf right c) (minOf cluster (h ⊖ k4 ⊖ c .y ⊖ c .h ⊖ k8)) cluster
+    cond (overlapsOf left c || overlapsOf right c) (minOf cluster (h ⊖ bottom ⊖ c .y ⊖ c .h ⊖ k8)) cluster
 
 -- what all cutouts leave of it
 unfoldable pub clusterOf : Float → Float → Float → List Rect → Float

@@ -14,8 +14,8 @@ use Rattle.layout.specs.LabelLaws.{mapped-formed}
 use Rattle.search.specs.Search.{placeGameInAspectOf}
 use Rattle.toolbar.specs.Toolbar.{anchorToolbarOf}
 use Rattle.arranged.specs.declared.Places.{Places}
-use Rattle.arranged.specs.Places.{moved, placedOf}
-use Rattle.arranged.specs.Arranged.{finishedOf, composedOf, dockedOf, arrangedOf, railedOf, clusterOf, sideRailsOf}
+use Rattle.arranged.specs.Places.{controllerOf, moved, placedOf}
+use Rattle.arranged.specs.Arranged.{finishedOf, dockedOf, arrangedOf, railedOf, clusterOf, sideRailsOf}
 
 module _ (labels : List Label) (sticks : ℕ) (l : Layout) where
   pub placed-formed : (p : Places) → Formed labels sticks l → Formed labels sticks (placedOf l p)
@@ -28,7 +28,7 @@ module _ (labels : List Label) (sticks : ℕ) (l : Layout) where
 
 module _ (w h : Float) where
   pub arranged-formed : (compact : Bool) → Formed standardLabels 0 (arrangedOf w h compact)
-  unfolding arrangedOf dockedOf composedOf
+  unfolding arrangedOf dockedOf controllerOf
   arranged-formed compact = finished-formed standardLabels 0 _ w h ((refl, refl, refl), (refl, refl))
 
   railed-formed : (cluster : Float) → Formed standardLabels 0 (railedOf w h cluster)

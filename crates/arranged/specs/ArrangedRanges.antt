@@ -3,11 +3,12 @@ use mathlib.Core.Bool.{Bool, true, false, cond, not, _||_}
 use mathlib.Core.List.{List, []}
 use lib.Dec.{T}
 use lib.Ieee.{Float, lt}
+use lib.ListN.{replicate}
 use Rattle.float.specs.Float.{_⊖_, _⊘_, k0, k1, k3, k4, k16, k122}
 use Rattle.geometry.specs.declared.Rect.{Rect}
 use Rattle.geometry.specs.Rect.{newOf, emptyRect, overlapsOf}
 use Rattle.layout.specs.declared.Layout.{Layout}
-use Rattle.numerics.specs.Rects.{Element, OnScreen, Key, margin}
+use Rattle.numerics.specs.Rects.{Element, Key, margin}
 use Rattle.numerics.specs.Value.{Le}
 use Rattle.numerics.specs.Range.{In, at, minus}
 use Rattle.numerics.specs.Each.{Each, _&_}
@@ -22,13 +23,13 @@ use Rattle.toolbar.specs.ToolbarRanges.{uncovered-in, anchor-in}
 use Rattle.arranged.specs.declared.Wells.{Wells}
 use Rattle.arranged.specs.declared.Dock.{Dock}
 use Rattle.arranged.specs.declared.Rails.{Rails}
-use Rattle.arranged.specs.Arranged.{middle, finishedOf, sizeWellsOf, placeDockOf, composedOf, dockedOf, arrangedOf, measureRailsOf, railPlacesOf, railedOf, requestedOf, narrowOf, clusterOf, sideRailsOf}
-use Rattle.arranged.specs.PlaceRanges.{Coordinate, coordinate, cap-in, step-in, faces-in, PlacesIn, controls-placed}
+use Rattle.arranged.specs.Arranged.{centred, finishedOf, sizeWellsOf, placeDockOf, dockPlacesOf, dockedOf, arrangedOf, measureRailsOf, railPlacesOf, railedOf, requestedOf, narrowOf, clusterOf, sideRailsOf}
+use Rattle.arranged.specs.PlaceRanges.{Coordinate, coordinate, cap-in, step-in, faces-in, PlacesIn, empty-in, controller-in, controls-placed}
 
 pub finished-in : {C D : Rect → Type 0} (l : Layout) {w h : Float} → In w (at 0) (at 8192) → In h (at 0) (at 8192) → Every C D l → Every C (Key margin) (finishedOf l w h)
 unfolding finishedOf
 finished-in l {w} {h} W H L =
-    place-bounded (anchor-in l [] W H (in-more (at 0) (at 8192) i0 tt tt) (in-more (minus 8192) (at 8192) i0 tt tt) (uncovered-in l [] tt) L) (newOf k0 k0 w h) false k1 middle (k4 ⊘ k3)
+    place-bounded (anchor-in l [] W H (in-more (at 0) (at 8192) i0 tt tt) (in-more (minus 8192) (at 8192) i0 tt tt) (uncovered-in l [] tt) L) (newOf k0 k0 w h) false k1 centred (k4 ⊘ k3)
 
 -- ---- `arranged`
 record WellsIn (k : Wells) : Type 0 where
@@ -73,33 +74,22 @@ dock-in false W H K select start =
     let inner = sub-in W i16 tt in
     record { fy = coordinate fy tt; l1 = coordinate i16 tt; l2 = coordinate (add-in i24 shoulder tt) tt; r2 = coordinate (sub-in inner (K .cluster) tt) tt; r1 = coordinate (sub-in inner shoulder tt) tt; y1 = y; y2 = y; select = select; start = start; row = coordinate (sub-in H i64 tt) tt }
 
-composed-in : {w : Float} {wells : Wells} {dock : Dock} → In w (at 0) (at 8192) → WellsIn wells → DockIn dock → Arranged (composedOf w wells dock)
-unfolding composedOf
-composed-in W K D =
+dock-places-in : {w : Float} {wells : Wells} {dock : Dock} → In w (at 0) (at 8192) → WellsIn wells → DockIn dock → PlacesIn (dockPlacesOf w wells dock)
+unfolding dockPlacesOf
+dock-places-in W K D =
     let across = step-in (div-in (sub-in (K .cluster) (K .size) tt) f2 tt) tt tt in
     let down = step-in (div-in (sub-in (K .height) (K .size) tt) f2 tt) tt tt in
-    let faces = faces-in (coordinate (sub-in (sub-in W i16 tt) (div-in (K .cluster) f2 tt) tt) tt) (D .fy) across down (K .size) in
     let shoulder = div-in (sub-in (K .cluster) i8 tt) f2 tt in
-    let none : OnScreen margin emptyRect = placed-in i0 i0 i0 i0 tt in
     record {
-      dpad = placed-in i16 (sub-in (D .fy) (div-in (K .height) f2 tt) tt) (K .cluster) (K .height) tt;
-      controls =
-          faces .tri
-          & faces .o
-          & faces .x
-          & faces .sq
-          & placed-in (D .l1) (D .y1) shoulder i48 tt
-          & placed-in (D .l2) (D .y2) shoulder i48 tt
-          & placed-in (D .r2) (D .y2) shoulder i48 tt
-          & placed-in (D .r1) (D .y1) shoulder i48 tt
-          & placed-in (D .select) (D .row) i96 i48 tt
-          & placed-in (D .start) (D .row) i96 i48 tt
-          & none & none & tt;
-      pause = placed-in (sub-in W i56 tt) i4 i48 i48 tt;
-      playback = placed-in (sub-in W i224 tt) i4 i48 i48 tt;
-      speed = placed-in (sub-in W i168 tt) i4 i48 i48 tt;
-      mute = placed-in (sub-in W i112 tt) i4 i48 i48 tt;
-      sticks = none & none & tt;
+      faces = faces-in (coordinate (sub-in (sub-in W i16 tt) (div-in (K .cluster) f2 tt) tt) tt) (D .fy) across down (K .size);
+      l1 = placed-in (D .l1) (D .y1) shoulder i48 tt;
+      l2 = placed-in (D .l2) (D .y2) shoulder i48 tt;
+      r2 = placed-in (D .r2) (D .y2) shoulder i48 tt;
+      r1 = placed-in (D .r1) (D .y1) shoulder i48 tt;
+      select = placed-in (D .select) (D .row) i96 i48 tt;
+      start = placed-in (D .start) (D .row) i96 i48 tt;
+      l3 = empty-in;
+      r3 = empty-in;
     }
 
 pub arranged-in : {w h : Float} (compact : Bool) → In w (at 0) (at 8192) → In h (at 0) (at 8192) → Arranged (arrangedOf w h compact)
@@ -109,13 +99,14 @@ arranged-in {w} {h} compact W H =
     let wells = wells-in compact W H in
     let select = coordinate (max-in (sub-in half i196 tt) i16) tt in
     let start = coordinate (min-in (add-in half i100 tt) (sub-in W i112 tt)) tt in
-    finished-in (dockedOf w h compact) W H
-    (composed-in W wells (dock-in compact W H wells select start))
+    let dock = dock-in compact W H wells select start in
+    let dpad = placed-in i16 (sub-in (dock .fy) (div-in (wells .height) f2 tt) tt) (wells .cluster) (wells .height) tt in
+    finished-in (dockedOf w h compact) W H (controller-in 10 (replicate 2 emptyRect) 0 (dock-places-in W wells dock) dpad (empty-in & empty-in & tt))
 
 -- ---- `side_rails`
 record RailsIn (r : Rails) : Type 0 where
   pub w : In (r .w) (at 0) (at 8192)
-  pub y : Coordinate (r .y)
+  pub mainy : Coordinate (r .mainy)
   pub size : In (r .size) (at 48) (at 84)
   pub offset : In (r .offset) (at 0) (at 128)
   pub fx : Coordinate (r .fx)
@@ -131,49 +122,44 @@ unfolding measureRailsOf
 rails-in W H cluster =
     let size = cap-in cluster in
     let half = div-in cluster f2 tt in
-    let y = sub-in (sub-in H i4 tt) cluster tt in
+    let mainY = sub-in (sub-in H i4 tt) cluster tt in
     let shoulder = in-more (at 56) (at 64) (min-in (div-in (sub-in cluster i8 tt) f2 tt) i64) tt tt in
     let inner = add-in i16 cluster tt in
     record {
       w = W;
-      y = coordinate y tt;
+      mainy = coordinate mainY tt;
       size = size;
       offset = step-in (div-in (sub-in cluster size tt) f2 tt) tt tt;
       fx = coordinate (sub-in (sub-in W i16 tt) half tt) tt;
-      fy = coordinate (add-in y half tt) tt;
+      fy = coordinate (add-in mainY half tt) tt;
       shoulder = shoulder;
       shoulderx = in-more (at 0) (at 128) (sub-in (sub-in inner (times-in f2 shoulder tt) tt) i8 tt) tt tt;
-      shouldery = coordinate (sub-in y i112 tt) tt;
+      shouldery = coordinate (sub-in mainY i112 tt) tt;
       systemx = in-more (at 48) (at 144) (sub-in inner i80 tt) tt tt;
-      systemy = coordinate (sub-in y i56 tt) tt;
+      systemy = coordinate (sub-in mainY i56 tt) tt;
     }
 
 rail-places-in : {r : Rails} → RailsIn r → PlacesIn (railPlacesOf r)
 unfolding railPlacesOf
 rail-places-in R =
-    let faces = faces-in (R .fx) (R .fy) (R .offset) (R .offset) (R .size) in
     let outer = sub-in (R .w) (R .shoulderx) tt in
-    let start = placed-in (sub-in (sub-in (R .w) (R .systemx) tt) i80 tt) (R .systemy) i80 i48 tt in
     record {
-      tri = faces .tri;
-      o = faces .o;
-      x = faces .x;
-      sq = faces .sq;
+      faces = faces-in (R .fx) (R .fy) (R .offset) (R .offset) (R .size);
       l1 = placed-in (R .shoulderx) (R .shouldery) (R .shoulder) i48 tt;
       l2 = placed-in (add-in (add-in (R .shoulderx) (R .shoulder) tt) i8 tt) (R .shouldery) (R .shoulder) i48 tt;
       r2 = placed-in (sub-in (sub-in outer (times-in f2 (R .shoulder) tt) tt) i8 tt) (R .shouldery) (R .shoulder) i48 tt;
       r1 = placed-in (sub-in outer (R .shoulder) tt) (R .shouldery) (R .shoulder) i48 tt;
       select = placed-in (R .systemx) (R .systemy) i80 i48 tt;
-      start = start;
-      l3 = start;
-      r3 = start;
+      start = placed-in (sub-in (sub-in (R .w) (R .systemx) tt) i80 tt) (R .systemy) i80 i48 tt;
+      l3 = empty-in;
+      r3 = empty-in;
     }
 
 railed-in : {w h cluster : Float} → In w (at 0) (at 8192) → In h (at 0) (at 8192) → In cluster (at 122) (at 200) → Arranged (railedOf w h cluster)
 unfolding railedOf
 railed-in W H cluster =
     let rails = rails-in W H cluster in
-    finished-in _ W H (dpad-in (controls-placed (λ r P. P) (arranged-in false W H) (rail-places-in rails)) (placed-in i16 (rails .y) cluster cluster tt))
+    finished-in _ W H (dpad-in (controls-placed (λ r P. P) (arranged-in false W H) (rail-places-in rails)) (placed-in i16 (rails .mainy) cluster cluster tt))
 
 requested-in : {w h pictureHeight : Float} → In w (at 0) (at 8192) → In h (at 0) (at 8192) → In pictureHeight (at 0) (at 8192) → In (requestedOf w h pictureHeight) (at 122) (at 200)
 unfolding requestedOf

@@ -1,5 +1,5 @@
 -- Layouts that have the same controls, d-pad and sticks are the same once the toolbar and the game are put in place; so the controls alone, finished, are `arranged` and `side_rails`.
-use mathlib.Core.Path.{_≡_, refl}
+use mathlib.Core.Path.{_≡_, refl, _∙_}
 use mathlib.Core.Bool.{Bool, true, false, cond}
 use mathlib.Core.List.{List, []}
 use lib.Ieee.{Float, lt}
@@ -7,13 +7,14 @@ use Rattle.float.specs.Float.{k0, k122}
 use Rattle.geometry.specs.declared.Rect.{Rect}
 use Rattle.layout.specs.declared.Layout.{Layout}
 use Rattle.layout.specs.Layout.{elementsOf, withGame, withDpad}
+use Rattle.layout.specs.Lists.{mapFirst}
 use Rattle.search.specs.declared.Offset.{Offset}
 use Rattle.search.specs.Search.{placeGameInAspectOf}
 use Rattle.toolbar.specs.Toolbar.{anchorToolbarOf}
 use Rattle.toolbar.specs.ToolbarRanges.{uncovered}
 use Rattle.arranged.specs.declared.Places.{Places}
-use Rattle.arranged.specs.Places.{placedOf}
-use Rattle.arranged.specs.Arranged.{finishedOf, dockedOf, arrangedOf, railedOf, clusterOf, sideRailsOf}
+use Rattle.arranged.specs.Places.{atOf, controllerOf, placedOf}
+use Rattle.arranged.specs.Arranged.{finishedOf, dockPlacesOf, dockedOf, arrangedOf, measureRailsOf, railPlacesOf, railDpad, railedOf, clusterOf, sideRailsOf}
 use Rattle.arranged.specs.Controls.{bareOf, railControlsOf, sideControlsOf}
 
 module _ (w h top : Float) (cutouts : List Rect) where
@@ -43,9 +44,13 @@ module _ (w h : Float) where
   unfolding finishedOf placedOf placeGameInAspectOf anchorToolbarOf
   moved-anew l p dpad = refl
 
+  rails-bare : (cluster : Float) → let rails = measureRailsOf w h cluster in bareOf (withDpad (placedOf (dockedOf w h false) (railPlacesOf rails)) (railDpad rails cluster)) ≡ bareOf (railControlsOf w h cluster)
+  unfolding placedOf mapFirst atOf controllerOf dockedOf dockPlacesOf railControlsOf railPlacesOf
+  rails-bare cluster = refl
+
   rails-finished : (cluster : Float) → railedOf w h cluster ≡ finishedOf (railControlsOf w h cluster) w h
-  unfolding railedOf railControlsOf
-  rails-finished cluster = rw (arranged-finished false) (finished-anew _ _ (moved-anew (dockedOf w h false) _ _))
+  unfolding railedOf
+  rails-finished cluster = rw (arranged-finished false) (finished-anew _ _ (moved-anew (dockedOf w h false) _ _ ∙ rails-bare cluster))
 
   pub side-finished : (pictureHeight : Float) (cutouts : List Rect) → sideRailsOf w h pictureHeight cutouts ≡ finishedOf (sideControlsOf w h pictureHeight cutouts) w h
   unfolding sideRailsOf sideControlsOf

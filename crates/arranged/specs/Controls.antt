@@ -3,14 +3,15 @@
 use mathlib.Core.Bool.{false, cond}
 use mathlib.Core.List.{List}
 use lib.Ieee.{Float, lt}
-use Rattle.float.specs.Float.{k16, k122}
+use lib.ListN.{replicate}
+use Rattle.float.specs.Float.{k122}
 use Rattle.geometry.specs.declared.Rect.{Rect}
-use Rattle.geometry.specs.Rect.{newOf, emptyRect}
+use Rattle.geometry.specs.Rect.{emptyRect}
 use Rattle.layout.specs.declared.Layout.{Layout}
-use Rattle.layout.specs.Layout.{withGame, withDpad}
+use Rattle.layout.specs.Layout.{withGame}
 use Rattle.toolbar.specs.Toolbar.{withToolbar}
-use Rattle.arranged.specs.Places.{placedOf}
-use Rattle.arranged.specs.Arranged.{dockedOf, measureRailsOf, railPlacesOf, clusterOf}
+use Rattle.arranged.specs.Places.{controllerOf}
+use Rattle.arranged.specs.Arranged.{dockedOf, measureRailsOf, railPlacesOf, railDpad, clusterOf}
 
 -- the layout without toolbar and game
 abbrev pub bareOf : Layout → Layout
@@ -19,7 +20,7 @@ bareOf l = withGame (withToolbar l emptyRect emptyRect emptyRect emptyRect) empt
 unfoldable pub railControlsOf : Float → Float → Float → Layout
 railControlsOf w h cluster =
     let rails = measureRailsOf w h cluster in
-    withDpad (placedOf (dockedOf w h false) (railPlacesOf rails)) (newOf k16 (rails .y) cluster cluster)
+    controllerOf (railPlacesOf rails) (railDpad rails cluster) 10 (replicate 2 emptyRect) 0
 
 unfoldable pub sideControlsOf : Float → Float → Float → List Rect → Layout
 sideControlsOf w h pictureHeight cutouts =

@@ -2,7 +2,6 @@ pub mod Places
 pub mod Arranged
 pub mod Controls
 pub mod ControlLaws
-pub mod Blank
 pub mod ArrangedLabels
 pub mod PlaceRanges
 pub mod ArrangedRanges

@@ -1,22 +1,25 @@
 -- Places in range: the cap of a well, the faces about a centre, and a layout whose controls are put at such places.
 use mathlib.Core.Bool.{_&&_}
+use mathlib.Core.List.{List}
 use Prim.Native.Nat.{ℕ}
 use lib.Dec.{T, leb}
 use lib.Ieee.{Float}
 use lib.Ieee.Fits.{and-l, and-r}
 use Rattle.geometry.specs.declared.Rect.{Rect}
+use Rattle.geometry.specs.Rect.{emptyRect}
 use Rattle.layout.specs.declared.Label.{Label}
 use Rattle.layout.specs.declared.Label.the-variants.{Tri, O, X, Sq, L1, L2, R2, R1, Select, Start, L3, R3}
 use Rattle.layout.specs.declared.Layout.{Layout}
 use Rattle.numerics.specs.Rects.{OnScreen, margin}
 use Rattle.numerics.specs.Range.{In, at, minus}
+use Rattle.numerics.specs.Each.{Each, _&_}
 use Rattle.numerics.specs.Ranges.{in-more, add-in, sub-in, div-in, placed-in}
-use Rattle.numerics.specs.Literals.{i4√2, f1√2, f2}
+use Rattle.numerics.specs.Literals.{i0, i4√2, f1√2, f2}
 use Rattle.search.specs.Bounded.{Every}
 use Rattle.search.proofs.Changes.{each-mapFirst}
 use Rattle.arranged.specs.declared.Faces.{Faces}
 use Rattle.arranged.specs.declared.Places.{Places}
-use Rattle.arranged.specs.Places.{capOf, placeFacesOf, atOf, moved, placedOf}
+use Rattle.arranged.specs.Places.{capOf, placeFacesOf, atOf, controllerOf, moved, placedOf}
 
 -- a coordinate on the screen or a little off it
 abbrev pub Coordinate : Float → Type 0
@@ -54,10 +57,7 @@ faces-in fx fy across down cap =
 
 -- ---- places
 pub record PlacesIn (p : Places) : Type 0 where
-  pub tri : OnScreen margin (p .tri)
-  pub o : OnScreen margin (p .o)
-  pub x : OnScreen margin (p .x)
-  pub sq : OnScreen margin (p .sq)
+  pub faces : FacesIn (p .faces)
   pub l1 : OnScreen margin (p .l1)
   pub l2 : OnScreen margin (p .l2)
   pub r2 : OnScreen margin (p .r2)
@@ -69,10 +69,10 @@ pub record PlacesIn (p : Places) : Type 0 where
 
 at-in : {p : Places} → PlacesIn p → (label : Label) → OnScreen margin (atOf p label)
 unfolding atOf
-at-in P Tri = P .tri
-at-in P O = P .o
-at-in P X = P .x
-at-in P Sq = P .sq
+at-in P Tri = P .faces .tri
+at-in P O = P .faces .o
+at-in P X = P .faces .x
+at-in P Sq = P .faces .sq
 at-in P L1 = P .l1
 at-in P L2 = P .l2
 at-in P R2 = P .r2
@@ -81,6 +81,24 @@ at-in P Select = P .select
 at-in P Start = P .start
 at-in P L3 = P .l3
 at-in P R3 = P .r3
+
+pub empty-in : OnScreen margin emptyRect
+empty-in = placed-in i0 i0 i0 i0 tt
+
+pub controller-in : {p : Places} {dpad : Rect} (count : ℕ) (sticks : List Rect) (stickcount : ℕ) → PlacesIn p → OnScreen margin dpad → Each (OnScreen margin) sticks
+    → Every (OnScreen margin) (OnScreen margin) (controllerOf p dpad count sticks stickcount)
+unfolding controllerOf
+controller-in count sticks stickcount P dpad S =
+    let a = at-in P in
+    record {
+      dpad = dpad;
+      controls = a Tri & a O & a X & a Sq & a L1 & a L2 & a R2 & a R1 & a Select & a Start & a L3 & a R3 & tt;
+      pause = empty-in;
+      playback = empty-in;
+      speed = empty-in;
+      mute = empty-in;
+      sticks = S;
+    }
 
 -- what holds at the place of every label
 pub every-placed : {C D : Rect → Type 0} {l : Layout} (p : Places) → Every C D l → ((label : Label) → C (atOf p label)) → Every C D (placedOf l p)

@@ -1,15 +1,19 @@
 -- A place for each label, and the controls of a layout put there: the loops over `layout.controls` of input.rs. Definitions only.
 use mathlib.Core.Bool.{cond}
+use mathlib.Core.List.{List, map}
 use mathlib.Core.Option.{Option, some, none}
+use Prim.Native.Nat.{ℕ}
 use lib.Ieee.{Float}
+use lib.ListN.{replicate}
 use Rattle.float.specs.Float.{_⊕_, _⊖_, _⊗_, _⊘_, k1, k2, k4, √2}
 use Rattle.geometry.specs.declared.Rect.{Rect}
-use Rattle.geometry.specs.Rect.{newOf}
+use Rattle.geometry.specs.Rect.{newOf, emptyRect}
 use Rattle.layout.specs.declared.Control.{Control}
 use Rattle.layout.specs.declared.Label.{Label}
 use Rattle.layout.specs.declared.Label.the-variants.{Tri, O, X, Sq, L1, L2, R2, R1, Select, Start, L3, R3}
 use Rattle.layout.specs.declared.Layout.{Layout}
-use Rattle.layout.specs.Layout.{withBounds, withControls}
+use Rattle.layout.specs.Labels.{analogLabels}
+use Rattle.layout.specs.Layout.{withControls}
 use Rattle.layout.specs.Lists.{mapFirst}
 use Rattle.arranged.specs.declared.Faces.{Faces}
 use Rattle.arranged.specs.declared.MaybeLayout.{MaybeLayout}
@@ -34,10 +38,10 @@ placeFacesOf fx fy across down cap =
     }
 
 unfoldable pub atOf : Places → Label → Rect
-atOf p Tri = p .tri
-atOf p O = p .o
-atOf p X = p .x
-atOf p Sq = p .sq
+atOf p Tri = p .faces .tri
+atOf p O = p .faces .o
+atOf p X = p .faces .x
+atOf p Sq = p .faces .sq
 atOf p L1 = p .l1
 atOf p L2 = p .l2
 atOf p R2 = p .r2
@@ -47,9 +51,51 @@ atOf p Start = p .start
 atOf p L3 = p .l3
 atOf p R3 = p .r3
 
+abbrev pub control : Rect → Label → Control
+control bounds label = record { bounds = bounds; label = label }
+
+-- a layout without elements
+abbrev pub blankOf : Layout
+blankOf =
+    record {
+      game = emptyRect;
+      dpad = emptyRect;
+      controls = replicate 12 (control emptyRect Tri);
+      count = 0;
+      pause = emptyRect;
+      playback = emptyRect;
+      speed = emptyRect;
+      mute = emptyRect;
+      sticks = replicate 2 emptyRect;
+      stickcount = 0;
+    }
+
+abbrev pub controlAtOf : Places → Label → Control
+controlAtOf p label = control (atOf p label) label
+
+-- the controls of all labels
+abbrev pub controlsAtOf : Places → List Control
+controlsAtOf p = map (controlAtOf p) analogLabels
+
+-- a layout without toolbar and game: the controls of the first `count` labels at their places, a d-pad, sticks
+unfoldable pub controllerOf : Places → Rect → ℕ → List Rect → ℕ → Layout
+controllerOf p dpad count sticks stickcount =
+    record {
+      game = emptyRect;
+      dpad = dpad;
+      controls = controlsAtOf p;
+      count = count;
+      pause = emptyRect;
+      playback = emptyRect;
+      speed = emptyRect;
+      mute = emptyRect;
+      sticks = sticks;
+      stickcount = stickcount;
+    }
+
 -- a control at the place of its label
 abbrev pub moved : Places → Control → Control
-moved p c = withBounds c (atOf p (c .label))
+moved p c = controlAtOf p (c .label)
 
 -- the layout with each of its controls at the place of its label
 unfoldable pub placedOf : Layout → Places → Layout

@@ -4,9 +4,8 @@ ghost use mathlib.Core.Option.{none};
 ghost use Prim.Native.Nat.{_≤_};
 ghost use Rattle.layout.specs.Layout.{cutoutList};
 ghost use Rattle.layout.specs.Lists.{mapFirst};
-ghost use Rattle.arranged.specs.Places.{maybe, capOf, placeFacesOf, atOf, moved, placedOf};
-ghost use Rattle.arranged.specs.Blank.{blankOf};
-ghost use Rattle.arranged.specs.Arranged.{anchoredOf, finishedOf, sizeWellsOf, placeDockOf, composedOf, dockedOf, arrangedOf, measureRailsOf, railPlacesOf, requestedOf, narrowOf, clusterOf, sideRailsOf};
+ghost use Rattle.arranged.specs.Places.{maybe, capOf, placeFacesOf, atOf, controlAtOf, controlsAtOf, controllerOf, moved, placedOf};
+ghost use Rattle.arranged.specs.Arranged.{anchoredOf, finishedOf, sizeWellsOf, placeDockOf, dockPlacesOf, dockedOf, arrangedOf, measureRailsOf, railPlacesOf, requestedOf, narrowOf, clusterOf, sideRailsOf};
 ghost use Rattle.arranged.specs.Controls.{railControlsOf, sideControlsOf};
 use float::clamp;
 use float::max;
@@ -21,48 +20,57 @@ use search::Offset;
 
 const SQRT_2: f32 = 1.41421356237309504880;
 
+// What lies below the controls of rails and bands.
+pub const BOTTOM: f32 = 4.0;
+
+// `Rect::default`.
+pub const EMPTY: Rect = Rect {
+    x: 0.0,
+    y: 0.0,
+    w: 0.0,
+    h: 0.0,
+};
+
+pub const NO_CUTOUTS: Cutouts = Cutouts {
+    at: [EMPTY; 16],
+    count: 0,
+};
+
+// `[0.5; 2]`.
+pub const CENTRED: Offset = Offset { x: 0.5, y: 0.5 };
+
+const NO_CONTROL: Control = Control {
+    bounds: EMPTY,
+    label: Label::Tri,
+};
+
+// A layout without elements, where a caller has none to give.
+pub const BLANK: Layout = Layout {
+    game: EMPTY,
+    dpad: EMPTY,
+    controls: [NO_CONTROL; 12],
+    count: 0,
+    pause: EMPTY,
+    playback: EMPTY,
+    speed: EMPTY,
+    mute: EMPTY,
+    sticks: [EMPTY; 2],
+    stickcount: 0,
+};
+
 // A layout, where there is one.
 pub struct MaybeLayout {
     pub some: bool,
     pub layout: Layout,
 }
 
-// A layout without elements, where a caller has none to give.
-pub fn blank() -> Layout
-    ensures { λ r. ⌜ r ≡ blankOf ⌝ }
-{
-    let none = Rect {
-        x: 0.0,
-        y: 0.0,
-        w: 0.0,
-        h: 0.0,
-    };
-    let spare = Control {
-        bounds: none,
-        label: Label::Tri,
-    };
-    Layout {
-        game: none,
-        dpad: none,
-        controls: [spare; 12],
-        count: 0,
-        pause: none,
-        playback: none,
-        speed: none,
-        mute: none,
-        sticks: [none; 2],
-        stickcount: 0,
-    }
-}
-
 // Rust's `None`.
 pub fn no_layout() -> MaybeLayout
     ensures { λ r. ⌜ (maybe r ≡ none) × (r .layout .count ≡ 0) × (r .layout .stickcount ≡ 0) ⌝ }
 {
-    let layout = blank();
     MaybeLayout {
         some: false,
-        layout,
+        layout: BLANK,
     }
 }
 
@@ -86,39 +94,16 @@ pub fn place_faces(fx: f32, fy: f32, across: f32, down: f32, cap: f32) -> Faces
 {
     let half = cap / 2.0;
     Faces {
-        tri: Rect {
-            x: fx - half,
-            y: fy - down - half,
-            w: cap,
-            h: cap,
-        },
-        o: Rect {
-            x: fx + across - half,
-            y: fy - half,
-            w: cap,
-            h: cap,
-        },
-        x: Rect {
-            x: fx - half,
-            y: fy + down - half,
-            w: cap,
-            h: cap,
-        },
-        sq: Rect {
-            x: fx - across - half,
-            y: fy - half,
-            w: cap,
-            h: cap,
-        },
+        tri: Rect::new(fx - half, fy - down - half, cap, cap),
+        o: Rect::new(fx + across - half, fy - half, cap, cap),
+        x: Rect::new(fx - half, fy + down - half, cap, cap),
+        sq: Rect::new(fx - across - half, fy - half, cap, cap),
     }
 }
 
 // A place for each label.
 pub struct Places {
-    pub tri: Rect,
-    pub o: Rect,
-    pub x: Rect,
-    pub sq: Rect,
+    pub faces: Faces,
     pub l1: Rect,
     pub l2: Rect,
     pub r2: Rect,
@@ -130,14 +115,14 @@ pub struct Places {
 }
 
 impl Places {
-    pub fn at(self, label: Label) -> Rect
+    fn at(self, label: Label) -> Rect
         ensures { λ r. ⌜ r ≡ atOf self label ⌝ }
     {
         match label {
-            Label::Tri => self.tri,
-            Label::O => self.o,
-            Label::X => self.x,
-            Label::Sq => self.sq,
+            Label::Tri => self.faces.tri,
+            Label::O => self.faces.o,
+            Label::X => self.faces.x,
+            Label::Sq => self.faces.sq,
             Label::L1 => self.l1,
             Label::L2 => self.l2,
             Label::R2 => self.r2,
@@ -148,6 +133,53 @@ impl Places {
             Label::R3 => self.r3,
         }
     }
+
+    fn control_at(self, label: Label) -> Control
+        ensures { λ c. ⌜ c ≡ controlAtOf self label ⌝ }
+    {
+        let bounds = self.at(label);
+        Control { bounds, label }
+    }
+
+    // The controls of all labels.
+    fn controls_at(self) -> [Control; 12]
+        ensures { λ r. ⌜ r ≡ controlsAtOf self ⌝ }
+    {
+        [
+            self.control_at(Label::Tri),
+            self.control_at(Label::O),
+            self.control_at(Label::X),
+            self.control_at(Label::Sq),
+            self.control_at(Label::L1),
+            self.control_at(Label::L2),
+            self.control_at(Label::R2),
+            self.control_at(Label::R1),
+            self.control_at(Label::Select),
+            self.control_at(Label::Start),
+            self.control_at(Label::L3),
+            self.control_at(Label::R3),
+        ]
+    }
+}
+
+// A layout without toolbar and game: the controls of the first `count` labels at their places, a d-pad, sticks.
+pub fn controller(
+    places: Places,
+    dpad: Rect,
+    count: usize,
+    sticks: [Rect; 2],
+    stickcount: usize,
+) -> Layout
+    ensures { λ r. ⌜ (r ≡ controllerOf places dpad count sticks stickcount) × (r .count ≡ count) × (r .stickcount ≡ stickcount) ⌝ }
+{
+    let controls = places.controls_at();
+    let mut out = BLANK;
+    out.dpad = dpad;
+    out.controls = controls;
+    out.count = count;
+    out.sticks = sticks;
+    out.stickcount = stickcount;
+    out
 }
 
 fn place_all(controls: [Control; 12], count: usize, places: Places) -> [Control; 12]
@@ -158,8 +190,7 @@ fn place_all(controls: [Control; 12], count: usize, places: Places) -> [Control;
     for i in 0..count {
         let c = out[i];
         let label = c.label;
-        let bounds = places.at(label);
-        out[i] = Control { bounds, label };
+        out[i] = places.control_at(label);
     }
     out
 }
@@ -181,17 +212,7 @@ pub fn anchored(l: Layout, w: f32, h: f32) -> Layout
     requires { ⌜ (l .count ≤ 12) × (l .stickcount ≤ 2) ⌝ }
     ensures { λ r. ⌜ (r ≡ anchoredOf l w h) × (r .count ≡ l .count) × (r .stickcount ≡ l .stickcount) ⌝ }
 {
-    let none = Rect {
-        x: 0.0,
-        y: 0.0,
-        w: 0.0,
-        h: 0.0,
-    };
-    let cutouts = Cutouts {
-        at: [none; 16],
-        count: 0,
-    };
-    toolbar::anchor_toolbar(l, w, h, 0.0, 0.0, cutouts)
+    toolbar::anchor_toolbar(l, w, h, 0.0, 0.0, NO_CUTOUTS)
 }
 
 // And with the largest game that is clear of all elements.
@@ -199,29 +220,28 @@ pub fn finished(l: Layout, w: f32, h: f32) -> Layout
     requires { ⌜ (l .count ≤ 12) × (l .stickcount ≤ 2) ⌝ }
     ensures { λ r. ⌜ (r ≡ finishedOf l w h) × (r .count ≡ l .count) × (r .stickcount ≡ l .stickcount) ⌝ }
 {
-    let ready = anchored(l, w, h);
-    search::place_game(ready, w, h, false, 1.0, Offset { x: 0.5, y: 0.5 })
+    search::place_game(anchored(l, w, h), w, h, false, 1.0, CENTRED)
 }
 
 // The thumb wells: their width, the size of a face cap, their height.
-pub struct Wells {
-    pub cluster: f32,
-    pub size: f32,
-    pub height: f32,
+struct Wells {
+    cluster: f32,
+    size: f32,
+    height: f32,
 }
 
 // Where the centre line of the wells, the shoulders and the system keys lie.
-pub struct Dock {
-    pub fy: f32,
-    pub l1: f32,
-    pub l2: f32,
-    pub r2: f32,
-    pub r1: f32,
-    pub y1: f32,
-    pub y2: f32,
-    pub select: f32,
-    pub start: f32,
-    pub row: f32,
+struct Dock {
+    fy: f32,
+    l1: f32,
+    l2: f32,
+    r2: f32,
+    r1: f32,
+    y1: f32,
+    y2: f32,
+    select: f32,
+    start: f32,
+    row: f32,
 }
 
 fn size_wells(w: f32, h: f32, compact: bool) -> Wells
@@ -280,144 +300,24 @@ fn place_dock(compact: bool, w: f32, h: f32, wells: Wells, select: f32, start: f
     }
 }
 
-fn composed(w: f32, wells: Wells, dock: Dock) -> Layout
-    ensures { λ r. ⌜ (r ≡ composedOf w wells dock) × (r .count ≡ 10) × (r .stickcount ≡ 0) ⌝ }
+fn dock_places(w: f32, wells: Wells, dock: Dock) -> Places
+    ensures { λ r. ⌜ r ≡ dockPlacesOf w wells dock ⌝ }
 {
-    let size = wells.size;
-    let offset = (wells.cluster - size) / 2.0;
+    let offset = (wells.cluster - wells.size) / 2.0;
+    let vertical = (wells.height - wells.size) / 2.0;
     let fx = w - 16.0 - wells.cluster / 2.0;
-    let vertical = (wells.height - size) / 2.0;
-    let shoulder = (wells.cluster - 8.0) / 2.0;
-    let none = Rect {
-        x: 0.0,
-        y: 0.0,
-        w: 0.0,
-        h: 0.0,
-    };
-    let faces = place_faces(fx, dock.fy, offset, vertical, size);
-    let tri = faces.tri;
-    let o = faces.o;
-    let x = faces.x;
-    let sq = faces.sq;
-    let l1 = Rect {
-        x: dock.l1,
-        y: dock.y1,
-        w: shoulder,
-        h: 48.0,
-    };
-    let l2 = Rect {
-        x: dock.l2,
-        y: dock.y2,
-        w: shoulder,
-        h: 48.0,
-    };
-    let r2 = Rect {
-        x: dock.r2,
-        y: dock.y2,
-        w: shoulder,
-        h: 48.0,
-    };
-    let r1 = Rect {
-        x: dock.r1,
-        y: dock.y1,
-        w: shoulder,
-        h: 48.0,
-    };
-    let select = Rect {
-        x: dock.select,
-        y: dock.row,
-        w: 96.0,
-        h: 48.0,
-    };
-    let start = Rect {
-        x: dock.start,
-        y: dock.row,
-        w: 96.0,
-        h: 48.0,
-    };
-    let spare = Control {
-        bounds: none,
-        label: Label::Tri,
-    };
-    Layout {
-        game: none,
-        dpad: Rect {
-            x: 16.0,
-            y: dock.fy - wells.height / 2.0,
-            w: wells.cluster,
-            h: wells.height,
-        },
-        controls: [
-            Control {
-                bounds: tri,
-                label: Label::Tri,
-            },
-            Control {
-                bounds: o,
-                label: Label::O,
-            },
-            Control {
-                bounds: x,
-                label: Label::X,
-            },
-            Control {
-                bounds: sq,
-                label: Label::Sq,
-            },
-            Control {
-                bounds: l1,
-                label: Label::L1,
-            },
-            Control {
-                bounds: l2,
-                label: Label::L2,
-            },
-            Control {
-                bounds: r2,
-                label: Label::R2,
-            },
-            Control {
-                bounds: r1,
-                label: Label::R1,
-            },
-            Control {
-                bounds: select,
-                label: Label::Select,
-            },
-            Control {
-                bounds: start,
-                label: Label::Start,
-            },
-            spare,
-            spare,
-        ],
-        count: 10,
-        pause: Rect {
-            x: w - 56.0,
-            y: 4.0,
-            w: 48.0,
-            h: 48.0,
-        },
-        playback: Rect {
-            x: w - 224.0,
-            y: 4.0,
-            w: 48.0,
-            h: 48.0,
-        },
-        speed: Rect {
-            x: w - 168.0,
-            y: 4.0,
-            w: 48.0,
-            h: 48.0,
-        },
-        mute: Rect {
-            x: w - 112.0,
-            y: 4.0,
-            w: 48.0,
-            h: 48.0,
-        },
-        sticks: [none; 2],
-        stickcount: 0,
+    let faces = place_faces(fx, dock.fy, offset, vertical, wells.size);
+    let shoulder_width = (wells.cluster - 8.0) / 2.0;
+    Places {
+        faces,
+        l1: Rect::new(dock.l1, dock.y1, shoulder_width, 48.0),
+        l2: Rect::new(dock.l2, dock.y2, shoulder_width, 48.0),
+        r2: Rect::new(dock.r2, dock.y2, shoulder_width, 48.0),
+        r1: Rect::new(dock.r1, dock.y1, shoulder_width, 48.0),
+        select: Rect::new(dock.select, dock.row, 96.0, 48.0),
+        start: Rect::new(dock.start, dock.row, 96.0, 48.0),
+        l3: EMPTY,
+        r3: EMPTY,
     }
 }
 
@@ -429,7 +329,9 @@ pub fn docked(w: f32, h: f32, compact: bool) -> Layout
     let select = max(w / 2.0 - 196.0, 16.0);
     let start = min(w / 2.0 + 100.0, w - 112.0);
     let dock = place_dock(compact, w, h, wells, select, start);
-    composed(w, wells, dock)
+    let y = dock.fy - wells.height / 2.0;
+    let dpad = Rect::new(16.0, y, wells.cluster, wells.height);
+    controller(dock_places(w, wells, dock), dpad, 10, [EMPTY; 2], 0)
 }
 
 pub fn arranged(w: f32, h: f32, compact: bool) -> Layout
@@ -438,38 +340,38 @@ pub fn arranged(w: f32, h: f32, compact: bool) -> Layout
     finished(docked(w, h, compact), w, h)
 }
 
-pub struct Rails {
-    pub w: f32,
-    pub y: f32,
-    pub size: f32,
-    pub offset: f32,
-    pub fx: f32,
-    pub fy: f32,
-    pub shoulder: f32,
-    pub shoulderx: f32,
-    pub shouldery: f32,
-    pub systemx: f32,
-    pub systemy: f32,
+struct Rails {
+    w: f32,
+    mainy: f32,
+    size: f32,
+    offset: f32,
+    fx: f32,
+    fy: f32,
+    shoulder: f32,
+    shoulderx: f32,
+    shouldery: f32,
+    systemx: f32,
+    systemy: f32,
 }
 
 fn measure_rails(w: f32, h: f32, cluster: f32) -> Rails
     ensures { λ r. ⌜ r ≡ measureRailsOf w h cluster ⌝ }
 {
     let size = cap(cluster);
-    let y = h - 4.0 - cluster;
+    let main_y = h - BOTTOM - cluster;
     let shoulder = min((cluster - 8.0) / 2.0, 64.0);
     Rails {
         w,
-        y,
+        mainy: main_y,
         size,
         offset: (cluster - size) / 2.0,
         fx: w - 16.0 - cluster / 2.0,
-        fy: y + cluster / 2.0,
+        fy: main_y + cluster / 2.0,
         shoulder,
         shoulderx: 16.0 + cluster - 2.0 * shoulder - 8.0,
-        shouldery: y - 112.0,
+        shouldery: main_y - 112.0,
         systemx: 16.0 + cluster - 80.0,
-        systemy: y - 56.0,
+        systemy: main_y - 56.0,
     }
 }
 
@@ -477,71 +379,30 @@ fn rail_places(r: Rails) -> Places
     ensures { λ p. ⌜ p ≡ railPlacesOf r ⌝ }
 {
     let faces = place_faces(r.fx, r.fy, r.offset, r.offset, r.size);
-    let tri = faces.tri;
-    let o = faces.o;
-    let x = faces.x;
-    let sq = faces.sq;
-    let start = Rect {
-        x: r.w - r.systemx - 80.0,
-        y: r.systemy,
-        w: 80.0,
-        h: 48.0,
-    };
+    let l2 = r.shoulderx + r.shoulder + 8.0;
+    let r2 = r.w - r.shoulderx - 2.0 * r.shoulder - 8.0;
+    let r1 = r.w - r.shoulderx - r.shoulder;
+    let start = r.w - r.systemx - 80.0;
     Places {
-        tri,
-        o,
-        x,
-        sq,
-        l1: Rect {
-            x: r.shoulderx,
-            y: r.shouldery,
-            w: r.shoulder,
-            h: 48.0,
-        },
-        l2: Rect {
-            x: r.shoulderx + r.shoulder + 8.0,
-            y: r.shouldery,
-            w: r.shoulder,
-            h: 48.0,
-        },
-        r2: Rect {
-            x: r.w - r.shoulderx - 2.0 * r.shoulder - 8.0,
-            y: r.shouldery,
-            w: r.shoulder,
-            h: 48.0,
-        },
-        r1: Rect {
-            x: r.w - r.shoulderx - r.shoulder,
-            y: r.shouldery,
-            w: r.shoulder,
-            h: 48.0,
-        },
-        select: Rect {
-            x: r.systemx,
-            y: r.systemy,
-            w: 80.0,
-            h: 48.0,
-        },
-        start,
-        l3: start,
-        r3: start,
+        faces,
+        l1: Rect::new(r.shoulderx, r.shouldery, r.shoulder, 48.0),
+        l2: Rect::new(l2, r.shouldery, r.shoulder, 48.0),
+        r2: Rect::new(r2, r.shouldery, r.shoulder, 48.0),
+        r1: Rect::new(r1, r.shouldery, r.shoulder, 48.0),
+        select: Rect::new(r.systemx, r.systemy, 80.0, 48.0),
+        start: Rect::new(start, r.systemy, 80.0, 48.0),
+        l3: EMPTY,
+        r3: EMPTY,
     }
 }
 
 // The rails around wells of a width.
-fn railed(w: f32, h: f32, cluster: f32) -> Layout
+fn rail_controls(w: f32, h: f32, cluster: f32) -> Layout
     ensures { λ r. ⌜ (r ≡ railControlsOf w h cluster) × (r .count ≡ 10) × (r .stickcount ≡ 0) ⌝ }
 {
     let rails = measure_rails(w, h, cluster);
-    let dpad = Rect {
-        x: 16.0,
-        y: rails.y,
-        w: cluster,
-        h: cluster,
-    };
-    let mut layout = placed(docked(w, h, false), rail_places(rails));
-    layout.dpad = dpad;
-    layout
+    let dpad = Rect::new(16.0, rails.mainy, cluster, cluster);
+    controller(rail_places(rails), dpad, 10, [EMPTY; 2], 0)
 }
 
 fn requested(w: f32, h: f32, picture_height: f32) -> f32
@@ -555,21 +416,11 @@ fn requested(w: f32, h: f32, picture_height: f32) -> f32
 fn narrow(w: f32, h: f32, requested: f32, cluster: f32, c: Rect) -> f32
     ensures { λ r. ⌜ r ≡ narrowOf w h requested cluster c ⌝ }
 {
-    let y = h - 4.0 - requested;
-    let left = Rect {
-        x: 16.0,
-        y,
-        w: requested,
-        h: requested,
-    };
-    let right = Rect {
-        x: w - 16.0 - requested,
-        y,
-        w: requested,
-        h: requested,
-    };
+    let y = h - BOTTOM - requested;
+    let left = Rect::new(16.0, y, requested, requested);
+    let right = Rect::new(w - 16.0 - requested, y, requested, requested);
     if left.overlaps(c) | right.overlaps(c) {
-        return min(cluster, h - 4.0 - c.y - c.h - 8.0);
+        return min(cluster, h - BOTTOM - c.y - c.h - 8.0);
     }
     cluster
 }
@@ -599,7 +450,7 @@ pub fn side_controls(w: f32, h: f32, picture_height: f32, cutouts: Cutouts) -> L
     if cluster < 122.0 {
         return docked(w, h, false);
     }
-    railed(w, h, cluster)
+    rail_controls(w, h, cluster)
 }
 
 pub fn side_rails(w: f32, h: f32, picture_height: f32, cutouts: Cutouts) -> Layout

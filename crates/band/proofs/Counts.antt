@@ -1,6 +1,6 @@
 -- The counts of a layout after the last steps of `controller_band`.
 use mathlib.Core.Path.{_≡_}
-use mathlib.Core.Bool.{Bool, true, false, cond}
+use mathlib.Core.Bool.{Bool}
 use mathlib.Core.List.{List}
 use Prim.Native.Nat.{_≤_}
 use native.Mathlib.Nat.{le-trans}
@@ -9,6 +9,7 @@ use lib.Dec.{ltb}
 use lib.Ieee.{Float}
 use lib.ListN.{length}
 use Rattle.geometry.specs.declared.Rect.{Rect}
+use Rattle.geometry.specs.Choice.{either}
 use Rattle.layout.specs.declared.Layout.{Layout}
 use Rattle.layout.specs.Psp.{atMostOneOf, pspInputsOf}
 use Rattle.layout.specs.PspLaws.{psp-fewer}
@@ -30,11 +31,7 @@ module _ (l : Layout) where
 
   psp-sticks : l .stickcount ≤ 2 → pspInputsOf l .stickcount ≤ 2
   unfolding pspInputsOf atMostOneOf
-  psp-sticks h = go (ltb (l .stickcount) 1)
-    where
-      go : (b : Bool) → cond b (l .stickcount) 1 ≤ 2
-      go true = h
-      go false = omega arith
+  psp-sticks h = either (λ n. n ≤ 2) (ltb (l .stickcount) 1) h (omega arith)
 
   pub psp-counts : length (l .controls) ≡ 12 → Counted l → Counted (pspInputsOf l)
   psp-counts n k =

@@ -4,7 +4,7 @@ use mathlib.Core.List.{_∷_, []}
 use mathlib.Core.Option.{Option, some, none}
 use Prim.Native.Nat.{_+_}
 use lib.Ieee.{Float, lt, le, neg}
-use lib.ListN.{set}
+use lib.ListN.{set, replicate}
 use Rattle.float.specs.Float.{_⊕_, _⊖_, _⊗_, _⊘_, k0, k0·75, k1, k1·35, k2, k3, k4, k8, k16, k24, k28, k48, k52, k56, k64, k72, k80, k100, k104, k112, k122, k128, k136, k160, k176, k184, k192, k204, k272, k288, k480, k600, k800}
 use Rattle.float.specs.MinMax.{minOf, maxOf, clampOf}
 use Rattle.geometry.specs.declared.Rect.{Rect}
@@ -16,8 +16,8 @@ use Rattle.layout.specs.Psp.{pspInputsOf}
 use Rattle.search.specs.Search.{placeGameInAspectOf}
 use Rattle.toolbar.specs.Toolbar.{toolbarHeight, anchorToolbarOf}
 use Rattle.arranged.specs.declared.Places.{Places}
-use Rattle.arranged.specs.Places.{capOf, placeFacesOf, placedOf}
-use Rattle.arranged.specs.Arranged.{arrangedOf, control, middle}
+use Rattle.arranged.specs.Places.{capOf, placeFacesOf, control, controllerOf, placedOf}
+use Rattle.arranged.specs.Arranged.{centred, arrangedOf, bottom}
 use Rattle.band.specs.declared.Room.{Room}
 use Rattle.band.specs.declared.Band.{Band}
 
@@ -30,7 +30,7 @@ unfoldable pub findRoomOf : Float → Float → Bool → Bool → Rect → Room
 findRoomOf w h analog psp picture =
     let pictureHeight = cond psp (w ⊗ k272 ⊘ k480) (w ⊗ k0·75) in
     let headroom = h ⊖ (picture .y ⊕ toolbarHeight ⊕ pictureHeight) in
-    let available = headroom ⊖ k4 in
+    let available = headroom ⊖ bottom in
     let deep = analog && le k192 headroom in
     let outer = cond deep k8 k28 in
     let widthLimit = cond analog ((w ⊖ k2 ⊗ outer ⊖ k16 ⊖ k204) ⊘ k4) ((w ⊖ k2 ⊗ outer ⊖ k288) ⊘ k2) in
@@ -41,18 +41,19 @@ measureBandOf w h analog room =
     let face = room .face in
     let stick = cond (room .deep) k176 face in
     let digitalGap = clampOf (room .available ⊖ face ⊖ k48) k8 k16 in
-    let mainY = cond (room .deep) (h ⊖ k4 ⊖ k48 ⊖ digitalGap ⊖ face) (h ⊖ k4 ⊖ face) in
+    let mainY = cond (room .deep) (h ⊖ bottom ⊖ k48 ⊖ digitalGap ⊖ face) (h ⊖ bottom ⊖ face) in
     let digitalX = cond analog (room .outer ⊕ stick ⊕ k8) (room .outer) in
     let cap = capOf face in
+    let step = (face ⊖ cap) ⊘ k2 in
     record {
       w = w;
       h = h;
       outer = room .outer;
       face = face;
       stick = stick;
-      x = digitalX;
-      y = mainY;
-      faces = placeFacesOf (w ⊖ digitalX ⊖ face ⊘ k2) (mainY ⊕ face ⊘ k2) ((face ⊖ cap) ⊘ k2) ((face ⊖ cap) ⊘ k2) cap;
+      digitalx = digitalX;
+      mainy = mainY;
+      faces = placeFacesOf (w ⊖ digitalX ⊖ face ⊘ k2) (mainY ⊕ face ⊘ k2) step step cap;
     }
 
 -- without sticks: shoulders beside the wells, square system keys
@@ -60,16 +61,13 @@ unfoldable pub plainPlacesOf : Band → Places
 plainPlacesOf b =
     let shoulderX = b .outer ⊕ b .face ⊕ k8 in
     record {
-      tri = b .faces .tri;
-      o = b .faces .o;
-      x = b .faces .x;
-      sq = b .faces .sq;
-      l1 = newOf shoulderX (b .y) k64 k64;
-      l2 = newOf (shoulderX ⊕ k72) (b .y) k64 k64;
-      r1 = newOf (b .w ⊖ shoulderX ⊖ k64) (b .y) k64 k64;
-      r2 = newOf (b .w ⊖ shoulderX ⊖ k136) (b .y) k64 k64;
-      select = newOf (b .w ⊘ k2 ⊖ k104) (b .h ⊖ k4 ⊖ k80) k80 k80;
-      start = newOf (b .w ⊘ k2 ⊕ k24) (b .h ⊖ k4 ⊖ k80) k80 k80;
+      faces = b .faces;
+      l1 = newOf shoulderX (b .mainy) k64 k64;
+      l2 = newOf (shoulderX ⊕ k72) (b .mainy) k64 k64;
+      r1 = newOf (b .w ⊖ shoulderX ⊖ k64) (b .mainy) k64 k64;
+      r2 = newOf (b .w ⊖ shoulderX ⊖ k136) (b .mainy) k64 k64;
+      select = newOf (b .w ⊘ k2 ⊖ k104) (b .h ⊖ bottom ⊖ k80) k80 k80;
+      start = newOf (b .w ⊘ k2 ⊕ k24) (b .h ⊖ bottom ⊖ k80) k80 k80;
       l3 = emptyRect;
       r3 = emptyRect;
     }
@@ -77,18 +75,15 @@ plainPlacesOf b =
 -- deep: a row of keys below the wells
 unfoldable pub deepPlacesOf : Band → Places
 deepPlacesOf b =
-    let rowY = b .h ⊖ k4 ⊖ k48 in
+    let rowY = b .h ⊖ bottom ⊖ k48 in
     record {
-      tri = b .faces .tri;
-      o = b .faces .o;
-      x = b .faces .x;
-      sq = b .faces .sq;
-      l1 = newOf (b .x) rowY k48 k48;
-      l2 = newOf (b .x ⊕ k56) rowY k48 k48;
-      l3 = newOf (b .x ⊕ k112) rowY k48 k48;
-      r1 = newOf (b .w ⊖ b .x ⊖ k48) rowY k48 k48;
-      r2 = newOf (b .w ⊖ b .x ⊖ k104) rowY k48 k48;
-      r3 = newOf (b .w ⊖ b .x ⊖ k160) rowY k48 k48;
+      faces = b .faces;
+      l1 = newOf (b .digitalx) rowY k48 k48;
+      l2 = newOf (b .digitalx ⊕ k56) rowY k48 k48;
+      l3 = newOf (b .digitalx ⊕ k112) rowY k48 k48;
+      r1 = newOf (b .w ⊖ b .digitalx ⊖ k48) rowY k48 k48;
+      r2 = newOf (b .w ⊖ b .digitalx ⊖ k104) rowY k48 k48;
+      r3 = newOf (b .w ⊖ b .digitalx ⊖ k160) rowY k48 k48;
       select = newOf (b .w ⊘ k2 ⊖ k52) (rowY ⊖ k48) k48 k48;
       start = newOf (b .w ⊘ k2 ⊕ k4) (rowY ⊖ k48) k48 k48;
     }
@@ -97,14 +92,11 @@ deepPlacesOf b =
 unfoldable pub rowPlacesOf : Band → Places
 rowPlacesOf b =
     let auxiliaryX = (b .w ⊖ k204) ⊘ k2 in
-    let auxiliaryY = b .h ⊖ k4 ⊖ k100 in
+    let auxiliaryY = b .h ⊖ bottom ⊖ k100 in
     let upper = auxiliaryY ⊕ k0 ⊗ k52 in
     let lower = auxiliaryY ⊕ k1 ⊗ k52 in
     record {
-      tri = b .faces .tri;
-      o = b .faces .o;
-      x = b .faces .x;
-      sq = b .faces .sq;
+      faces = b .faces;
       l1 = newOf (auxiliaryX ⊕ k0 ⊗ k52) upper k48 k48;
       l2 = newOf (auxiliaryX ⊕ k1 ⊗ k52) upper k48 k48;
       r2 = newOf (auxiliaryX ⊕ k2 ⊗ k52) upper k48 k48;
@@ -134,16 +126,27 @@ withAnalogOf l l3 r3 left right =
       stickcount = 2;
     }
 
--- the controls of a standard layout moved into the band
-abbrev pub bandedFrom : Layout → Float → Float → Bool → Bool → Band → Layout
-bandedFrom standard w h analog deep b =
-    let places = bandPlacesOf analog deep b in
-    let layout = withDpad (placedOf standard places) (newOf (b .x) (b .y) (b .face) (b .face)) in
-    let y = h ⊖ k4 ⊖ b .stick in
-    cond analog (withAnalogOf layout (places .l3) (places .r3) (newOf (b .outer) y (b .stick) (b .stick)) (newOf (w ⊖ b .outer ⊖ b .stick) y (b .stick) (b .stick))) layout
+abbrev pub bandDpad : Band → Rect
+bandDpad b = newOf (b .digitalx) (b .mainy) (b .face) (b .face)
 
+abbrev pub leftStick : Band → Rect
+leftStick b = newOf (b .outer) (b .h ⊖ bottom ⊖ b .stick) (b .stick) (b .stick)
+
+abbrev pub rightStick : Band → Rect
+rightStick b = newOf (b .w ⊖ b .outer ⊖ b .stick) (b .h ⊖ bottom ⊖ b .stick) (b .stick) (b .stick)
+
+-- the controls of `arranged` moved into the band
 unfoldable pub bandedOf : Float → Float → Bool → Bool → Band → Layout
-bandedOf w h analog deep b = bandedFrom (arrangedOf w h false) w h analog deep b
+bandedOf w h analog deep b =
+    let places = bandPlacesOf analog deep b in
+    let layout = withDpad (placedOf (arrangedOf w h false) places) (bandDpad b) in
+    cond analog (withAnalogOf layout (places .l3) (places .r3) (leftStick b) (rightStick b)) layout
+
+-- An inner function of the code: these controls, without toolbar and game (`band-anew` of proofs/Anew).
+unfoldable pub bandControlsOf : Bool → Bool → Band → Layout
+bandControlsOf analog deep b =
+    let places = bandPlacesOf analog deep b in
+    cond analog (controllerOf places (bandDpad b) 12 (leftStick b ∷ rightStick b ∷ []) 2) (controllerOf places (bandDpad b) 10 (replicate 2 emptyRect) 0)
 
 unfoldable pub controllerBandOf : Float → Float → Bool → Bool → Rect → Option Layout
 controllerBandOf w h analog psp picture =
@@ -151,4 +154,4 @@ controllerBandOf w h analog psp picture =
     let anchored = anchorToolbarOf (bandedOf w h analog (room .deep) (measureBandOf w h analog room)) w h (maxOf (neg (picture .y)) k0) k0 [] in
     cond (lt w k800 || (lt h k600 || lt (h ⊗ k1·35) w)) none
     (cond (lt (room .face) k122) none
-    (some (placeGameInAspectOf (cond psp (pspInputsOf anchored) anchored) picture false k1 middle (aspectOf psp))))
+    (some (placeGameInAspectOf (cond psp (pspInputsOf anchored) anchored) picture false k1 centred (aspectOf psp))))

@@ -12,7 +12,7 @@ use Rattle.layout.specs.declared.Layout.{Layout}
 use Rattle.layout.specs.Psp.{pspInputsOf}
 use Rattle.search.specs.Search.{placeGameInAspectOf}
 use Rattle.toolbar.specs.Toolbar.{anchorToolbarOf}
-use Rattle.arranged.specs.Arranged.{middle}
+use Rattle.arranged.specs.Arranged.{centred}
 use Rattle.band.specs.declared.Room.{Room}
 use Rattle.band.specs.Band.{aspectOf, findRoomOf, measureBandOf, bandedOf, controllerBandOf}
 
@@ -27,7 +27,7 @@ module _ (w h : Float) (analog psp : Bool) (picture : Rect) where
   bandAnchored = anchorToolbarOf bandLayout w h (maxOf (neg (picture .y)) k0) k0 []
 
   abbrev made : Layout
-  made = placeGameInAspectOf (cond psp (pspInputsOf bandAnchored) bandAnchored) picture false k1 middle (aspectOf psp)
+  made = placeGameInAspectOf (cond psp (pspInputsOf bandAnchored) bandAnchored) picture false k1 centred (aspectOf psp)
 
   pub controller-band-case : (C : Layout → Type 0) {l : Layout} → (T (not (lt (bandRoom .face) k122)) → C made) → controllerBandOf w h analog psp picture ≡ some l → C l
   unfolding controllerBandOf

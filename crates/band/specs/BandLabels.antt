@@ -21,7 +21,8 @@ use Rattle.layout.specs.Psp.{atMostOneOf, pspInputsOf}
 use Rattle.layout.proofs.Stores.{stored}
 use Rattle.search.specs.Search.{placeGameInAspectOf}
 use Rattle.toolbar.specs.Toolbar.{anchorToolbarOf}
-use Rattle.arranged.specs.Arranged.{control, arrangedOf}
+use Rattle.arranged.specs.Places.{control}
+use Rattle.arranged.specs.Arranged.{arrangedOf}
 use Rattle.arranged.specs.ArrangedLabels.{placed-formed, arranged-formed}
 use Rattle.band.specs.declared.Band.{Band}
 use Rattle.band.specs.Band.{measureBandOf, withAnalogOf, bandedOf, controllerBandOf}

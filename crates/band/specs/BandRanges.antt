@@ -8,13 +8,12 @@ use lib.Ieee.{Float}
 use lib.ListN.{set}
 use Rattle.float.specs.Float.{k1, k122}
 use Rattle.geometry.specs.declared.Rect.{Rect}
-use Rattle.geometry.specs.Rect.{newOf, emptyRect}
+use Rattle.geometry.specs.Choice.{either}
 use Rattle.layout.specs.declared.Label.the-variants.{L3, R3}
 use Rattle.layout.specs.declared.Layout.{Layout}
-use Rattle.layout.specs.Layout.{withDpad}
 use Rattle.layout.specs.Psp.{pspInputsOf}
 use Rattle.numerics.specs.Value.{Le}
-use Rattle.numerics.specs.Rects.{Area, OnScreen, margin}
+use Rattle.numerics.specs.Rects.{Area}
 use Rattle.numerics.specs.Range.{In, at, minus}
 use Rattle.numerics.specs.Each.{_&_}
 use Rattle.numerics.specs.Lists.{each-set}
@@ -26,9 +25,9 @@ use Rattle.search.specs.Bounded.{Every, Arranged}
 use Rattle.search.proofs.Layouts.{place-bounded}
 use Rattle.search.proofs.Changes.{dpad-in, psp-in}
 use Rattle.toolbar.specs.ToolbarRanges.{uncovered-in, anchor-in}
-use Rattle.arranged.specs.Places.{placedOf}
-use Rattle.arranged.specs.Arranged.{control, middle, arrangedOf}
-use Rattle.arranged.specs.PlaceRanges.{Coordinate, coordinate, cap-in, step-in, FacesIn, faces-in, PlacesIn, controls-placed}
+use Rattle.arranged.specs.Places.{control}
+use Rattle.arranged.specs.Arranged.{centred}
+use Rattle.arranged.specs.PlaceRanges.{Coordinate, coordinate, cap-in, step-in, FacesIn, faces-in, PlacesIn, empty-in, controls-placed}
 use Rattle.arranged.specs.ArrangedRanges.{arranged-in}
 use Rattle.band.specs.declared.Room.{Room}
 use Rattle.band.specs.declared.Band.{Band}
@@ -57,8 +56,8 @@ record BandIn (b : Band) : Type 0 where
   pub outer : In (b .outer) (at 8) (at 28)
   pub face : In (b .face) (at 122) (at 184)
   pub stick : In (b .stick) (at 122) (at 184)
-  pub x : In (b .x) (at 0) (at 256)
-  pub y : Coordinate (b .y)
+  pub digitalx : In (b .digitalx) (at 0) (at 256)
+  pub mainy : Coordinate (b .mainy)
   pub faces : FacesIn (b .faces)
 
 measured-in : {w h : Float} (analog : Bool) {room : Room} → In w (at 0) (at 8192) → In h (at 0) (at 8192) → RoomIn room → In (room .face) (at 122) (at 184) → BandIn (measureBandOf w h analog room)
@@ -78,8 +77,8 @@ measured-in analog {room} W H R face =
       outer = R .outer;
       face = face;
       stick = stick;
-      x = x;
-      y = coordinate y tt;
+      digitalx = x;
+      mainy = coordinate y tt;
       faces = faces-in (coordinate (sub-in (sub-in W x tt) half tt) tt) (coordinate (add-in y half tt) tt) step step cap;
     }
 
@@ -92,37 +91,30 @@ module _ {b : Band} (B : BandIn b) where
       let right = sub-in (B .w) x tt in
       let half = div-in (B .w) f2 tt in
       let low = sub-in (sub-in (B .h) i4 tt) i80 tt in
-      let none : OnScreen margin emptyRect = placed-in i0 i0 i0 i0 tt in
       record {
-        tri = B .faces .tri;
-        o = B .faces .o;
-        x = B .faces .x;
-        sq = B .faces .sq;
-        l1 = placed-in x (B .y) i64 i64 tt;
-        l2 = placed-in (add-in x i72 tt) (B .y) i64 i64 tt;
-        r1 = placed-in (sub-in right i64 tt) (B .y) i64 i64 tt;
-        r2 = placed-in (sub-in right i136 tt) (B .y) i64 i64 tt;
+        faces = B .faces;
+        l1 = placed-in x (B .mainy) i64 i64 tt;
+        l2 = placed-in (add-in x i72 tt) (B .mainy) i64 i64 tt;
+        r1 = placed-in (sub-in right i64 tt) (B .mainy) i64 i64 tt;
+        r2 = placed-in (sub-in right i136 tt) (B .mainy) i64 i64 tt;
         select = placed-in (sub-in half i104 tt) low i80 i80 tt;
         start = placed-in (add-in half i24 tt) low i80 i80 tt;
-        l3 = none;
-        r3 = none;
+        l3 = empty-in;
+        r3 = empty-in;
       }
 
   deep-in : PlacesIn (deepPlacesOf b)
   unfolding deepPlacesOf
   deep-in =
-      let right = sub-in (B .w) (B .x) tt in
+      let right = sub-in (B .w) (B .digitalx) tt in
       let half = div-in (B .w) f2 tt in
       let low = sub-in (sub-in (B .h) i4 tt) i48 tt in
       let upper = sub-in low i48 tt in
       record {
-        tri = B .faces .tri;
-        o = B .faces .o;
-        x = B .faces .x;
-        sq = B .faces .sq;
-        l1 = placed-in (B .x) low i48 i48 tt;
-        l2 = placed-in (add-in (B .x) i56 tt) low i48 i48 tt;
-        l3 = placed-in (add-in (B .x) i112 tt) low i48 i48 tt;
+        faces = B .faces;
+        l1 = placed-in (B .digitalx) low i48 i48 tt;
+        l2 = placed-in (add-in (B .digitalx) i56 tt) low i48 i48 tt;
+        l3 = placed-in (add-in (B .digitalx) i112 tt) low i48 i48 tt;
         r1 = placed-in (sub-in right i48 tt) low i48 i48 tt;
         r2 = placed-in (sub-in right i104 tt) low i48 i48 tt;
         r3 = placed-in (sub-in right i160 tt) low i48 i48 tt;
@@ -144,10 +136,7 @@ module _ {b : Band} (B : BandIn b) where
       let upper = add-in y none tt in
       let lower = add-in y one tt in
       record {
-        tri = B .faces .tri;
-        o = B .faces .o;
-        x = B .faces .x;
-        sq = B .faces .sq;
+        faces = B .faces;
         l1 = placed-in x0 upper i48 i48 tt;
         l2 = placed-in x1 upper i48 i48 tt;
         r2 = placed-in x2 upper i48 i48 tt;
@@ -179,21 +168,17 @@ with-analog-in {C} {l = l} {l3 = l3} {r3 = r3} L e f left right =
 
 banded-in : {w h : Float} (analog deep : Bool) {b : Band} → In w (at 0) (at 8192) → In h (at 0) (at 8192) → BandIn b → Arranged (bandedOf w h analog deep b)
 unfolding bandedOf
-banded-in {w} {h} analog deep {b} W H B = go analog
-  where
-    placed : (a : Bool) → Arranged (withDpad (placedOf (arrangedOf w h false) (bandPlacesOf a deep b)) (newOf (b .x) (b .y) (b .face) (b .face)))
-    placed a = dpad-in (controls-placed (λ r P. P) (arranged-in false W H) (band-places-in B a deep)) (placed-in (B .x) (B .y) (B .face) (B .face) tt)
-
-    go : (a : Bool) → Arranged (bandedOf w h a deep b)
-    go false = placed false
-    go true =
-        let y = sub-in (sub-in H i4 tt) (B .stick) tt in
-        let places = band-places-in B true deep in
-        with-analog-in (placed true) (places .l3) (places .r3) (placed-in (B .outer) y (B .stick) (B .stick) tt) (placed-in (sub-in (sub-in W (B .outer) tt) (B .stick) tt) y (B .stick) (B .stick) tt)
+banded-in {w} {h} analog deep {b} W H B =
+    let places = band-places-in B analog deep in
+    let placed = dpad-in (controls-placed (λ r P. P) (arranged-in false W H) places) (placed-in (B .digitalx) (B .mainy) (B .face) (B .face) tt) in
+    let y = sub-in (sub-in (B .h) i4 tt) (B .stick) tt in
+    let left = placed-in (B .outer) y (B .stick) (B .stick) tt in
+    let right = placed-in (sub-in (sub-in (B .w) (B .outer) tt) (B .stick) tt) y (B .stick) (B .stick) tt in
+    either Arranged analog (with-analog-in placed (places .l3) (places .r3) left right) placed
 
 pub band-in : {w h : Float} (analog psp : Bool) {picture : Rect} {l : Layout} → In w (at 0) (at 8192) → In h (at 0) (at 8192) → Area picture → controllerBandOf w h analog psp picture ≡ some l → Arranged l
 band-in {w} {h} analog psp {picture} W H A e =
-    controller-band-case w h analog psp picture Arranged (λ t. place-bounded (inputs psp (anchored (lt-not 1 (room .face) k122 (R .face .whole) (i122 .whole) t))) picture false k1 middle (aspectOf psp)) e
+    controller-band-case w h analog psp picture Arranged (λ t. place-bounded (inputs (anchored (lt-not 1 (room .face) k122 (R .face .whole) (i122 .whole) t))) picture false k1 centred (aspectOf psp)) e
   where
     room : Room
     room = bandRoom w h analog psp picture
@@ -211,6 +196,5 @@ band-in {w} {h} analog psp {picture} W H A e =
         let banded = bandLayout w h analog psp picture in
         anchor-in banded [] W H top (in-more (minus 8192) (at 8192) i0 tt tt) (uncovered-in banded [] tt) L
 
-    inputs : (b : Bool) → Arranged layout → Arranged (cond b (pspInputsOf layout) layout)
-    inputs true L = psp-in L
-    inputs false L = L
+    inputs : Arranged layout → Arranged (cond psp (pspInputsOf layout) layout)
+    inputs L = either Arranged psp (psp-in L) L

@@ -1,48 +1,46 @@
 // `controller_band` of input.rs: mirrored controls in the room that a picture of full width leaves.
 ghost use mathlib.Core.Path.{_≡_};
-ghost use mathlib.Core.Bool.{false, cond};
-ghost use Prim.Native.Nat.{_+_, _≤_};
+ghost use mathlib.Core.Bool.{cond};
+ghost use Prim.Native.Nat.{_≤_};
 ghost use Rattle.layout.specs.Psp.{pspInputsOf};
-ghost use Rattle.arranged.specs.Arranged.{dockedOf};
 ghost use Rattle.arranged.specs.Places.{maybe};
-ghost use Rattle.band.specs.Band.{findRoomOf, measureBandOf, plainPlacesOf, deepPlacesOf, rowPlacesOf, bandPlacesOf, withAnalogOf, bandedFrom, aspectOf, controllerBandOf};
+ghost use Rattle.band.specs.Band.{findRoomOf, measureBandOf, plainPlacesOf, deepPlacesOf, rowPlacesOf, bandPlacesOf, bandControlsOf, aspectOf, controllerBandOf};
+use arranged::BOTTOM;
+use arranged::CENTRED;
+use arranged::EMPTY;
 use arranged::Faces;
 use arranged::MaybeLayout;
+use arranged::NO_CUTOUTS;
 use arranged::Places;
 use arranged::cap;
-use arranged::docked;
+use arranged::controller;
 use arranged::no_layout;
 use arranged::place_faces;
-use arranged::placed;
 use float::clamp;
 use float::max;
 use float::min;
 use float::pick;
 use geometry::Rect;
-use layout::Control;
-use layout::Cutouts;
-use layout::Label;
 use layout::Layout;
-use search::Offset;
 use toolbar::TOOLBAR_HEIGHT;
 
 // The room below the whole picture and the width of a digital well in it.
-pub struct Room {
-    pub available: f32,
-    pub deep: bool,
-    pub outer: f32,
-    pub face: f32,
+struct Room {
+    available: f32,
+    deep: bool,
+    outer: f32,
+    face: f32,
 }
 
-pub struct Band {
-    pub w: f32,
-    pub h: f32,
-    pub outer: f32,
-    pub face: f32,
-    pub stick: f32,
-    pub x: f32,
-    pub y: f32,
-    pub faces: Faces,
+struct Band {
+    w: f32,
+    h: f32,
+    outer: f32,
+    face: f32,
+    stick: f32,
+    digitalx: f32,
+    mainy: f32,
+    faces: Faces,
 }
 
 fn find_room(w: f32, h: f32, analog: bool, psp: bool, picture: Rect) -> Room
@@ -50,7 +48,7 @@ fn find_room(w: f32, h: f32, analog: bool, psp: bool, picture: Rect) -> Room
 {
     let picture_height = pick(psp, w * 272.0 / 480.0, w * 0.75);
     let headroom = h - (picture.y + TOOLBAR_HEIGHT + picture_height);
-    let available = headroom - 4.0;
+    let available = headroom - BOTTOM;
     let deep = analog & (headroom >= 192.0);
     let outer = pick(deep, 8.0, 28.0);
     let width_limit = pick(
@@ -75,27 +73,23 @@ fn measure_band(w: f32, h: f32, analog: bool, room: Room) -> Band
     let digital_gap = clamp(room.available - face - 48.0, 8.0, 16.0);
     let main_y = pick(
         room.deep,
-        h - 4.0 - 48.0 - digital_gap - face,
-        h - 4.0 - face,
+        h - BOTTOM - 48.0 - digital_gap - face,
+        h - BOTTOM - face,
     );
     let digital_x = pick(analog, room.outer + stick + 8.0, room.outer);
-    let size = cap(face);
-    let step = (face - size) / 2.0;
-    let faces = place_faces(
-        w - digital_x - face / 2.0,
-        main_y + face / 2.0,
-        step,
-        step,
-        size,
-    );
+    let cap = cap(face);
+    let step = (face - cap) / 2.0;
+    let fx = w - digital_x - face / 2.0;
+    let fy = main_y + face / 2.0;
+    let faces = place_faces(fx, fy, step, step, cap);
     Band {
         w,
         h,
         outer: room.outer,
         face,
         stick,
-        x: digital_x,
-        y: main_y,
+        digitalx: digital_x,
+        mainy: main_y,
         faces,
     }
 }
@@ -105,61 +99,18 @@ fn plain_places(b: Band) -> Places
     ensures { λ r. ⌜ r ≡ plainPlacesOf b ⌝ }
 {
     let faces = b.faces;
-    let tri = faces.tri;
-    let o = faces.o;
-    let x = faces.x;
-    let sq = faces.sq;
     let shoulder_x = b.outer + b.face + 8.0;
-    let system_y = b.h - 4.0 - 80.0;
-    let none = Rect {
-        x: 0.0,
-        y: 0.0,
-        w: 0.0,
-        h: 0.0,
-    };
+    let system_y = b.h - BOTTOM - 80.0;
     Places {
-        tri,
-        o,
-        x,
-        sq,
-        l1: Rect {
-            x: shoulder_x,
-            y: b.y,
-            w: 64.0,
-            h: 64.0,
-        },
-        l2: Rect {
-            x: shoulder_x + 72.0,
-            y: b.y,
-            w: 64.0,
-            h: 64.0,
-        },
-        r2: Rect {
-            x: b.w - shoulder_x - 136.0,
-            y: b.y,
-            w: 64.0,
-            h: 64.0,
-        },
-        r1: Rect {
-            x: b.w - shoulder_x - 64.0,
-            y: b.y,
-            w: 64.0,
-            h: 64.0,
-        },
-        select: Rect {
-            x: b.w / 2.0 - 104.0,
-            y: system_y,
-            w: 80.0,
-            h: 80.0,
-        },
-        start: Rect {
-            x: b.w / 2.0 + 24.0,
-            y: system_y,
-            w: 80.0,
-            h: 80.0,
-        },
-        l3: none,
-        r3: none,
+        faces,
+        l1: Rect::new(shoulder_x, b.mainy, 64.0, 64.0),
+        l2: Rect::new(shoulder_x + 72.0, b.mainy, 64.0, 64.0),
+        r2: Rect::new(b.w - shoulder_x - 136.0, b.mainy, 64.0, 64.0),
+        r1: Rect::new(b.w - shoulder_x - 64.0, b.mainy, 64.0, 64.0),
+        select: Rect::new(b.w / 2.0 - 104.0, system_y, 80.0, 80.0),
+        start: Rect::new(b.w / 2.0 + 24.0, system_y, 80.0, 80.0),
+        l3: EMPTY,
+        r3: EMPTY,
     }
 }
 
@@ -168,64 +119,17 @@ fn deep_places(b: Band) -> Places
     ensures { λ r. ⌜ r ≡ deepPlacesOf b ⌝ }
 {
     let faces = b.faces;
-    let tri = faces.tri;
-    let o = faces.o;
-    let x = faces.x;
-    let sq = faces.sq;
-    let row_y = b.h - 4.0 - 48.0;
+    let row_y = b.h - BOTTOM - 48.0;
     Places {
-        tri,
-        o,
-        x,
-        sq,
-        l1: Rect {
-            x: b.x,
-            y: row_y,
-            w: 48.0,
-            h: 48.0,
-        },
-        l2: Rect {
-            x: b.x + 56.0,
-            y: row_y,
-            w: 48.0,
-            h: 48.0,
-        },
-        r2: Rect {
-            x: b.w - b.x - 104.0,
-            y: row_y,
-            w: 48.0,
-            h: 48.0,
-        },
-        r1: Rect {
-            x: b.w - b.x - 48.0,
-            y: row_y,
-            w: 48.0,
-            h: 48.0,
-        },
-        select: Rect {
-            x: b.w / 2.0 - 52.0,
-            y: row_y - 48.0,
-            w: 48.0,
-            h: 48.0,
-        },
-        start: Rect {
-            x: b.w / 2.0 + 4.0,
-            y: row_y - 48.0,
-            w: 48.0,
-            h: 48.0,
-        },
-        l3: Rect {
-            x: b.x + 112.0,
-            y: row_y,
-            w: 48.0,
-            h: 48.0,
-        },
-        r3: Rect {
-            x: b.w - b.x - 160.0,
-            y: row_y,
-            w: 48.0,
-            h: 48.0,
-        },
+        faces,
+        l1: Rect::new(b.digitalx, row_y, 48.0, 48.0),
+        l2: Rect::new(b.digitalx + 56.0, row_y, 48.0, 48.0),
+        r2: Rect::new(b.w - b.digitalx - 104.0, row_y, 48.0, 48.0),
+        r1: Rect::new(b.w - b.digitalx - 48.0, row_y, 48.0, 48.0),
+        select: Rect::new(b.w / 2.0 - 52.0, row_y - 48.0, 48.0, 48.0),
+        start: Rect::new(b.w / 2.0 + 4.0, row_y - 48.0, 48.0, 48.0),
+        l3: Rect::new(b.digitalx + 112.0, row_y, 48.0, 48.0),
+        r3: Rect::new(b.w - b.digitalx - 160.0, row_y, 48.0, 48.0),
     }
 }
 
@@ -234,67 +138,20 @@ fn row_places(b: Band) -> Places
     ensures { λ r. ⌜ r ≡ rowPlacesOf b ⌝ }
 {
     let faces = b.faces;
-    let tri = faces.tri;
-    let o = faces.o;
-    let x = faces.x;
-    let sq = faces.sq;
     let auxiliary_x = (b.w - 204.0) / 2.0;
-    let auxiliary_y = b.h - 4.0 - 100.0;
+    let auxiliary_y = b.h - BOTTOM - 100.0;
     let upper = auxiliary_y + 0.0 * 52.0;
     let lower = auxiliary_y + 1.0 * 52.0;
     Places {
-        tri,
-        o,
-        x,
-        sq,
-        l1: Rect {
-            x: auxiliary_x + 0.0 * 52.0,
-            y: upper,
-            w: 48.0,
-            h: 48.0,
-        },
-        l2: Rect {
-            x: auxiliary_x + 1.0 * 52.0,
-            y: upper,
-            w: 48.0,
-            h: 48.0,
-        },
-        r2: Rect {
-            x: auxiliary_x + 2.0 * 52.0,
-            y: upper,
-            w: 48.0,
-            h: 48.0,
-        },
-        r1: Rect {
-            x: auxiliary_x + 3.0 * 52.0,
-            y: upper,
-            w: 48.0,
-            h: 48.0,
-        },
-        select: Rect {
-            x: auxiliary_x + 1.0 * 52.0,
-            y: lower,
-            w: 48.0,
-            h: 48.0,
-        },
-        start: Rect {
-            x: auxiliary_x + 2.0 * 52.0,
-            y: lower,
-            w: 48.0,
-            h: 48.0,
-        },
-        l3: Rect {
-            x: auxiliary_x + 0.0 * 52.0,
-            y: lower,
-            w: 48.0,
-            h: 48.0,
-        },
-        r3: Rect {
-            x: auxiliary_x + 3.0 * 52.0,
-            y: lower,
-            w: 48.0,
-            h: 48.0,
-        },
+        faces,
+        l1: Rect::new(auxiliary_x + 0.0 * 52.0, upper, 48.0, 48.0),
+        l2: Rect::new(auxiliary_x + 1.0 * 52.0, upper, 48.0, 48.0),
+        r2: Rect::new(auxiliary_x + 2.0 * 52.0, upper, 48.0, 48.0),
+        r1: Rect::new(auxiliary_x + 3.0 * 52.0, upper, 48.0, 48.0),
+        select: Rect::new(auxiliary_x + 1.0 * 52.0, lower, 48.0, 48.0),
+        start: Rect::new(auxiliary_x + 2.0 * 52.0, lower, 48.0, 48.0),
+        l3: Rect::new(auxiliary_x + 0.0 * 52.0, lower, 48.0, 48.0),
+        r3: Rect::new(auxiliary_x + 3.0 * 52.0, lower, 48.0, 48.0),
     }
 }
 
@@ -310,60 +167,20 @@ fn band_places(analog: bool, deep: bool, b: Band) -> Places
     plain_places(b)
 }
 
-// L3, R3 and the two sticks added.
-fn with_analog(l: Layout, l3: Rect, r3: Rect, left: Rect, right: Rect) -> Layout
-    requires { ⌜ l .count ≤ 10 ⌝ }
-    ensures { λ r. ⌜ (r ≡ withAnalogOf l l3 r3 left right) × (r .count ≡ l .count + 2) × (r .stickcount ≡ 2) ⌝ }
-{
-    let n = l.count;
-    let sticks = [left, right];
-    let mut out = l;
-    out.controls[n] = Control {
-        bounds: l3,
-        label: Label::L3,
-    };
-    out.controls[n + 1] = Control {
-        bounds: r3,
-        label: Label::R3,
-    };
-    out.count = n + 2;
-    out.sticks = sticks;
-    out.stickcount = 2;
-    out
-}
-
 // Without toolbar and game, which are put in place afterwards.
-fn banded(w: f32, h: f32, analog: bool, deep: bool, b: Band) -> Layout
-    ensures { λ r. ⌜ (r ≡ bandedFrom (dockedOf w h false) w h analog deep b) × (r .count ≤ 12) × (r .stickcount ≤ 2) ⌝ }
+fn band_controls(analog: bool, deep: bool, b: Band) -> Layout
+    ensures { λ r. ⌜ (r ≡ bandControlsOf analog deep b) × (r .count ≤ 12) × (r .stickcount ≤ 2) ⌝ }
 {
     let places = band_places(analog, deep, b);
-    let dpad = Rect {
-        x: b.x,
-        y: b.y,
-        w: b.face,
-        h: b.face,
-    };
-    let mut layout = placed(docked(w, h, false), places);
-    layout.dpad = dpad;
+    let dpad = Rect::new(b.digitalx, b.mainy, b.face, b.face);
     if analog {
-        let l3 = places.l3;
-        let r3 = places.r3;
-        let y = h - 4.0 - b.stick;
-        let left = Rect {
-            x: b.outer,
-            y,
-            w: b.stick,
-            h: b.stick,
-        };
-        let right = Rect {
-            x: w - b.outer - b.stick,
-            y,
-            w: b.stick,
-            h: b.stick,
-        };
-        return with_analog(layout, l3, r3, left, right);
+        let y = b.h - BOTTOM - b.stick;
+        let left = Rect::new(b.outer, y, b.stick, b.stick);
+        let right = Rect::new(b.w - b.outer - b.stick, y, b.stick, b.stick);
+        let sticks = [left, right];
+        return controller(places, dpad, 12, sticks, 2);
     }
-    layout
+    controller(places, dpad, 10, [EMPTY; 2], 0)
 }
 
 // A psp has some of the inputs only.
@@ -394,26 +211,16 @@ pub fn controller_band(w: f32, h: f32, analog: bool, psp: bool, picture: Rect) -
     if room.face < 122.0 {
         return no_layout();
     }
-    let none = Rect {
-        x: 0.0,
-        y: 0.0,
-        w: 0.0,
-        h: 0.0,
-    };
-    let cutouts = Cutouts {
-        at: [none; 16],
-        count: 0,
-    };
     let band = measure_band(w, h, analog, room);
-    let placed = banded(w, h, analog, room.deep, band);
+    let controls = band_controls(analog, room.deep, band);
     let reusable_top = max(-picture.y, 0.0);
-    let anchored = toolbar::anchor_toolbar(placed, w, h, reusable_top, 0.0, cutouts);
+    let anchored = toolbar::anchor_toolbar(controls, w, h, reusable_top, 0.0, NO_CUTOUTS);
     let layout = search::place_game_in_aspect(
         with_inputs(anchored, psp),
         picture,
         false,
         1.0,
-        Offset { x: 0.5, y: 0.5 },
+        CENTRED,
         aspect(psp),
     );
     MaybeLayout { some: true, layout }

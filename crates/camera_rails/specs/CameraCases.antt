@@ -10,7 +10,7 @@ use Rattle.geometry.specs.declared.Rect.{Rect}
 use Rattle.layout.specs.declared.Layout.{Layout}
 use Rattle.layout.specs.Layout.{elementsOf}
 use Rattle.search.specs.Search.{placeGameInAspectOf}
-use Rattle.arranged.specs.Arranged.{middle}
+use Rattle.arranged.specs.Arranged.{centred}
 use Rattle.band.specs.Band.{aspectOf}
 use Rattle.cutouts.specs.Cutouts.{hitsOf, avoidCutoutsOf}
 use Rattle.camera_rails.specs.CameraRails.{measureRailOf, sizeFaceOf, anchoredRailsOf, analogCameraRailsOf}
@@ -26,7 +26,7 @@ module _ (w h : Float) (picture : Rect) (cutouts : List Rect) (psp : Bool) where
   cameraLayout = anchoredRailsOf w h picture cutouts psp cameraRail cameraFace
 
   abbrev made : Layout
-  made = placeGameInAspectOf (avoidCutoutsOf cameraLayout w h cutouts) picture false k1 middle (aspectOf psp)
+  made = placeGameInAspectOf (avoidCutoutsOf cameraLayout w h cutouts) picture false k1 centred (aspectOf psp)
 
   pub camera-case : (C : Layout → Type 0) {l : Layout} → (T (not (lt cameraRail k184)) → T (not (lt cameraFace k122)) → C made) → analogCameraRailsOf w h picture cutouts psp ≡ some l → C l
   unfolding analogCameraRailsOf

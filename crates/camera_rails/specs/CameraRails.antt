@@ -15,7 +15,7 @@ use Rattle.search.specs.Search.{placeGameInAspectOf}
 use Rattle.toolbar.specs.Toolbar.{anchorToolbarOf}
 use Rattle.arranged.specs.declared.Places.{Places}
 use Rattle.arranged.specs.Places.{capOf, placeFacesOf, placedOf}
-use Rattle.arranged.specs.Arranged.{middle}
+use Rattle.arranged.specs.Arranged.{centred}
 use Rattle.band.specs.Band.{aspectOf}
 use Rattle.defaults.specs.Defaults.{analogDefaultOf}
 use Rattle.cutouts.specs.Cutouts.{hitsOf, avoidCutoutsOf}
@@ -29,6 +29,12 @@ measureRailOf w picture psp =
 -- below the compact toolbar and a gap
 abbrev pub top : Float
 top = k32
+
+abbrev pub stick : Float
+stick = k128
+
+abbrev pub outer : Float
+outer = k4
 
 -- a cutout reaches below the top of a rail
 unfoldable pub inRailOf : Float → Float → Rect → Bool
@@ -49,29 +55,26 @@ cameraPlacesOf w rail face =
     let auxiliaryY = top ⊕ face ⊕ k8 in
     let cap = capOf face in
     let step = (face ⊖ cap) ⊘ k2 in
-    let faces = placeFacesOf (w ⊖ k4 ⊖ face ⊘ k2) (top ⊕ face ⊘ k2) step step cap in
     let inner = rail ⊖ k48 in
+    let right = w ⊖ inner ⊖ k48 in
     record {
-      tri = faces .tri;
-      o = faces .o;
-      x = faces .x;
-      sq = faces .sq;
+      faces = placeFacesOf (w ⊖ outer ⊖ face ⊘ k2) (top ⊕ face ⊘ k2) step step cap;
       l1 = newOf inner (auxiliaryY ⊕ k52) k48 k48;
       l2 = newOf inner auxiliaryY k48 k48;
-      r2 = newOf (w ⊖ inner ⊖ k48) auxiliaryY k48 k48;
-      r1 = newOf (w ⊖ inner ⊖ k48) (auxiliaryY ⊕ k52) k48 k48;
+      r2 = newOf right auxiliaryY k48 k48;
+      r1 = newOf right (auxiliaryY ⊕ k52) k48 k48;
       select = newOf inner (auxiliaryY ⊕ k104) k48 k48;
-      start = newOf (w ⊖ inner ⊖ k48) (auxiliaryY ⊕ k104) k48 k48;
+      start = newOf right (auxiliaryY ⊕ k104) k48 k48;
       l3 = newOf inner (auxiliaryY ⊕ k156) k48 k48;
-      r3 = newOf (w ⊖ inner ⊖ k48) (auxiliaryY ⊕ k156) k48 k48;
+      r3 = newOf right (auxiliaryY ⊕ k156) k48 k48;
     }
 
 -- The sticks of `analog_default` are two, and stay so.
 unfoldable pub cameraRailedOf : Float → Float → Float → Float → Layout
 cameraRailedOf w h rail face =
-    let mainY = h ⊖ k24 ⊖ k128 in
-    let layout = withDpad (placedOf (analogDefaultOf w h) (cameraPlacesOf w rail face)) (newOf k4 top face face) in
-    withSticks layout (newOf k4 mainY k128 k128 ∷ newOf (w ⊖ k4 ⊖ k128) mainY k128 k128 ∷ [])
+    let mainY = h ⊖ k24 ⊖ stick in
+    let layout = withDpad (placedOf (analogDefaultOf w h) (cameraPlacesOf w rail face)) (newOf outer top face face) in
+    withSticks layout (newOf outer mainY stick stick ∷ newOf (w ⊖ outer ⊖ stick) mainY stick stick ∷ [])
 
 -- with the inputs of a psp, and the toolbar in its place
 unfoldable pub anchoredRailsOf : Float → Float → Rect → List Rect → Bool → Float → Float → Layout
@@ -89,4 +92,4 @@ analogCameraRailsOf w h picture cutouts psp =
     (cond (lt rail k184) none
     (cond (lt face k122) none
     (cond (hitsOf (elementsOf layout) cutouts) none
-    (some (placeGameInAspectOf (avoidCutoutsOf layout w h cutouts) picture false k1 middle (aspectOf psp))))))
+    (some (placeGameInAspectOf (avoidCutoutsOf layout w h cutouts) picture false k1 centred (aspectOf psp))))))

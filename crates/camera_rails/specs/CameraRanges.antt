@@ -26,7 +26,7 @@ use Rattle.search.proofs.Placement.{each-filter}
 use Rattle.search.proofs.Layouts.{place-bounded}
 use Rattle.search.proofs.Changes.{shrunk-bounded, anchored-shrunk, dpad-in, psp-in}
 use Rattle.toolbar.specs.ToolbarRanges.{uncovered-in, anchor-in}
-use Rattle.arranged.specs.Arranged.{middle}
+use Rattle.arranged.specs.Arranged.{centred}
 use Rattle.arranged.specs.PlaceRanges.{coordinate, cap-in, step-in, faces-in, PlacesIn, controls-placed}
 use Rattle.band.specs.Band.{aspectOf}
 use Rattle.defaults.specs.DefaultRanges.{analog-in}
@@ -90,17 +90,13 @@ camera-places-in W R face =
     let cap = cap-in (in-more (at 122) (at 200) face tt tt) in
     let step = step-in (div-in (sub-in face cap tt) f2 tt) tt tt in
     let half = div-in face f2 tt in
-    let faces = faces-in (coordinate (sub-in (sub-in W i4 tt) half tt) tt) (coordinate (add-in i32 half tt) tt) step step cap in
     let left = sub-in (R .width) i48 tt in
     let right = sub-in (R .right) i48 tt in
     let y1 = add-in y i52 tt in
     let y2 = add-in y i104 tt in
     let y3 = add-in y i156 tt in
     record {
-      tri = faces .tri;
-      o = faces .o;
-      x = faces .x;
-      sq = faces .sq;
+      faces = faces-in (coordinate (sub-in (sub-in W i4 tt) half tt) tt) (coordinate (add-in i32 half tt) tt) step step cap;
       l1 = placed-in left y1 i48 i48 tt;
       l2 = placed-in left y i48 i48 tt;
       r2 = placed-in right y i48 i48 tt;
@@ -147,9 +143,9 @@ module _ {w h : Float} (W : In w (at 1) (at 8192)) (H : In h (at 1) (at 8192)) w
     camera-bounded cutouts O e =
         let holds = anchored-holds w h (cameraRail w h picture cutouts psp) (cameraFace w h picture cutouts psp) picture cutouts psp in
         camera-case w h picture cutouts psp Bounded
-        (λ r f. place-bounded (avoid-bounded wide high (cameraLayout w h picture cutouts psp) cutouts (holds .0) (holds .1) (shrunk-bounded (anchored-in cutouts O r f))) picture false k1 middle (aspectOf psp)) e
+        (λ r f. place-bounded (avoid-bounded wide high (cameraLayout w h picture cutouts psp) cutouts (holds .0) (holds .1) (shrunk-bounded (anchored-in cutouts O r f))) picture false k1 centred (aspectOf psp)) e
 
     -- with no cutouts no element moves
     pub camera-in : {l : Layout} → analogCameraRailsOf w h picture [] psp ≡ some l → Shrunk l
     unfolding avoidCutoutsOf
-    camera-in e = camera-case w h picture [] psp Shrunk (λ r f. place-bounded (anchored-in [] tt r f) picture false k1 middle (aspectOf psp)) e
+    camera-in e = camera-case w h picture [] psp Shrunk (λ r f. place-bounded (anchored-in [] tt r f) picture false k1 centred (aspectOf psp)) e

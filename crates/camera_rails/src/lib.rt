@@ -6,6 +6,7 @@ ghost use Rattle.layout.specs.Layout.{cutoutList, elementList};
 ghost use Rattle.arranged.specs.Places.{maybe};
 ghost use Rattle.cutouts.specs.Cutouts.{hitsOf};
 ghost use Rattle.camera_rails.specs.CameraRails.{measureRailOf, inRailOf, cameraTopOf, sizeFaceOf, cameraPlacesOf, cameraRailedOf, anchoredRailsOf, analogCameraRailsOf};
+use arranged::CENTRED;
 use arranged::MaybeLayout;
 use arranged::Places;
 use arranged::cap;
@@ -23,9 +24,14 @@ use geometry::Rect;
 use layout::Cutouts;
 use layout::Elements;
 use layout::Layout;
-use search::Offset;
 use search::place_game_in_aspect;
 use toolbar::anchor_toolbar;
+
+const TOP: f32 = 32.0; // Below the compact toolbar and a gap.
+
+const STICK: f32 = 128.0;
+
+const OUTER: f32 = 4.0;
 
 // What the picture of full height leaves at each side.
 fn measure_rail(w: f32, picture: Rect, psp: bool) -> f32
@@ -39,7 +45,7 @@ fn measure_rail(w: f32, picture: Rect, psp: bool) -> f32
 fn in_rail(w: f32, rail: f32, c: Rect) -> bool
     ensures { λ r. ⌜ r ≡ inRailOf w rail c ⌝ }
 {
-    c.y + c.h > 32.0 && (c.x < rail || c.x + c.w > w - rail)
+    c.y + c.h > TOP && (c.x < rail || c.x + c.w > w - rail)
 }
 
 // Where the highest of these cutouts begins, else the screen's end.
@@ -64,78 +70,34 @@ fn size_face(w: f32, h: f32, rail: f32, cutouts: Cutouts) -> f32
     requires { ⌜ cutouts .count ≤ 16 ⌝ }
     ensures { λ r. ⌜ r ≡ sizeFaceOf w h rail (cutoutList cutouts) ⌝ }
 {
-    let top = camera_top(w, h, rail, cutouts);
+    let camera_top = camera_top(w, h, rail, cutouts);
     min(
-        min(min(rail - 8.0, 184.0), top - 32.0 - 8.0),
-        h - 32.0 - 224.0,
+        min(min(rail - 8.0, 184.0), camera_top - TOP - 8.0),
+        h - TOP - 224.0,
     )
 }
 
 fn camera_places(w: f32, rail: f32, face: f32) -> Places
     ensures { λ r. ⌜ r ≡ cameraPlacesOf w rail face ⌝ }
 {
-    let y = 32.0 + face + 8.0;
-    let size = cap(face);
-    let step = (face - size) / 2.0;
-    let faces = place_faces(w - 4.0 - face / 2.0, 32.0 + face / 2.0, step, step, size);
-    let tri = faces.tri;
-    let o = faces.o;
-    let x = faces.x;
-    let sq = faces.sq;
+    let auxiliary_y = TOP + face + 8.0;
+    let cap = cap(face);
+    let step = (face - cap) / 2.0;
+    let fx = w - OUTER - face / 2.0;
+    let fy = TOP + face / 2.0;
+    let faces = place_faces(fx, fy, step, step, cap);
     let inner = rail - 48.0;
+    let right = w - inner - 48.0;
     Places {
-        tri,
-        o,
-        x,
-        sq,
-        l1: Rect {
-            x: inner,
-            y: y + 52.0,
-            w: 48.0,
-            h: 48.0,
-        },
-        l2: Rect {
-            x: inner,
-            y,
-            w: 48.0,
-            h: 48.0,
-        },
-        r2: Rect {
-            x: w - inner - 48.0,
-            y,
-            w: 48.0,
-            h: 48.0,
-        },
-        r1: Rect {
-            x: w - inner - 48.0,
-            y: y + 52.0,
-            w: 48.0,
-            h: 48.0,
-        },
-        select: Rect {
-            x: inner,
-            y: y + 104.0,
-            w: 48.0,
-            h: 48.0,
-        },
-        start: Rect {
-            x: w - inner - 48.0,
-            y: y + 104.0,
-            w: 48.0,
-            h: 48.0,
-        },
-        l3: Rect {
-            x: inner,
-            y: y + 156.0,
-            w: 48.0,
-            h: 48.0,
-        },
-        r3: Rect {
-            x: w - inner - 48.0,
-            y: y + 156.0,
-            w: 48.0,
-            h: 48.0,
-        },
+        faces,
+        l1: Rect::new(inner, auxiliary_y + 52.0, 48.0, 48.0),
+        l2: Rect::new(inner, auxiliary_y, 48.0, 48.0),
+        r2: Rect::new(right, auxiliary_y, 48.0, 48.0),
+        r1: Rect::new(right, auxiliary_y + 52.0, 48.0, 48.0),
+        select: Rect::new(inner, auxiliary_y + 104.0, 48.0, 48.0),
+        start: Rect::new(right, auxiliary_y + 104.0, 48.0, 48.0),
+        l3: Rect::new(inner, auxiliary_y + 156.0, 48.0, 48.0),
+        r3: Rect::new(right, auxiliary_y + 156.0, 48.0, 48.0),
     }
 }
 
@@ -156,25 +118,10 @@ fn hits(elements: Elements, cutouts: Cutouts) -> bool
 fn camera_railed(w: f32, h: f32, rail: f32, face: f32) -> Layout
     ensures { λ r. ⌜ (r ≡ cameraRailedOf w h rail face) × (r .count ≡ 12) × (r .stickcount ≡ 2) ⌝ }
 {
-    let y = h - 24.0 - 128.0;
-    let dpad = Rect {
-        x: 4.0,
-        y: 32.0,
-        w: face,
-        h: face,
-    };
-    let left = Rect {
-        x: 4.0,
-        y,
-        w: 128.0,
-        h: 128.0,
-    };
-    let right = Rect {
-        x: w - 4.0 - 128.0,
-        y,
-        w: 128.0,
-        h: 128.0,
-    };
+    let main_y = h - 24.0 - STICK;
+    let dpad = Rect::new(OUTER, TOP, face, face);
+    let left = Rect::new(OUTER, main_y, STICK, STICK);
+    let right = Rect::new(w - OUTER - STICK, main_y, STICK, STICK);
     let sticks = [left, right];
     let mut layout = placed(analog_default(w, h), camera_places(w, rail, face));
     layout.dpad = dpad;
@@ -225,13 +172,6 @@ pub fn analog_camera_rails(
         return no_layout();
     }
     let clear = avoid_cutouts(anchored, w, h, cutouts);
-    let layout = place_game_in_aspect(
-        clear,
-        picture,
-        false,
-        1.0,
-        Offset { x: 0.5, y: 0.5 },
-        aspect(psp),
-    );
+    let layout = place_game_in_aspect(clear, picture, false, 1.0, CENTRED, aspect(psp));
     MaybeLayout { some: true, layout }
 }

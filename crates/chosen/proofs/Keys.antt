@@ -7,7 +7,7 @@ use Rattle.float.specs.Float.{k0}
 use Rattle.geometry.specs.declared.Rect.{Rect}
 use Rattle.layout.specs.declared.Layout.{Layout}
 use Rattle.toolbar.specs.Toolbar.{avoidedOf, anchorToolbarOf}
-use Rattle.arranged.specs.Blank.{blankOf}
+use Rattle.arranged.specs.Places.{blankOf}
 use Rattle.chosen.specs.Chosen.{startOf, reusableTop, belowToolbarOf, firstOf, areaOf}
 
 module _ (w h : Float) (cutouts : List Rect) (picture : Rect) where

@@ -12,7 +12,7 @@ use Rattle.layout.specs.declared.Layout.{Layout}
 use Rattle.layout.specs.Layout.{anyRect}
 use Rattle.search.specs.Search.{bottomOf, clearPictureAspectOf, placeGameInAspectOf}
 use Rattle.toolbar.specs.Toolbar.{anchorToolbarOf}
-use Rattle.arranged.specs.Arranged.{middle}
+use Rattle.arranged.specs.Arranged.{centred}
 use Rattle.band.specs.Band.{aspectOf, controllerBandOf}
 use Rattle.defaults.specs.Defaults.{defaultInOf, analogDefaultOf, pspOf}
 use Rattle.cutouts.specs.Cutouts.{avoidCutoutsOf}
@@ -71,7 +71,7 @@ comparedOf layout clear (some candidate) = cond (railsWinOf candidate clear) can
 
 unfoldable pub tryRailsOf : Layout → Float → Float → Rect → List Rect → Bool → Layout
 tryRailsOf layout w h picture cutouts psp =
-    let clear = placeGameInAspectOf (avoidCutoutsOf layout w h cutouts) picture false k1 middle (aspectOf psp) in
+    let clear = placeGameInAspectOf (avoidCutoutsOf layout w h cutouts) picture false k1 centred (aspectOf psp) in
     comparedOf layout clear (analogCameraRailsOf w h picture cutouts psp)
 
 -- The band, too, replaces the layout with no comparison.

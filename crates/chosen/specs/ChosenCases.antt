@@ -10,7 +10,7 @@ use Rattle.geometry.specs.declared.Rect.{Rect}
 use Rattle.geometry.specs.Choice.{either}
 use Rattle.layout.specs.declared.Layout.{Layout}
 use Rattle.search.specs.Search.{placeGameInAspectOf}
-use Rattle.arranged.specs.Arranged.{middle}
+use Rattle.arranged.specs.Arranged.{centred}
 use Rattle.band.specs.Band.{aspectOf, controllerBandOf}
 use Rattle.cutouts.specs.Cutouts.{avoidCutoutsOf}
 use Rattle.camera_rails.specs.CameraRails.{analogCameraRailsOf}
@@ -24,7 +24,7 @@ module _ (C : Layout → Type 0) where
 module _ (w h : Float) (picture : Rect) (cutouts : List Rect) (psp : Bool) where
   -- a layout as it is compared with the rails
   abbrev pub cleared : Layout → Layout
-  cleared l = placeGameInAspectOf (avoidCutoutsOf l w h cutouts) picture false k1 middle (aspectOf psp)
+  cleared l = placeGameInAspectOf (avoidCutoutsOf l w h cutouts) picture false k1 centred (aspectOf psp)
 
   pub rails-case : (C : Layout → Type 0) (l : Layout) → C l → C (cleared l) → ((m : Layout) → analogCameraRailsOf w h picture cutouts psp ≡ some m → C m) → C (tryRailsOf l w h picture cutouts psp)
   unfolding tryRailsOf

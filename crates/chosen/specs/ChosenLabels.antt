@@ -16,7 +16,7 @@ use Rattle.layout.specs.Labels.{Formed}
 use Rattle.search.specs.declared.Offset.{Offset}
 use Rattle.search.specs.Search.{placeGameInAspectOf}
 use Rattle.toolbar.specs.Toolbar.{anchorToolbarOf}
-use Rattle.arranged.specs.Arranged.{middle}
+use Rattle.arranged.specs.Arranged.{centred}
 use Rattle.band.specs.Band.{aspectOf}
 use Rattle.band.specs.BandLabels.{bandLabels, bandSticks, band-faces, band-counts, band-formed}
 use Rattle.defaults.specs.DefaultLabels.{default-formed, analog-formed, psp-formed}
@@ -66,7 +66,7 @@ module _ (analog psp : Bool) (l : Layout) (f : OfMode analog psp l) where
 module _ (psp : Bool) (l : Layout) (f : OfMode true psp l) (w h : Float) (cutouts : List Rect) (picture : Rect) where
   pub rails-mode : OfMode true psp (tryRailsOf l w h picture cutouts psp)
   rails-mode =
-      let clear = place-mode true psp (avoidCutoutsOf l w h cutouts) (avoid-mode true psp l f w h cutouts) picture false k1 middle (aspectOf psp) in
+      let clear = place-mode true psp (avoidCutoutsOf l w h cutouts) (avoid-mode true psp l f w h cutouts) picture false k1 centred (aspectOf psp) in
       rails-case w h picture cutouts psp (OfMode true psp) l f clear (camera-rails-formed w h picture cutouts psp)
 
 module _ (w h : Float) (area : Rect) (cutouts : List Rect) where

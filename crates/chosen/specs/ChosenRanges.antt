@@ -20,7 +20,7 @@ use Rattle.search.proofs.Changes.{shrunk-bounded, arranged-shrunk, anchored-shr
 use Rattle.search.proofs.Layouts.{place-bounded}
 use Rattle.toolbar.specs.Toolbar.{anchorToolbarOf}
 use Rattle.toolbar.specs.ToolbarRanges.{uncovered-in, anchor-in}
-use Rattle.arranged.specs.Arranged.{middle}
+use Rattle.arranged.specs.Arranged.{centred}
 use Rattle.band.specs.Band.{aspectOf}
 use Rattle.band.specs.BandRanges.{band-in}
 use Rattle.band.specs.BandLabels.{band-formed}
@@ -77,7 +77,7 @@ module _ {w h : Float} (W : In w (at 1) (at 8192)) (H : In h (at 1) (at 8192)) w
         beside-bounded : Bounded (besideOf first w h picture cutouts analog psp)
         beside-bounded =
             beside-case w h picture cutouts psp Bounded (λ m. Shrunk m × OfMode analog psp m) (λ m d. shrunk-bounded (d .0))
-            (λ m d. place-bounded (avoid-in cutouts m (holds analog psp m (d .1)) (shrunk-bounded (d .0))) picture false k1 middle (aspectOf psp)) analog (F, f)
+            (λ m d. place-bounded (avoid-in cutouts m (holds analog psp m (d .1)) (shrunk-bounded (d .0))) picture false k1 centred (aspectOf psp)) analog (F, f)
             (λ m e. (arranged-shrunk (band-in analog psp wide high A e), band-formed w h analog psp picture m e)) (λ m e. camera-bounded W H A psp cutouts O e)
 
         pub arrangement-bounded : (maximum free : Bool) → Bounded (arrangementOf maximum free first w h (areaOf maximum first picture) cutouts analog psp)
@@ -91,7 +91,7 @@ module _ {w h : Float} (W : In w (at 1) (at 8192)) (H : In h (at 1) (at 8192)) w
     beside-in : (analog psp : Bool) {first : Layout} → Shrunk first → Shrunk (besideOf first w h picture [] analog psp)
     unfolding avoidCutoutsOf
     beside-in analog psp F =
-        beside-case w h picture [] psp Shrunk Shrunk (λ m d. d) (λ m d. place-bounded d picture false k1 middle (aspectOf psp)) analog F (λ m e. arranged-shrunk (band-in analog psp wide high A e)) (λ m e. camera-in W H A psp e)
+        beside-case w h picture [] psp Shrunk Shrunk (λ m d. d) (λ m d. place-bounded d picture false k1 centred (aspectOf psp)) analog F (λ m e. arranged-shrunk (band-in analog psp wide high A e)) (λ m e. camera-in W H A psp e)
 
     pub arrangement-in : (analog psp maximum free : Bool) {first : Layout} → T (not maximum) → Shrunk first → Shrunk (arrangementOf maximum free first w h (areaOf maximum first picture) [] analog psp)
     unfolding arrangementOf areaOf

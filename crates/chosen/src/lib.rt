@@ -5,11 +5,13 @@ ghost use Prim.Native.Nat.{_≤_};
 ghost use Rattle.float.specs.Float.{k0};
 ghost use Rattle.layout.specs.Layout.{cutoutList};
 ghost use Rattle.toolbar.specs.Toolbar.{anchorToolbarOf};
-ghost use Rattle.arranged.specs.Blank.{blankOf};
+ghost use Rattle.arranged.specs.Places.{blankOf};
 ghost use Rattle.band.specs.Band.{controllerBandOf};
 ghost use Rattle.chosen.specs.Chosen.{startOf, reusableTop, belowToolbarOf, largestOf, foundOr, aroundOf, railsWinOf, tryRailsOf, besideOf, firstOf, areaOf, arrangementOf};
 ghost use Rattle.chosen.specs.ChosenLabels.{OfMode};
-use arranged::blank;
+use arranged::BLANK;
+use arranged::CENTRED;
+use arranged::EMPTY;
 use band::aspect;
 use band::controller_band;
 use camera_rails::analog_camera_rails;
@@ -24,7 +26,6 @@ use geometry::Rect;
 use layout::Cutouts;
 use layout::Elements;
 use layout::Layout;
-use search::Offset;
 use search::clear_picture_aspect;
 use search::place_game_in_aspect;
 use toolbar::anchor_toolbar;
@@ -66,12 +67,7 @@ fn largest(area: Rect, aspect: f32) -> Rect
     ensures { λ r. ⌜ r ≡ largestOf area aspect ⌝ }
 {
     let none = Elements {
-        at: [Rect {
-            x: 0.0,
-            y: 0.0,
-            w: 0.0,
-            h: 0.0,
-        }; 19],
+        at: [EMPTY; 19],
         count: 0,
     };
     let fitted = clear_picture_aspect(area.w, area.h, none, aspect);
@@ -110,7 +106,7 @@ fn try_rails(layout: Layout, w: f32, h: f32, picture: Rect, cutouts: Cutouts, ps
         picture,
         false,
         1.0,
-        Offset { x: 0.5, y: 0.5 },
+        CENTRED,
         aspect(psp),
     );
     if rails_win(rails, clear) {
@@ -174,7 +170,7 @@ pub fn area(maximum: bool, w: f32, h: f32, cutouts: Cutouts, picture: Rect) -> R
     ensures { λ r. ⌜ r ≡ areaOf maximum (anchorToolbarOf blankOf w h (reusableTop picture) k0 (cutoutList cutouts)) picture ⌝ }
 {
     if maximum {
-        let bar = anchor_toolbar(blank(), w, h, max(-picture.y, 0.0), 0.0, cutouts);
+        let bar = anchor_toolbar(BLANK, w, h, max(-picture.y, 0.0), 0.0, cutouts);
         return below_toolbar(bar, picture);
     }
     picture

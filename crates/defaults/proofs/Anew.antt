@@ -3,7 +3,7 @@
 use mathlib.Core.Path.{_≡_, refl}
 use mathlib.Core.List.{[]}
 use lib.Ieee.{Float}
-use Rattle.float.specs.Float.{_⊖_, k0, k16}
+use Rattle.float.specs.Float.{k0}
 use Rattle.geometry.specs.declared.Rect.{Rect}
 use Rattle.geometry.specs.Rect.{newOf}
 use Rattle.layout.specs.declared.Layout.{Layout}
@@ -13,9 +13,9 @@ use Rattle.arranged.specs.Arranged.{anchoredOf, finishedOf}
 use Rattle.arranged.specs.Controls.{bareOf}
 use Rattle.arranged.specs.ControlLaws.{finished-anew}
 use Rattle.defaults.specs.declared.Size.{Size}
-use Rattle.defaults.specs.AnalogControls.{analogControlsOf}
-use Rattle.defaults.specs.AnalogControlLaws.{added-bare, shrunk-bare}
-use Rattle.defaults.specs.Defaults.{clearOf, newLayoutOf, sizeHalvesOf, measureHalvesOf, halfPlacesOf, analogFullOf, shrunkOf}
+use Rattle.defaults.specs.Controls.{analogControlsOf}
+use Rattle.defaults.specs.ControlLaws.{added-bare, shrunk-bare}
+use Rattle.defaults.specs.Defaults.{clearOf, newLayoutOf, analogFullOf, shrunkOf}
 use Rattle.defaults.specs.DefaultLabels.{default-formed}
 
 pub clear-anew : (l : Layout) (w h : Float) (picture : Rect) → clearOf (finishedOf l w h) picture ≡ clearOf (anchoredOf l w h) picture
@@ -23,10 +23,10 @@ unfolding finishedOf placeGameInAspectOf elementsOf
 clear-anew l w h picture = refl
 
 module _ (w h : Float) where
-  pub full-bare : let b = measureHalvesOf w h (sizeHalvesOf w h) in
-      bareOf (analogFullOf w h) ≡ analogControlsOf (halfPlacesOf b) (newOf (b .x) (b .facey) (b .face) (b .face)) (newOf k16 (b .y) (b .stick) (b .stick)) (newOf (w ⊖ k16 ⊖ b .stick) (b .y) (b .stick) (b .stick))
-  unfolding analogFullOf
+  full-bare : bareOf (analogFullOf w h) ≡ analogControlsOf w h
+  unfolding analogFullOf analogControlsOf
   full-bare = added-bare _ _ _ _ (newLayoutOf w h) (default-formed w h [] (newOf k0 k0 w h))
 
-  pub full-anew : (requested full : Size) (v u : Float) → finishedOf (shrunkOf (bareOf (analogFullOf w h)) requested full) v u ≡ finishedOf (shrunkOf (analogFullOf w h) requested full) v u
-  full-anew requested full v u = finished-anew v u _ _ (shrunk-bare requested full _ _ _ _ (analogFullOf w h) full-bare)
+  pub full-anew : (requested full : Size) (v u : Float) → finishedOf (shrunkOf (analogControlsOf w h) requested full) v u ≡ finishedOf (shrunkOf (analogFullOf w h) requested full) v u
+  unfolding analogControlsOf
+  full-anew requested full v u = rw (← full-bare) (finished-anew v u _ _ (shrunk-bare requested full _ _ _ _ (analogFullOf w h) full-bare))

@@ -24,7 +24,7 @@ use Rattle.numerics.specs.Shrunk.{Shrinks, shrunkMargin, shrunk-placed, placed-
 use Rattle.search.specs.Bounded.{Arranged, Shrunk}
 use Rattle.search.proofs.Layouts.{place-bounded}
 use Rattle.search.proofs.Changes.{arranged-shrunk, anchored-shrunk, dpad-in, psp-in, map-elements-in}
-use Rattle.arranged.specs.Arranged.{middle}
+use Rattle.arranged.specs.Arranged.{centred}
 use Rattle.arranged.specs.PlaceRanges.{Coordinate, coordinate, cap-in, step-in, FacesIn, faces-in, PlacesIn, controls-placed}
 use Rattle.arranged.specs.ArrangedRanges.{finished-in, arranged-in, side-rails-in}
 use Rattle.band.specs.BandRanges.{with-analog-in, band-in}
@@ -39,8 +39,8 @@ pub default-in : {w h : Float} (cutouts : List Rect) {picture : Rect} → In w (
     → Arranged (defaultInOf w h cutouts picture)
 default-in {w} {h} cutouts {picture} W H C A high =
     default-case Arranged w h cutouts picture
-    (λ compact. place-bounded (arranged-in compact W H) picture false k1 middle (k4 ⊘ k3))
-    (place-bounded (side-rails-in cutouts W H high C) picture false k1 middle (k4 ⊘ k3))
+    (λ compact. place-bounded (arranged-in compact W H) picture false k1 centred (k4 ⊘ k3))
+    (place-bounded (side-rails-in cutouts W H high C) picture false k1 centred (k4 ⊘ k3))
     (λ band e. band-in false false W H A e)
 
 -- ---- the screen as the picture's area
@@ -83,8 +83,8 @@ record HalvesIn (b : Halves) : Type 0 where
   pub stick : In (b .stick) (at 104) (at 128)
   pub face : In (b .face) (at 122) (at 184)
   pub shoulder : In (b .shoulder) (at 48) (at 96)
-  pub x : Coordinate (b .x)
-  pub y : Coordinate (b .y)
+  pub digitalx : Coordinate (b .digitalx)
+  pub mainy : Coordinate (b .mainy)
   pub facey : Coordinate (b .facey)
   pub faces : FacesIn (b .faces)
   pub x1 : In (b .x1) (at 0) (at 256)
@@ -95,8 +95,8 @@ record HalvesIn (b : Halves) : Type 0 where
 halves-in : {w h : Float} {s : Sizes} → In w (at 360) (at 8192) → In h (at 360) (at 8192) → SizesIn s → HalvesIn (measureHalvesOf w h s)
 unfolding measureHalvesOf
 halves-in {s = s} W H S =
-    let y = sub-in (sub-in H (S .bottom) tt) (S .stick) tt in
-    let faceY = sub-in (sub-in y i8 tt) (S .face) tt in
+    let mainY = sub-in (sub-in H (S .bottom) tt) (S .stick) tt in
+    let faceY = sub-in (sub-in mainY i8 tt) (S .face) tt in
     let cap = cap-in (in-more (at 122) (at 200) (S .face) tt tt) in
     let step = step-in (div-in (sub-in (S .face) cap tt) f2 tt) tt tt in
     let inner = add-in (add-in i16 (S .column) tt) i8 tt in
@@ -106,8 +106,8 @@ halves-in {s = s} W H S =
       stick = S .stick;
       face = S .face;
       shoulder = S .shoulder;
-      x = coordinate (add-in i16 (div-in (sub-in (S .column) (S .face) tt) f2 tt) tt) tt;
-      y = coordinate y tt;
+      digitalx = coordinate (add-in i16 (div-in (sub-in (S .column) (S .face) tt) f2 tt) tt) tt;
+      mainy = coordinate mainY tt;
       facey = coordinate faceY tt;
       faces = faces-in (coordinate (sub-in (sub-in W i16 tt) (div-in (S .column) f2 tt) tt) tt) (coordinate (add-in faceY (div-in (S .face) f2 tt) tt) tt) step step cap;
       x1 = in-more (at 0) (at 256) (cond-in (s .middle) inner (add-in i16 i0 tt)) tt tt;
@@ -121,18 +121,15 @@ unfolding halfPlacesOf
 half-places-in B =
     let left = add-in (add-in i16 (B .stick) tt) i8 tt in
     let right = sub-in (sub-in (sub-in (B .w) i16 tt) (B .stick) tt) i56 tt in
-    let lower = sub-in (add-in (B .y) (B .stick) tt) i48 tt in
+    let lower = sub-in (add-in (B .mainy) (B .stick) tt) i48 tt in
     record {
-      tri = B .faces .tri;
-      o = B .faces .o;
-      x = B .faces .x;
-      sq = B .faces .sq;
+      faces = B .faces;
       l1 = placed-in (B .x1) (B .y1) (B .shoulder) i48 tt;
       l2 = placed-in (B .x2) (B .y2) (B .shoulder) i48 tt;
       r2 = placed-in (sub-in (sub-in (B .w) (B .x2) tt) (B .shoulder) tt) (B .y2) (B .shoulder) i48 tt;
       r1 = placed-in (sub-in (sub-in (B .w) (B .x1) tt) (B .shoulder) tt) (B .y1) (B .shoulder) i48 tt;
-      select = placed-in left (B .y) i48 i48 tt;
-      start = placed-in right (B .y) i48 i48 tt;
+      select = placed-in left (B .mainy) i48 i48 tt;
+      start = placed-in right (B .mainy) i48 i48 tt;
       l3 = placed-in left lower i48 i48 tt;
       r3 = placed-in right lower i48 i48 tt;
     }
@@ -144,8 +141,8 @@ full-in W H =
     let places = half-places-in B in
     let high = in-more (at 0) (at 8192) H tt tt in
     let standard = default-in [] (in-more (at 0) (at 8192) W tt tt) high tt (screen-area (in-more (at 1) (at 8192) W tt tt) (in-more (at 1) (at 8192) H tt tt)) high in
-    let digital = dpad-in (controls-placed (λ r P. P) standard places) (placed-in (B .x) (B .facey) (B .face) (B .face) tt) in
-    with-analog-in digital (places .l3) (places .r3) (placed-in i16 (B .y) (B .stick) (B .stick) tt) (placed-in (sub-in (sub-in W i16 tt) (B .stick) tt) (B .y) (B .stick) (B .stick) tt)
+    let digital = dpad-in (controls-placed (λ r P. P) standard places) (placed-in (B .digitalx) (B .facey) (B .face) (B .face) tt) in
+    with-analog-in digital (places .l3) (places .r3) (placed-in i16 (B .mainy) (B .stick) (B .stick) tt) (placed-in (sub-in (sub-in (B .w) i16 tt) (B .stick) tt) (B .mainy) (B .stick) (B .stick) tt)
 
 -- ---- `shrunk`
 shrunk-layout-in : (l : Layout) {requested full : Size} → Shrinks (requested .w) (full .w) → Shrinks (requested .h) (full .h) → l .count ≤ length (l .controls) → l .stickcount ≤ length (l .sticks) → Arranged l

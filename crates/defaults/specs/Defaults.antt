@@ -14,7 +14,7 @@ use Rattle.layout.specs.Psp.{pspInputsOf}
 use Rattle.search.specs.Search.{placeGameInOf}
 use Rattle.arranged.specs.declared.Places.{Places}
 use Rattle.arranged.specs.Places.{capOf, placeFacesOf, placedOf}
-use Rattle.arranged.specs.Arranged.{middle, finishedOf, arrangedOf, sideRailsOf}
+use Rattle.arranged.specs.Arranged.{centred, finishedOf, arrangedOf, sideRailsOf}
 use Rattle.band.specs.Band.{withAnalogOf, controllerBandOf}
 use Rattle.defaults.specs.declared.Size.{Size}
 use Rattle.defaults.specs.declared.Sizes.{Sizes}
@@ -28,7 +28,7 @@ widerOf layout other = cond (lt (layout .game .w ⊕ k0·01) (other .game .w)) o
 
 -- the largest game that is clear of all elements
 abbrev pub clearOf : Layout → Rect → Layout
-clearOf layout picture = placeGameInOf layout picture false k1 middle
+clearOf layout picture = placeGameInOf layout picture false k1 centred
 
 -- A square screen has room for the shoulders and the system keys between the two thumb wells. The pictures are
 -- compared, since a wide or a narrow screen is better served without that dock.
@@ -80,11 +80,11 @@ sizeHalvesOf w h =
     let middle = not landscape && le k192 (w ⊖ k2 ⊗ (k16 ⊕ column)) in
     record { bottom = bottom; stick = stick; face = face; column = column; middle = middle; shoulder = cond middle k88 ((column ⊖ k8) ⊘ k2) }
 
--- the digital well at x and facey, the stick at y, and the left shoulders L1 at x1 and y1, L2 at x2 and y2
+-- the digital well at digitalx and facey, the stick at mainy, and the left shoulders L1 at x1 and y1, L2 at x2 and y2
 unfoldable pub measureHalvesOf : Float → Float → Sizes → Halves
 measureHalvesOf w h s =
-    let y = h ⊖ s .bottom ⊖ s .stick in
-    let faceY = y ⊖ k8 ⊖ s .face in
+    let mainY = h ⊖ s .bottom ⊖ s .stick in
+    let faceY = mainY ⊖ k8 ⊖ s .face in
     let cap = capOf (s .face) in
     let step = (s .face ⊖ cap) ⊘ k2 in
     let inner = k16 ⊕ s .column ⊕ k8 in
@@ -93,8 +93,8 @@ measureHalvesOf w h s =
       stick = s .stick;
       face = s .face;
       shoulder = s .shoulder;
-      x = k16 ⊕ (s .column ⊖ s .face) ⊘ k2;
-      y = y;
+      digitalx = k16 ⊕ (s .column ⊖ s .face) ⊘ k2;
+      mainy = mainY;
       facey = faceY;
       faces = placeFacesOf (w ⊖ k16 ⊖ s .column ⊘ k2) (faceY ⊕ s .face ⊘ k2) step step cap;
       x1 = cond (s .middle) inner (k16 ⊕ k0);
@@ -107,21 +107,27 @@ unfoldable pub halfPlacesOf : Halves → Places
 halfPlacesOf b =
     let left = k16 ⊕ b .stick ⊕ k8 in
     let right = b .w ⊖ k16 ⊖ b .stick ⊖ k56 in
-    let lower = b .y ⊕ b .stick ⊖ k48 in
+    let lower = b .mainy ⊕ b .stick ⊖ k48 in
     record {
-      tri = b .faces .tri;
-      o = b .faces .o;
-      x = b .faces .x;
-      sq = b .faces .sq;
+      faces = b .faces;
       l1 = newOf (b .x1) (b .y1) (b .shoulder) k48;
       l2 = newOf (b .x2) (b .y2) (b .shoulder) k48;
       r2 = newOf (b .w ⊖ b .x2 ⊖ b .shoulder) (b .y2) (b .shoulder) k48;
       r1 = newOf (b .w ⊖ b .x1 ⊖ b .shoulder) (b .y1) (b .shoulder) k48;
-      select = newOf left (b .y) k48 k48;
-      start = newOf right (b .y) k48 k48;
+      select = newOf left (b .mainy) k48 k48;
+      start = newOf right (b .mainy) k48 k48;
       l3 = newOf left lower k48 k48;
       r3 = newOf right lower k48 k48;
     }
+
+abbrev pub halfDpad : Halves → Rect
+halfDpad b = newOf (b .digitalx) (b .facey) (b .face) (b .face)
+
+abbrev pub leftStick : Halves → Rect
+leftStick b = newOf k16 (b .mainy) (b .stick) (b .stick)
+
+abbrev pub rightStick : Halves → Rect
+rightStick b = newOf (b .w ⊖ k16 ⊖ b .stick) (b .mainy) (b .stick) (b .stick)
 
 -- for a screen of 360 by 360 at least. The Rust sets the toolbar's keys here too, in landscape; they are anchored
 -- anew before anything looks at them.
@@ -129,10 +135,8 @@ unfoldable pub analogFullOf : Float → Float → Layout
 analogFullOf w h =
     let b = measureHalvesOf w h (sizeHalvesOf w h) in
     let places = halfPlacesOf b in
-    let digital = withDpad (placedOf (newLayoutOf w h) places) (newOf (b .x) (b .facey) (b .face) (b .face)) in
-    let left = newOf k16 (b .y) (b .stick) (b .stick) in
-    let right = newOf (w ⊖ k16 ⊖ b .stick) (b .y) (b .stick) (b .stick) in
-    withAnalogOf digital (places .l3) (places .r3) left right
+    let digital = withDpad (placedOf (newLayoutOf w h) places) (halfDpad b) in
+    withAnalogOf digital (places .l3) (places .r3) (leftStick b) (rightStick b)
 
 abbrev pub size : Float → Float → Size
 size w h = record { w = w; h = h }

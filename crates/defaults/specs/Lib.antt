@@ -1,6 +1,6 @@
 pub mod Defaults
 pub mod DefaultCases
 pub mod DefaultLabels
-pub mod AnalogControls
-pub mod AnalogControlLaws
+pub mod Controls
+pub mod ControlLaws
 pub mod DefaultRanges

@@ -18,7 +18,7 @@ use Rattle.layout.specs.Layout.{anyRect, withBounds, withDpad, withControls, wi
 use Rattle.layout.specs.Lists.{mapFirst}
 use Rattle.search.specs.Search.{placeGameInAspectOf}
 use Rattle.toolbar.specs.Toolbar.{toolbarHeight}
-use Rattle.arranged.specs.Arranged.{middle}
+use Rattle.arranged.specs.Arranged.{centred}
 use Rattle.moves.specs.declared.Move.the-variants.{Go}
 use Rattle.moves.specs.Moves.{movedOf}
 use Rattle.landscape.specs.declared.Row.{Row}
@@ -73,7 +73,7 @@ rowOf l w h = measureRowOf w h (l .dpad .w) (getD (l .sticks) 0 anyRect .w)
 
 -- with the row, and the largest game that is clear of all elements
 abbrev pub withRowOf : Layout → Float → Float → Rect → Float → Layout
-withRowOf l w h picture aspect = placeGameInAspectOf (rowedOf l (rowOf l w h)) picture false k1 middle aspect
+withRowOf l w h picture aspect = placeGameInAspectOf (rowedOf l (rowOf l w h)) picture false k1 centred aspect
 
 -- The Rust changes the layout and, unless its game is then wider by more than 0.01, puts the elements and the game back: that is the
 -- layout from before.

@@ -33,7 +33,7 @@ use Rattle.search.proofs.Layouts.{place-bounded, place-game-in, place-widest}
 use Rattle.search.proofs.Placement.{each-filter}
 use Rattle.search.proofs.Shapes.{Shape}
 use Rattle.toolbar.specs.Toolbar.{toolbarHeight}
-use Rattle.arranged.specs.Arranged.{middle}
+use Rattle.arranged.specs.Arranged.{centred}
 use Rattle.moves.specs.declared.Move.the-variants.{Go}
 use Rattle.moves.specs.Moves.{movedOf}
 use Rattle.landscape.specs.declared.Row.{Row}
@@ -170,13 +170,13 @@ module _ (l : Layout) (cs : l .count ≤ length (l .controls)) (ss : 0 < length 
 
     pub landscape-bounded : (picture : Rect) (aspect : Float) → Bounded (fitLandscapeControlsOf l w h picture aspect)
     landscape-bounded picture aspect =
-        landscape-case l w h picture aspect Bounded (every-imp (λ e P. placed-element P tt) (λ e P. P) L) (λ t. place-bounded (row-bounded t) picture false k1 middle aspect)
+        landscape-case l w h picture aspect Bounded (every-imp (λ e P. placed-element P tt) (λ e P. P) L) (λ t. place-bounded (row-bounded t) picture false k1 centred aspect)
 
     module _ {aspect : Float} {p q : ℕ} (S : Shape aspect p q) {picture : Rect} (A : Area picture) where
       pub landscape-game-in : BoundedGame (l .game) → BoundedGame (fitLandscapeControlsOf l w h picture aspect .game)
       landscape-game-in g =
-          landscape-case l w h picture aspect (λ m. BoundedGame (m .game)) g (λ t. place-game-in S (rowedOf l (rowOf l w h)) (row-bounded t) A middle (i0·5 .whole) (i0·5 .whole) false k1 (i1 .whole))
+          landscape-case l w h picture aspect (λ m. BoundedGame (m .game)) g (λ t. place-game-in S (rowedOf l (rowOf l w h)) (row-bounded t) A centred (i0·5 .whole) (i0·5 .whole) false k1 (i1 .whole))
 
       pub landscape-widest : WidestGame p q picture aspect l → WidestGame p q picture aspect (fitLandscapeControlsOf l w h picture aspect)
       landscape-widest g =
-          landscape-case l w h picture aspect (WidestGame p q picture aspect) g (λ t. place-widest S (rowedOf l (rowOf l w h)) (row-bounded t) A middle (i0·5 .whole) (i0·5 .whole))
+          landscape-case l w h picture aspect (WidestGame p q picture aspect) g (λ t. place-widest S (rowedOf l (rowOf l w h)) (row-bounded t) A centred (i0·5 .whole) (i0·5 .whole))

@@ -3,12 +3,12 @@ ghost use mathlib.Core.Path.{_≡_};
 ghost use Prim.Native.Nat.{_≤_};
 ghost use Rattle.layout.specs.Lists.{mapFirst};
 ghost use Rattle.landscape.specs.Landscape.{measureRowOf, tightOf, placeOf, inRow, rowSticksOf, rowedOf, fitLandscapeControlsOf};
+use arranged::CENTRED;
 use geometry::Rect;
 use layout::Control;
 use layout::Label;
 use layout::Layout;
 use moves::moved;
-use search::Offset;
 use search::place_game_in_aspect;
 use toolbar::TOOLBAR_HEIGHT;
 
@@ -133,14 +133,7 @@ pub fn fit_landscape_controls(l: Layout, w: f32, h: f32, picture: Rect, aspect: 
     if tight(row) {
         return l;
     }
-    let fitted = place_game_in_aspect(
-        rowed(l, row),
-        picture,
-        false,
-        1.0,
-        Offset { x: 0.5, y: 0.5 },
-        aspect,
-    );
+    let fitted = place_game_in_aspect(rowed(l, row), picture, false, 1.0, CENTRED, aspect);
     let game = l.game;
     let rival = fitted.game;
     if rival.w <= game.w + 0.01 {

@@ -51,10 +51,7 @@ auxiliaryOf faces left right shoulders system =
     let edge = left .x ⊕ (left .w ⊖ k2 ⊗ pair ⊖ gap) ⊘ k2 in
     let rightEdge = right .x ⊕ (right .w ⊖ k2 ⊗ pair ⊖ gap) ⊘ k2 in
     record {
-      tri = faces .tri;
-      o = faces .o;
-      x = faces .x;
-      sq = faces .sq;
+      faces = faces;
       l1 = newOf edge shoulders pair key;
       l2 = newOf (edge ⊕ pair ⊕ gap) shoulders pair key;
       r2 = newOf rightEdge shoulders pair key;
@@ -129,25 +126,22 @@ measureRowOf w band analog psp =
       middleright = w ⊖ rightDigital ⊖ well ⊖ gap;
     }
 
-abbrev pub withXOf : Rect → Float → Rect
-withXOf r x = newOf x (r .y) (r .w) (r .h)
+abbrev pub withX : Rect → Float → Rect
+withX r x = newOf x (r .y) (r .w) (r .h)
 
 -- System and stick keys lie between the two halves, never where a thumb goes from a stick to the well beside it.
 abbrev pub centerKeysOf : Places → Float → Places
 centerKeysOf p center =
     record {
-      tri = p .tri;
-      o = p .o;
-      x = p .x;
-      sq = p .sq;
+      faces = p .faces;
       l1 = p .l1;
       l2 = p .l2;
       r2 = p .r2;
       r1 = p .r1;
-      select = withXOf (p .select) (center ⊖ k68);
-      start = withXOf (p .start) (center ⊕ k4);
-      l3 = withXOf (p .l3) (center ⊖ k120);
-      r3 = withXOf (p .r3) (center ⊕ k76);
+      select = withX (p .select) (center ⊖ k68);
+      start = withX (p .start) (center ⊕ k4);
+      l3 = withX (p .l3) (center ⊖ k120);
+      r3 = withX (p .r3) (center ⊕ k76);
     }
 
 unfoldable pub rowPlacesOf : Float → Row → Places

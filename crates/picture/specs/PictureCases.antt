@@ -7,6 +7,7 @@ use lib.Dec.{T}
 use lib.Ieee.{Float, lt}
 use Rattle.float.specs.Float.{_⊖_, k96, k124}
 use Rattle.geometry.specs.declared.Rect.{Rect}
+use Rattle.geometry.specs.Choice.{either}
 use Rattle.layout.specs.declared.Layout.{Layout}
 use Rattle.numerics.specs.Each.{Each}
 use Rattle.fits.specs.Fits.{fitsOf}
@@ -48,8 +49,4 @@ module _ (C : Layout → Type 0) where
     unfolding firstFit
     first-case [] e = tt
     first-case (none ∷ candidates) e = first-case candidates (e .1)
-    first-case (some l ∷ candidates) e = go (fitsOf l w h game holes) _ (first-case candidates (e .1))
-      where
-        go : (b : Bool) (o : Option Layout) → Given C o → Given C (cond b (some l) o)
-        go true o g = e .0
-        go false o g = g
+    first-case (some l ∷ candidates) e = either (Given C) (fitsOf l w h game holes) {x = some l} {y = firstFit w h game holes candidates} (e .0) (first-case candidates (e .1))

@@ -29,7 +29,7 @@ use Rattle.arranged.specs.ArrangedRanges.{arranged-in}
 use Rattle.defaults.specs.DefaultRanges.{analog-in, psp-default-in}
 use Rattle.picture.specs.declared.Row.{Row}
 use Rattle.picture.specs.declared.Stack.{Stack}
-use Rattle.picture.specs.Picture.{gap, key, minWell, diamondOf, auxiliaryOf, arrangeOf, squareOf, measureStackOf, stackedOf, verticalOf, measureRowOf, withXOf, centerKeysOf, rowPlacesOf, rowedOf, horizontalOf, fittedOf, baseOf, controlsOf}
+use Rattle.picture.specs.Picture.{gap, key, minWell, diamondOf, auxiliaryOf, arrangeOf, squareOf, measureStackOf, stackedOf, verticalOf, measureRowOf, withX, centerKeysOf, rowPlacesOf, rowedOf, horizontalOf, fittedOf, baseOf, controlsOf}
 use Rattle.picture.specs.PictureCases.{Given, found, vertical-case, horizontal-case, first-case}
 
 -- a length of the screen, of either sign
@@ -92,7 +92,7 @@ module _ {x y well shoulders system : Float} {left right : Rect} (fx : Coarse x)
   auxiliary-in L3 = element-in (sub-in (add-in (L .x) (L .w) tt) i50 tt) lower i44 i44 tt
   auxiliary-in R3 = element-in (add-in (R .x) i6 tt) lower i44 i44 tt
 
-with-x-in : {r : Rect} {x : Float} → Element r → Coarse x → Element (withXOf r x)
+with-x-in : {r : Rect} {x : Float} → Element r → Coarse x → Element (withX r x)
 with-x-in E x = record { x = range-most maxCorner x tt; y = E .y; w = E .w; h = E .h }
 
 center-in : (p : Places) {center : Float} → PlacesIn p → Span center → PlacesIn (centerKeysOf p center)

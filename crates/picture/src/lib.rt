@@ -5,7 +5,7 @@ ghost use mathlib.Core.Bool.{_&&_};
 ghost use Rattle.arranged.specs.Places.{maybe};
 ghost use Rattle.fits.specs.Fits.{fitsOf};
 ghost use Rattle.layout.specs.Layout.{cutoutList};
-ghost use Rattle.picture.specs.Picture.{diamondOf, auxiliaryOf, arrangeOf, squareOf, measureStackOf, crampedOf, stackedOf, measureRowOf, withXOf, centerKeysOf, rowPlacesOf, rowedOf, verticalOf, horizontalOf, fittedOf, baseOf, controlsOf};
+ghost use Rattle.picture.specs.Picture.{diamondOf, auxiliaryOf, arrangeOf, squareOf, measureStackOf, crampedOf, stackedOf, measureRowOf, centerKeysOf, rowPlacesOf, rowedOf, verticalOf, horizontalOf, fittedOf, baseOf, controlsOf};
 use arranged::Faces;
 use arranged::MaybeLayout;
 use arranged::Places;
@@ -35,30 +35,10 @@ pub fn diamond(rect: Rect) -> Faces
     let x = rect.x + (rect.w - cap) / 2.0;
     let y = rect.y + (rect.h - cap) / 2.0;
     Faces {
-        tri: Rect {
-            x: x + 0.0,
-            y: y + -step,
-            w: cap,
-            h: cap,
-        },
-        o: Rect {
-            x: x + step,
-            y: y + 0.0,
-            w: cap,
-            h: cap,
-        },
-        x: Rect {
-            x: x + 0.0,
-            y: y + step,
-            w: cap,
-            h: cap,
-        },
-        sq: Rect {
-            x: x + -step,
-            y: y + 0.0,
-            w: cap,
-            h: cap,
-        },
+        tri: Rect::new(x + 0.0, y + -step, cap, cap),
+        o: Rect::new(x + step, y + 0.0, cap, cap),
+        x: Rect::new(x + 0.0, y + step, cap, cap),
+        sq: Rect::new(x + -step, y + 0.0, cap, cap),
     }
 }
 
@@ -69,63 +49,16 @@ pub fn auxiliary(faces: Faces, left: Rect, right: Rect, shoulders: f32, system: 
     let pair = clamp((left.w - 12.0 - GAP) / 2.0, KEY, 64.0);
     let edge = left.x + (left.w - 2.0 * pair - GAP) / 2.0;
     let right_edge = right.x + (right.w - 2.0 * pair - GAP) / 2.0;
-    let tri = faces.tri;
-    let o = faces.o;
-    let x = faces.x;
-    let sq = faces.sq;
     Places {
-        tri,
-        o,
-        x,
-        sq,
-        l1: Rect {
-            x: edge,
-            y: shoulders,
-            w: pair,
-            h: KEY,
-        },
-        l2: Rect {
-            x: edge + pair + GAP,
-            y: shoulders,
-            w: pair,
-            h: KEY,
-        },
-        r2: Rect {
-            x: right_edge,
-            y: shoulders,
-            w: pair,
-            h: KEY,
-        },
-        r1: Rect {
-            x: right_edge + pair + GAP,
-            y: shoulders,
-            w: pair,
-            h: KEY,
-        },
-        select: Rect {
-            x: left.x + 6.0,
-            y: system,
-            w: 64.0,
-            h: KEY,
-        },
-        start: Rect {
-            x: right.x + right.w - 70.0,
-            y: system,
-            w: 64.0,
-            h: KEY,
-        },
-        l3: Rect {
-            x: left.x + left.w - 50.0,
-            y: system,
-            w: KEY,
-            h: KEY,
-        },
-        r3: Rect {
-            x: right.x + 6.0,
-            y: system,
-            w: KEY,
-            h: KEY,
-        },
+        faces,
+        l1: Rect::new(edge, shoulders, pair, KEY),
+        l2: Rect::new(edge + pair + GAP, shoulders, pair, KEY),
+        r2: Rect::new(right_edge, shoulders, pair, KEY),
+        r1: Rect::new(right_edge + pair + GAP, shoulders, pair, KEY),
+        select: Rect::new(left.x + 6.0, system, 64.0, KEY),
+        start: Rect::new(right.x + right.w - 70.0, system, 64.0, KEY),
+        l3: Rect::new(left.x + left.w - 50.0, system, KEY, KEY),
+        r3: Rect::new(right.x + 6.0, system, KEY, KEY),
     }
 }
 
@@ -144,20 +77,15 @@ fn arrange(l: Layout, dpad: Rect, places: Places, first: Rect, second: Rect) -> 
 fn square(column: Rect, y: f32, size: f32) -> Rect
     ensures { λ r. ⌜ r ≡ squareOf column y size ⌝ }
 {
-    Rect {
-        x: column.x + (column.w - size) / 2.0,
-        y,
-        w: size,
-        h: size,
-    }
+    Rect::new(column.x + (column.w - size) / 2.0, y, size, size)
 }
 
 // The width and the lower edge that both columns have, the size of a stick, 0 without one, and of the wells.
-pub struct Stack {
-    pub width: f32,
-    pub bottom: f32,
-    pub stick: f32,
-    pub well: f32,
+struct Stack {
+    width: f32,
+    bottom: f32,
+    stick: f32,
+    well: f32,
 }
 
 fn measure_stack(left: Rect, right: Rect, analog: bool) -> Stack
@@ -220,16 +148,16 @@ pub fn vertical(base: Layout, left: Rect, right: Rect, analog: bool) -> MaybeLay
 
 // The wells of a row and the room between its halves. `digital` and `rightdigital` are the outer distances of the
 // d-pad and of the face caps.
-pub struct Row {
-    pub well: f32,
-    pub required: f32,
-    pub top: f32,
-    pub y: f32,
-    pub digital: f32,
-    pub rightdigital: f32,
-    pub span: f32,
-    pub middleleft: f32,
-    pub middleright: f32,
+struct Row {
+    well: f32,
+    required: f32,
+    top: f32,
+    y: f32,
+    digital: f32,
+    rightdigital: f32,
+    span: f32,
+    middleleft: f32,
+    middleright: f32,
 }
 
 fn measure_row(w: f32, band: Rect, analog: bool, psp: bool) -> Row
@@ -262,26 +190,19 @@ fn measure_row(w: f32, band: Rect, analog: bool, psp: bool) -> Row
     }
 }
 
-fn with_x(r: Rect, x: f32) -> Rect
-    ensures { λ q. ⌜ q ≡ withXOf r x ⌝ }
-{
-    Rect {
-        x,
-        y: r.y,
-        w: r.w,
-        h: r.h,
-    }
-}
-
 // System and stick keys lie between the two halves, never where a thumb goes from a stick to the well beside it.
 fn center_keys(p: Places, center: f32) -> Places
     ensures { λ r. ⌜ r ≡ centerKeysOf p center ⌝ }
 {
+    let select = center - 68.0;
+    let start = center + 4.0;
+    let l3 = center - 120.0;
+    let r3 = center + 76.0;
     let mut out = p;
-    out.select = with_x(p.select, center - 68.0);
-    out.start = with_x(p.start, center + 4.0);
-    out.l3 = with_x(p.l3, center - 120.0);
-    out.r3 = with_x(p.r3, center + 76.0);
+    out.select.x = select;
+    out.start.x = start;
+    out.l3.x = l3;
+    out.r3.x = r3;
     out
 }
 
@@ -290,24 +211,9 @@ fn row_places(w: f32, row: Row) -> Places
 {
     let well = row.well;
     let span = row.span;
-    let faces = diamond(Rect {
-        x: w - row.rightdigital - well,
-        y: row.y,
-        w: well,
-        h: well,
-    });
-    let left = Rect {
-        x: 12.0,
-        y: 0.0,
-        w: span,
-        h: 0.0,
-    };
-    let right = Rect {
-        x: w - 12.0 - span,
-        y: 0.0,
-        w: span,
-        h: 0.0,
-    };
+    let faces = diamond(Rect::new(w - row.rightdigital - well, row.y, well, well));
+    let left = Rect::new(12.0, 0.0, span, 0.0);
+    let right = Rect::new(w - 12.0 - span, 0.0, span, 0.0);
     let places = auxiliary(faces, left, right, row.top, row.y + well - KEY);
     center_keys(places, (row.middleleft + row.middleright) / 2.0)
 }
@@ -318,24 +224,9 @@ fn rowed(l: Layout, w: f32, row: Row) -> Layout
 {
     let well = row.well;
     let places = row_places(w, row);
-    let dpad = Rect {
-        x: row.digital,
-        y: row.y,
-        w: well,
-        h: well,
-    };
-    let first = Rect {
-        x: 12.0,
-        y: row.y,
-        w: well,
-        h: well,
-    };
-    let second = Rect {
-        x: w - 12.0 - well,
-        y: row.y,
-        w: well,
-        h: well,
-    };
+    let dpad = Rect::new(row.digital, row.y, well, well);
+    let first = Rect::new(12.0, row.y, well, well);
+    let second = Rect::new(w - 12.0 - well, row.y, well, well);
     arrange(l, dpad, places, first, second)
 }
 

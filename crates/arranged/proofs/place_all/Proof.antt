@@ -1,7 +1,7 @@
 use borrow.Author.Needs.{needs}
-use mathlib.Core.Path.{ap, _≡_}
-use lib.ListN.{length, length-set, getD}
-use Rattle.layout.specs.Layout.{anyControl, withBounds}
+use mathlib.Core.Path.{_≡_}
+use lib.ListN.{length, length-set}
+use Rattle.layout.specs.Layout.{anyControl}
 use Rattle.layout.specs.Lists.{mapFirst}
 use Rattle.layout.proofs.Loops.{sized, mapFirst-zero, mapFirst-step}
 use Rattle.arranged.specs.Places.{moved}
@@ -23,8 +23,7 @@ loop-again : tie.Need-loop-again Inv-loop μ-loop
 loop-again c =
     let l = c .before .before .before in
     let a = l .before .args in
-    let now = getD (l .loop .out) (l .loop .i) anyControl in
-    (omega arith, rw length-set (l .loop .inv .1), mapFirst-step (moved (a .places)) (l .loop .i) (a .controls) (l .loop .out) _ anyControl (l .loop .inv .2) (ap (withBounds now) (c .at .ensures)))
+    (omega arith, rw length-set (l .loop .inv .1), mapFirst-step (moved (a .places)) (l .loop .i) (a .controls) (l .loop .out) _ anyControl (l .loop .inv .2) (c .control-at .ensures))
 
 returns : tie.Need-returns Inv-loop μ-loop
 returns c =

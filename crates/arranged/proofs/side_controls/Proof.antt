@@ -9,7 +9,7 @@ returns c = let k = c .docked .ensures in (rw (← c .before .before .cluster .e
 
 returns-2 : tie.Need-returns-2
 unfolding sideControlsOf
-returns-2 c = let k = c .railed .ensures in (rw (← c .before .before .cluster .ensures, ← k .0, c .before .if1 .left), k .1, k .2)
+returns-2 c = let k = c .rail-controls .ensures in (rw (← c .before .before .cluster .ensures, ← k .0, c .before .if1 .left), k .1, k .2)
 
 pub side-controls-spec : {M : Type 1} → statement M
 side-controls-spec =

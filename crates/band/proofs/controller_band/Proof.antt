@@ -18,7 +18,7 @@ returns-2 c =
 
 with-inputs-requires : tie.Need-with-inputs-requires
 with-inputs-requires c κs =
-    let b = c .before .before .before .banded in
+    let b = c .before .before .before .band-controls in
     let k : Counted (c .anchor-toolbar .result) = rw (c .anchor-toolbar .ensures) (anchor-counts (b .result) _ _ _ _ _ (b .ensures .1, b .ensures .2)) in
     k
 
@@ -37,7 +37,7 @@ returns-3 c =
         ← p .before .measure-band .ensures,
         ← i .before .before .max .ensures,
         band-anew (a .w) (a .h) (a .analog) (t .before .before .find-room .result .deep) (p .before .measure-band .result) (a .psp) (i .before .before .max .result) (a .picture),
-        ← p .banded .ensures .0,
+        ← p .band-controls .ensures .0,
         ← i .before .anchor-toolbar .ensures,
         ← i .with-inputs .ensures .0,
         ← c .before .aspect .ensures,

@@ -6,12 +6,15 @@ use Rattle.camera_rails.proofs.camera_railed.Tie as tie
 
 returns : tie.Need-returns
 unfolding cameraRailedOf
-returns c = (rw (c .placed .ensures .0, ← c .before .before .analog-default .ensures .0, ← c .before .camera-places .ensures), omega arith, omega arith)
+returns c = (rw (← c .before .before .before .before .before .new .ensures, ← c .before .before .before .before .new2 .ensures, ← c .before .before .before .new3 .ensures, ← c .before .before .analog-default .ensures .0, ← c .before .camera-places .ensures, ← c .placed .ensures .0), omega arith, omega arith)
 
 pub camera-railed-spec : {M : Type 1} → statement M
 camera-railed-spec =
     tie.close
     (tie.spec
+    (λ c κs. search needs)
+    (λ c κs. search needs)
+    (λ c κs. search needs)
     (λ c κs. search needs)
     (λ c κs. search needs)
     (λ c κs. search needs)

@@ -4,12 +4,9 @@ use Rattle.chosen.specs.Chosen.{areaOf}
 use Rattle.chosen.proofs.area.Statement.{statement}
 use Rattle.chosen.proofs.area.Tie as tie
 
-anchor-toolbar-requires : tie.Need-anchor-toolbar-requires
-anchor-toolbar-requires c κs = let b = c .before .before .blank .ensures in (search needs, rw b (omega arith), rw b (omega arith))
-
 returns : tie.Need-returns
 unfolding areaOf
-returns c = rw (← c .before .before .before .before .blank .ensures, ← c .before .before .max .ensures, ← c .before .anchor-toolbar .ensures, c .before .before .before .before .before .if1 .taken) (c .below-toolbar .ensures)
+returns c = rw (← c .before .before .max .ensures, ← c .before .anchor-toolbar .ensures, c .before .before .before .before .if1 .taken) (c .below-toolbar .ensures)
 
 returns-2 : tie.Need-returns-2
 unfolding areaOf
@@ -20,8 +17,7 @@ area-spec =
     tie.close
     (tie.spec
     (λ c κs. search needs)
-    (λ c κs. search needs)
-    anchor-toolbar-requires
+    (λ c κs. (search needs, omega arith, omega arith))
     (λ c κs. search needs)
     returns
     returns-2)

@@ -1,11 +1,22 @@
-use mathlib.Core.Path.{refl}
-use Rattle.arranged.specs.Places.{atOf}
+use borrow.Author.Needs.{needs}
+use native.Mathlib.Omega.{arith}
+use Rattle.defaults.specs.Controls.{analogControlsOf}
 use Rattle.defaults.proofs.analog_controls.Statement.{statement}
 use Rattle.defaults.proofs.analog_controls.Tie as tie
 
 returns : tie.Need-returns
-unfolding atOf
-returns c = (refl, refl, refl)
+unfolding analogControlsOf
+returns c = (rw (← c .before .before .before .before .before .before .before .before .size-halves .ensures, ← c .before .before .before .before .before .before .before .measure-halves .ensures, ← c .before .before .before .before .before .before .new .ensures, ← c .before .before .before .before .before .new2 .ensures, ← c .before .before .new3 .ensures, ← c .before .half-places .ensures) (rw (← c .controller .ensures .0)), omega arith, omega arith)
 
 pub analog-controls-spec : {M : Type 1} → statement M
-analog-controls-spec = tie.close (tie.spec returns)
+analog-controls-spec =
+    tie.close
+    (tie.spec
+    (λ c κs. search needs)
+    (λ c κs. search needs)
+    (λ c κs. search needs)
+    (λ c κs. search needs)
+    (λ c κs. search needs)
+    (λ c κs. search needs)
+    (λ c κs. search needs)
+    returns)

@@ -10,15 +10,16 @@ use Rattle.defaults.proofs.analog_default.Tie as tie
 returns : tie.Need-returns
 unfolding analogDefaultOf
 returns c =
-    let p = c .before .before .before in
+    let p = c .before .before .before .before in
     let a = p .before .before .before .args in
     with-counts analogLabels 2 (analogDefaultOf (a .w) (a .h)) (analog-formed (a .w) (a .h))
-    (rw (← p .before .before .max .ensures, ← p .before .max2 .ensures, ← full-anew, ← p .analog-full .ensures .0, ← c .before .before .shrunk .ensures .0, ← c .before .finished .ensures .0) (c .try-band .ensures))
+    (rw (← p .before .before .max .ensures, ← p .before .max2 .ensures, ← full-anew, ← p .analog-controls .ensures .0, ← c .before .before .before .shrunk .ensures .0, ← c .before .before .new .ensures, ← c .before .finished .ensures .0) (c .try-band .ensures))
 
 pub analog-default-spec : {M : Type 1} → statement M
 analog-default-spec =
     tie.close
     (tie.spec
+    (λ c κs. search needs)
     (λ c κs. search needs)
     (λ c κs. search needs)
     (λ c κs. search needs)

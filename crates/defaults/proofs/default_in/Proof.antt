@@ -14,7 +14,7 @@ returns c =
     let p = c .before .before in
     let a = p .before .before .before .args in
     with-counts standardLabels 0 (defaultInOf (a .w) (a .h) (cutoutList (a .cutouts)) (a .picture)) (default-formed (a .w) (a .h) (cutoutList (a .cutouts)) (a .picture))
-    (rw (arranged-finished, ← p .before .before .docked .ensures .0, ← p .before .clear .ensures, ← p .try-dock .ensures, ← c .before .try-side .ensures) (c .try-band .ensures))
+    (rw (arranged-finished, ← p .before .before .docked .ensures .0, ← p .before .finished-in .ensures, ← p .try-dock .ensures, ← c .before .try-side .ensures) (c .try-band .ensures))
 
 pub default-in-spec : {M : Type 1} → statement M
 default-in-spec =

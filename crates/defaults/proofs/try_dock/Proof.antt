@@ -6,7 +6,7 @@ use Rattle.defaults.proofs.try_dock.Tie as tie
 
 returns : tie.Need-returns
 unfolding tryDockOf
-returns c = rw (arranged-finished, ← c .before .before .docked .ensures .0, ← c .before .clear .ensures, ← c .wider .ensures, c .before .before .before .if1 .taken)
+returns c = rw (arranged-finished, ← c .before .before .docked .ensures .0, ← c .before .finished-in .ensures, ← c .wider .ensures, c .before .before .before .if1 .taken)
 
 returns-2 : tie.Need-returns-2
 unfolding tryDockOf

@@ -6,7 +6,7 @@ use Rattle.defaults.proofs.try_side.Tie as tie
 
 returns : tie.Need-returns
 unfolding trySideOf
-returns c = rw (side-finished, ← c .before .before .side-controls .ensures .0, ← c .before .clear .ensures, ← c .wider .ensures, c .before .before .before .if1 .taken)
+returns c = rw (side-finished, ← c .before .before .side-controls .ensures .0, ← c .before .finished-in .ensures, ← c .wider .ensures, c .before .before .before .if1 .taken)
 
 returns-2 : tie.Need-returns-2
 unfolding trySideOf

@@ -5,7 +5,19 @@ use Rattle.picture.proofs.auxiliary.Tie as tie
 
 returns : tie.Need-returns
 unfolding auxiliaryOf
-returns c = rw (← c .before .before .before .before .before .before .before .before .before .before .before .before .clamp .ensures)
+returns c = rw (← c .before .before .before .before .before .before .before .before .before .before .before .before .before .before .before .before .clamp .ensures, ← c .before .before .before .before .before .before .before .before .before .before .before .new .ensures, ← c .before .before .before .before .before .before .before .before .before .before .new2 .ensures, ← c .before .before .before .before .before .before .before .before .before .new3 .ensures, ← c .before .before .before .before .before .before .before .before .new4 .ensures, ← c .before .before .before .before .before .before .new5 .ensures) (rw (← c .before .before .before .before .new6 .ensures, ← c .before .before .new7 .ensures, ← c .new8 .ensures))
 
 pub auxiliary-spec : {M : Type 1} → statement M
-auxiliary-spec = tie.close (tie.spec (λ c κs. search needs) returns)
+auxiliary-spec =
+    tie.close
+    (tie.spec
+    (λ c κs. search needs)
+    (λ c κs. search needs)
+    (λ c κs. search needs)
+    (λ c κs. search needs)
+    (λ c κs. search needs)
+    (λ c κs. search needs)
+    (λ c κs. search needs)
+    (λ c κs. search needs)
+    (λ c κs. search needs)
+    returns)

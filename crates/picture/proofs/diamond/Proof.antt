@@ -5,7 +5,15 @@ use Rattle.picture.proofs.diamond.Tie as tie
 
 returns : tie.Need-returns
 unfolding diamondOf
-returns c = rw (← c .before .before .before .before .before .cap .ensures)
+returns c = rw (← c .before .before .before .before .before .before .before .before .before .cap .ensures, ← c .before .before .before .new .ensures, ← c .before .before .new2 .ensures, ← c .before .new3 .ensures, ← c .new4 .ensures)
 
 pub diamond-spec : {M : Type 1} → statement M
-diamond-spec = tie.close (tie.spec (λ c κs. search needs) returns)
+diamond-spec =
+    tie.close
+    (tie.spec
+    (λ c κs. search needs)
+    (λ c κs. search needs)
+    (λ c κs. search needs)
+    (λ c κs. search needs)
+    (λ c κs. search needs)
+    returns)

@@ -16,23 +16,24 @@ use Rattle.layout.specs.ListLaws.{take-mapFirst}
 use Rattle.toolbar.specs.Toolbar.{withToolbar}
 use Rattle.arranged.specs.declared.Places.{Places}
 use Rattle.arranged.specs.ArrangedLabels.{placed-formed}
-use Rattle.arranged.specs.Arranged.{control}
 use Rattle.arranged.specs.Controls.{bareOf}
-use Rattle.arranged.specs.Places.{atOf, moved, placedOf}
+use Rattle.arranged.specs.Places.{control, controlAtOf, controllerOf, atOf, moved, placedOf}
 use Rattle.band.specs.Band.{withAnalogOf}
 use Rattle.band.specs.BandLabels.{with-analog-controls, with-analog-formed}
 use Rattle.defaults.specs.declared.Size.{Size}
-use Rattle.defaults.specs.AnalogControls.{controlAt, analogControlsOf}
 use Rattle.defaults.specs.Defaults.{scaledRectOf, shrunkOf}
 
+abbrev pub analogOf : Places → Rect → Rect → Rect → Layout
+analogOf p dpad left right = controllerOf p dpad 12 (left ∷ right ∷ []) 2
+
 module _ (p : Places) (dpad left right : Rect) (l : Layout) where
-  placed-controls : controlList (placedOf l p) ≡ map (controlAt p) (labelsOf l)
+  placed-controls : controlList (placedOf l p) ≡ map (controlAtOf p) (labelsOf l)
   unfolding placedOf
-  placed-controls = take-mapFirst (moved p) (l .count) (l .controls) ∙ sym (map-map (controlAt p) (λ (c : Control). c .label) (controlList l))
+  placed-controls = take-mapFirst (moved p) (l .count) (l .controls) ∙ sym (map-map (controlAtOf p) (λ (c : Control). c .label) (controlList l))
 
   -- a standard layout, with L3 and R3 added
-  pub added-bare : Formed standardLabels 0 l → bareOf (withAnalogOf (withDpad (placedOf l p) dpad) (p .l3) (p .r3) left right) ≡ analogControlsOf p dpad left right
-  unfolding withAnalogOf atOf
+  pub added-bare : Formed standardLabels 0 l → bareOf (withAnalogOf (withDpad (placedOf l p) dpad) (p .l3) (p .r3) left right) ≡ analogOf p dpad left right
+  unfolding withAnalogOf atOf controllerOf
   added-bare f =
       let digital = withDpad (placedOf l p) dpad in
       let g = placed-formed standardLabels 0 l p f in
@@ -42,19 +43,19 @@ module _ (p : Places) (dpad left right : Rect) (l : Layout) where
       let c = g .0 .1 in
       let d = g .1 .0 in
       let all = withAnalogOf digital (p .l3) (p .r3) left right in
-      let e : all .controls ≡ map (controlAt p) analogLabels = sym (take-all (all .count) (all .controls) (omega arith)) ∙ with-analog-controls digital (p .l3) (p .r3) left right (omega arith) ∙ ap (λ (t : List Control). t ++ (control (p .l3) L3 ∷ control (p .r3) R3 ∷ [])) (placed-controls ∙ ap (map (controlAt p)) (f .0 .0)) in
+      let e : all .controls ≡ map (controlAtOf p) analogLabels = sym (take-all (all .count) (all .controls) (omega arith)) ∙ with-analog-controls digital (p .l3) (p .r3) left right (omega arith) ∙ ap (λ (t : List Control). t ++ (control (p .l3) L3 ∷ control (p .r3) R3 ∷ [])) (placed-controls ∙ ap (map (controlAtOf p)) (f .0 .0)) in
       rw (e, n)
 
 module _ (requested full : Size) where
   -- toolbar and game do not matter to the scaled controls
   shrunk-dressed : (p : Places) (dpad left right game pause playback speed mute : Rect)
-      → let bare = analogControlsOf p dpad left right in
+      → let bare = analogOf p dpad left right in
       bareOf (shrunkOf bare requested full) ≡ bareOf (shrunkOf (withGame (withToolbar bare playback speed mute pause) game) requested full)
-  unfolding shrunkOf setElementsOf elementsOf zipWith
+  unfolding shrunkOf setElementsOf elementsOf zipWith controllerOf
   shrunk-dressed p dpad left right game pause playback speed mute = go (ne (requested .w) (full .w) || ne (requested .h) (full .h))
     where
       bare : Layout
-      bare = analogControlsOf p dpad left right
+      bare = analogOf p dpad left right
 
       dressed : Layout
       dressed = withGame (withToolbar bare playback speed mute pause) game
@@ -63,7 +64,7 @@ module _ (requested full : Size) where
       go true = refl
       go false = refl
 
-  pub shrunk-bare : (p : Places) (dpad left right : Rect) (l : Layout) → bareOf l ≡ analogControlsOf p dpad left right → bareOf (shrunkOf (bareOf l) requested full) ≡ bareOf (shrunkOf l requested full)
+  pub shrunk-bare : (p : Places) (dpad left right : Rect) (l : Layout) → bareOf l ≡ analogOf p dpad left right → bareOf (shrunkOf (bareOf l) requested full) ≡ bareOf (shrunkOf l requested full)
   shrunk-bare p dpad left right l e =
       subst⁻¹
       (λ (b : Layout). bareOf (shrunkOf b requested full) ≡ bareOf (shrunkOf (withGame (withToolbar b (l .playback) (l .speed) (l .mute) (l .pause)) (l .game)) requested full))
