@@ -3,24 +3,19 @@ use mathlib.Core.Bool.{Bool, true, false, cond, _||_}
 use mathlib.Core.List.{List, [], foldl}
 use lib.Ieee.{Float, lt}
 use lib.ListN.{replicate}
-use Rattle.float.specs.Float.{_⊕_, _⊖_, _⊗_, _⊘_, k0, k0·4, k0·5, k1, k2, k3, k4, k8, k16, k20, k24, k32, k48, k56, k64, k76, k80, k84, k96, k100, k112, k122, k128, k140, k160, k168, k196, k200, k224}
+use Rattle.float.specs.Float.{_⊕_, _⊖_, _⊗_, _⊘_, k0, k0·4, k1, k2, k3, k4, k8, k16, k20, k24, k32, k48, k56, k64, k76, k80, k84, k96, k100, k112, k122, k128, k140, k160, k168, k196, k200, k224}
 use Rattle.float.specs.MinMax.{minOf, maxOf, clampOf}
 use Rattle.geometry.specs.declared.Rect.{Rect}
 use Rattle.geometry.specs.Rect.{newOf, emptyRect, overlapsOf}
 use Rattle.layout.specs.declared.Layout.{Layout}
 use Rattle.layout.specs.Layout.{withDpad}
-use Rattle.search.specs.declared.Offset.{Offset}
-use Rattle.search.specs.Search.{placeGameOf}
+use Rattle.search.specs.Search.{centred, placeGameOf}
 use Rattle.toolbar.specs.Toolbar.{anchorToolbarOf}
 use Rattle.arranged.specs.declared.Wells.{Wells}
 use Rattle.arranged.specs.declared.Dock.{Dock}
 use Rattle.arranged.specs.declared.Rails.{Rails}
 use Rattle.arranged.specs.declared.Places.{Places}
 use Rattle.arranged.specs.Places.{capOf, placeFacesOf, controllerOf, placedOf}
-
--- `[0.5; 2]`
-abbrev pub centred : Offset
-centred = record { x = k0·5; y = k0·5 }
 
 -- with the toolbar at its place
 abbrev pub anchoredOf : Layout → Float → Float → Layout

@@ -19,11 +19,12 @@ use Rattle.numerics.specs.Literals.{i0, i4, i8, i16, i20, i24, i32, i48, i56, i
 use Rattle.search.specs.Bounded.{Every, Arranged}
 use Rattle.search.proofs.Layouts.{place-bounded}
 use Rattle.search.proofs.Changes.{dpad-in}
+use Rattle.search.specs.Search.{centred}
 use Rattle.toolbar.specs.ToolbarRanges.{uncovered-in, anchor-in}
 use Rattle.arranged.specs.declared.Wells.{Wells}
 use Rattle.arranged.specs.declared.Dock.{Dock}
 use Rattle.arranged.specs.declared.Rails.{Rails}
-use Rattle.arranged.specs.Arranged.{centred, finishedOf, sizeWellsOf, placeDockOf, dockPlacesOf, dockedOf, arrangedOf, measureRailsOf, railPlacesOf, railedOf, requestedOf, narrowOf, clusterOf, sideRailsOf}
+use Rattle.arranged.specs.Arranged.{finishedOf, sizeWellsOf, placeDockOf, dockPlacesOf, dockedOf, arrangedOf, measureRailsOf, railPlacesOf, railedOf, requestedOf, narrowOf, clusterOf, sideRailsOf}
 use Rattle.arranged.specs.PlaceRanges.{Coordinate, coordinate, cap-in, step-in, faces-in, PlacesIn, empty-in, controller-in, controls-placed}
 
 pub finished-in : {C D : Rect → Type 0} (l : Layout) {w h : Float} → In w (at 0) (at 8192) → In h (at 0) (at 8192) → Every C D l → Every C (Key margin) (finishedOf l w h)

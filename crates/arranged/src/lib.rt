@@ -11,33 +11,20 @@ use float::clamp;
 use float::max;
 use float::min;
 use float::pick;
+use geometry::EMPTY;
 use geometry::Rect;
 use layout::Control;
 use layout::Cutouts;
 use layout::Label;
 use layout::Layout;
+use layout::NO_CUTOUTS;
+use search::CENTRED;
 use search::Offset;
 
 const SQRT_2: f32 = 1.41421356237309504880;
 
 // What lies below the controls of rails and bands.
 pub const BOTTOM: f32 = 4.0;
-
-// `Rect::default`.
-pub const EMPTY: Rect = Rect {
-    x: 0.0,
-    y: 0.0,
-    w: 0.0,
-    h: 0.0,
-};
-
-pub const NO_CUTOUTS: Cutouts = Cutouts {
-    at: [EMPTY; 16],
-    count: 0,
-};
-
-// `[0.5; 2]`.
-pub const CENTRED: Offset = Offset { x: 0.5, y: 0.5 };
 
 const NO_CONTROL: Control = Control {
     bounds: EMPTY,

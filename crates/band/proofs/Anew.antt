@@ -9,10 +9,10 @@ use Rattle.layout.specs.declared.Layout.{Layout}
 use Rattle.layout.specs.Layout.{withGame}
 use Rattle.layout.specs.Lists.{mapFirst}
 use Rattle.layout.specs.Psp.{pspInputsOf}
-use Rattle.search.specs.Search.{placeGameInAspectOf}
+use Rattle.search.specs.Search.{centred, placeGameInAspectOf}
 use Rattle.toolbar.specs.Toolbar.{anchorToolbarOf}
 use Rattle.arranged.specs.Places.{atOf, controllerOf, placedOf}
-use Rattle.arranged.specs.Arranged.{centred, finishedOf, dockPlacesOf, dockedOf, arrangedOf}
+use Rattle.arranged.specs.Arranged.{finishedOf, dockPlacesOf, dockedOf, arrangedOf}
 use Rattle.arranged.specs.Controls.{bareOf}
 use Rattle.arranged.specs.ControlLaws.{anchored-anew, game-anew}
 use Rattle.band.specs.declared.Band.{Band}

@@ -13,11 +13,11 @@ use Rattle.layout.specs.declared.Label.the-variants.{L3, R3}
 use Rattle.layout.specs.declared.Layout.{Layout}
 use Rattle.layout.specs.Layout.{withDpad}
 use Rattle.layout.specs.Psp.{pspInputsOf}
-use Rattle.search.specs.Search.{placeGameInAspectOf}
+use Rattle.search.specs.Search.{centred, placeGameInAspectOf}
 use Rattle.toolbar.specs.Toolbar.{toolbarHeight, anchorToolbarOf}
 use Rattle.arranged.specs.declared.Places.{Places}
 use Rattle.arranged.specs.Places.{capOf, placeFacesOf, control, controllerOf, placedOf}
-use Rattle.arranged.specs.Arranged.{centred, arrangedOf, bottom}
+use Rattle.arranged.specs.Arranged.{arrangedOf, bottom}
 use Rattle.band.specs.declared.Room.{Room}
 use Rattle.band.specs.declared.Band.{Band}
 

@@ -10,9 +10,8 @@ use Rattle.float.specs.MinMax.{maxOf}
 use Rattle.geometry.specs.declared.Rect.{Rect}
 use Rattle.layout.specs.declared.Layout.{Layout}
 use Rattle.layout.specs.Psp.{pspInputsOf}
-use Rattle.search.specs.Search.{placeGameInAspectOf}
+use Rattle.search.specs.Search.{centred, placeGameInAspectOf}
 use Rattle.toolbar.specs.Toolbar.{anchorToolbarOf}
-use Rattle.arranged.specs.Arranged.{centred}
 use Rattle.band.specs.declared.Room.{Room}
 use Rattle.band.specs.Band.{aspectOf, findRoomOf, measureBandOf, bandedOf, controllerBandOf}
 

@@ -6,11 +6,8 @@ ghost use Rattle.layout.specs.Psp.{pspInputsOf};
 ghost use Rattle.arranged.specs.Places.{maybe};
 ghost use Rattle.band.specs.Band.{findRoomOf, measureBandOf, plainPlacesOf, deepPlacesOf, rowPlacesOf, bandPlacesOf, bandControlsOf, aspectOf, controllerBandOf};
 use arranged::BOTTOM;
-use arranged::CENTRED;
-use arranged::EMPTY;
 use arranged::Faces;
 use arranged::MaybeLayout;
-use arranged::NO_CUTOUTS;
 use arranged::Places;
 use arranged::cap;
 use arranged::controller;
@@ -20,8 +17,11 @@ use float::clamp;
 use float::max;
 use float::min;
 use float::pick;
+use geometry::EMPTY;
 use geometry::Rect;
 use layout::Layout;
+use layout::NO_CUTOUTS;
+use search::CENTRED;
 use toolbar::TOOLBAR_HEIGHT;
 
 // The room below the whole picture and the width of a digital well in it.

@@ -9,8 +9,7 @@ use Rattle.float.specs.Float.{_⊗_, k1, k1·35, k122, k184, k360}
 use Rattle.geometry.specs.declared.Rect.{Rect}
 use Rattle.layout.specs.declared.Layout.{Layout}
 use Rattle.layout.specs.Layout.{elementsOf}
-use Rattle.search.specs.Search.{placeGameInAspectOf}
-use Rattle.arranged.specs.Arranged.{centred}
+use Rattle.search.specs.Search.{centred, placeGameInAspectOf}
 use Rattle.band.specs.Band.{aspectOf}
 use Rattle.cutouts.specs.Cutouts.{hitsOf, avoidCutoutsOf}
 use Rattle.camera_rails.specs.CameraRails.{measureRailOf, sizeFaceOf, anchoredRailsOf, analogCameraRailsOf}

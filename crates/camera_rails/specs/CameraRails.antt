@@ -11,11 +11,10 @@ use Rattle.layout.specs.declared.Layout.{Layout}
 use Rattle.layout.specs.Layout.{withDpad, withSticks, elementsOf}
 use Rattle.layout.specs.Lists.{filterMap}
 use Rattle.layout.specs.Psp.{pspInputsOf}
-use Rattle.search.specs.Search.{placeGameInAspectOf}
+use Rattle.search.specs.Search.{centred, placeGameInAspectOf}
 use Rattle.toolbar.specs.Toolbar.{anchorToolbarOf}
 use Rattle.arranged.specs.declared.Places.{Places}
 use Rattle.arranged.specs.Places.{capOf, placeFacesOf, placedOf}
-use Rattle.arranged.specs.Arranged.{centred}
 use Rattle.band.specs.Band.{aspectOf}
 use Rattle.defaults.specs.Defaults.{analogDefaultOf}
 use Rattle.cutouts.specs.Cutouts.{hitsOf, avoidCutoutsOf}

@@ -25,8 +25,8 @@ use Rattle.search.specs.Bounded.{Bounded, Shrunk}
 use Rattle.search.proofs.Placement.{each-filter}
 use Rattle.search.proofs.Layouts.{place-bounded}
 use Rattle.search.proofs.Changes.{shrunk-bounded, anchored-shrunk, dpad-in, psp-in}
+use Rattle.search.specs.Search.{centred}
 use Rattle.toolbar.specs.ToolbarRanges.{uncovered-in, anchor-in}
-use Rattle.arranged.specs.Arranged.{centred}
 use Rattle.arranged.specs.PlaceRanges.{coordinate, cap-in, step-in, faces-in, PlacesIn, controls-placed}
 use Rattle.band.specs.Band.{aspectOf}
 use Rattle.defaults.specs.DefaultRanges.{analog-in}

@@ -6,7 +6,6 @@ ghost use Rattle.layout.specs.Layout.{cutoutList, elementList};
 ghost use Rattle.arranged.specs.Places.{maybe};
 ghost use Rattle.cutouts.specs.Cutouts.{hitsOf};
 ghost use Rattle.camera_rails.specs.CameraRails.{measureRailOf, inRailOf, cameraTopOf, sizeFaceOf, cameraPlacesOf, cameraRailedOf, anchoredRailsOf, analogCameraRailsOf};
-use arranged::CENTRED;
 use arranged::MaybeLayout;
 use arranged::Places;
 use arranged::cap;
@@ -24,6 +23,7 @@ use geometry::Rect;
 use layout::Cutouts;
 use layout::Elements;
 use layout::Layout;
+use search::CENTRED;
 use search::place_game_in_aspect;
 use toolbar::anchor_toolbar;
 

@@ -10,9 +10,8 @@ use Rattle.geometry.specs.declared.Rect.{Rect}
 use Rattle.geometry.specs.Rect.{newOf}
 use Rattle.layout.specs.declared.Layout.{Layout}
 use Rattle.layout.specs.Layout.{anyRect}
-use Rattle.search.specs.Search.{bottomOf, clearPictureAspectOf, placeGameInAspectOf}
+use Rattle.search.specs.Search.{centred, bottomOf, clearPictureAspectOf, placeGameInAspectOf}
 use Rattle.toolbar.specs.Toolbar.{anchorToolbarOf}
-use Rattle.arranged.specs.Arranged.{centred}
 use Rattle.band.specs.Band.{aspectOf, controllerBandOf}
 use Rattle.defaults.specs.Defaults.{defaultInOf, analogDefaultOf, pspOf}
 use Rattle.cutouts.specs.Cutouts.{avoidCutoutsOf}

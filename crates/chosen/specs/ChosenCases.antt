@@ -9,8 +9,7 @@ use Rattle.float.specs.Float.{k1}
 use Rattle.geometry.specs.declared.Rect.{Rect}
 use Rattle.geometry.specs.Choice.{either}
 use Rattle.layout.specs.declared.Layout.{Layout}
-use Rattle.search.specs.Search.{placeGameInAspectOf}
-use Rattle.arranged.specs.Arranged.{centred}
+use Rattle.search.specs.Search.{centred, placeGameInAspectOf}
 use Rattle.band.specs.Band.{aspectOf, controllerBandOf}
 use Rattle.cutouts.specs.Cutouts.{avoidCutoutsOf}
 use Rattle.camera_rails.specs.CameraRails.{analogCameraRailsOf}

@@ -18,9 +18,9 @@ use Rattle.numerics.specs.Literals.{i0}
 use Rattle.search.specs.Bounded.{Every, Bounded, Shrunk}
 use Rattle.search.proofs.Changes.{shrunk-bounded, arranged-shrunk, anchored-shrunk}
 use Rattle.search.proofs.Layouts.{place-bounded}
+use Rattle.search.specs.Search.{centred}
 use Rattle.toolbar.specs.Toolbar.{anchorToolbarOf}
 use Rattle.toolbar.specs.ToolbarRanges.{uncovered-in, anchor-in}
-use Rattle.arranged.specs.Arranged.{centred}
 use Rattle.band.specs.Band.{aspectOf}
 use Rattle.band.specs.BandRanges.{band-in}
 use Rattle.band.specs.BandLabels.{band-formed}

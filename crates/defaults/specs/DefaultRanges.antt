@@ -24,7 +24,7 @@ use Rattle.numerics.specs.Shrunk.{Shrinks, shrunkMargin, shrunk-placed, placed-
 use Rattle.search.specs.Bounded.{Arranged, Shrunk}
 use Rattle.search.proofs.Layouts.{place-bounded}
 use Rattle.search.proofs.Changes.{arranged-shrunk, anchored-shrunk, dpad-in, psp-in, map-elements-in}
-use Rattle.arranged.specs.Arranged.{centred}
+use Rattle.search.specs.Search.{centred}
 use Rattle.arranged.specs.PlaceRanges.{Coordinate, coordinate, cap-in, step-in, FacesIn, faces-in, PlacesIn, controls-placed}
 use Rattle.arranged.specs.ArrangedRanges.{finished-in, arranged-in, side-rails-in}
 use Rattle.band.specs.BandRanges.{with-analog-in, band-in}

@@ -11,10 +11,10 @@ use Rattle.layout.specs.declared.Layout.{Layout}
 use Rattle.layout.specs.Layout.{withDpad, elementsOf}
 use Rattle.layout.specs.Elements.{setElementsOf}
 use Rattle.layout.specs.Psp.{pspInputsOf}
-use Rattle.search.specs.Search.{placeGameInOf}
+use Rattle.search.specs.Search.{centred, placeGameInOf}
 use Rattle.arranged.specs.declared.Places.{Places}
 use Rattle.arranged.specs.Places.{capOf, placeFacesOf, placedOf}
-use Rattle.arranged.specs.Arranged.{centred, finishedOf, arrangedOf, sideRailsOf}
+use Rattle.arranged.specs.Arranged.{finishedOf, arrangedOf, sideRailsOf}
 use Rattle.band.specs.Band.{withAnalogOf, controllerBandOf}
 use Rattle.defaults.specs.declared.Size.{Size}
 use Rattle.defaults.specs.declared.Sizes.{Sizes}

@@ -5,9 +5,7 @@ ghost use Prim.Native.Nat.{_≤_};
 ghost use Rattle.layout.specs.Layout.{cutoutList, elementList};
 ghost use Rattle.defaults.specs.Controls.{finishedInOf, analogControlsOf};
 ghost use Rattle.defaults.specs.Defaults.{widerOf, tryDockOf, trySideOf, tryBandOf, defaultInOf, defaultWithCutoutsOf, newLayoutOf, sizeHalvesOf, measureHalvesOf, halfPlacesOf, scaledRectOf, shrunkOf, analogDefaultOf, pspOf};
-use arranged::CENTRED;
 use arranged::Faces;
-use arranged::NO_CUTOUTS;
 use arranged::Places;
 use arranged::anchored;
 use arranged::cap;
@@ -24,6 +22,8 @@ use geometry::Rect;
 use layout::Cutouts;
 use layout::Elements;
 use layout::Layout;
+use layout::NO_CUTOUTS;
+use search::CENTRED;
 use search::place_game_in;
 
 // The other layout, if its game is wider by more than 0.01.

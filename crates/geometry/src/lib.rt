@@ -9,6 +9,14 @@ pub struct Rect {
     pub h: f32,
 }
 
+// `Rect::default`.
+pub const EMPTY: Rect = Rect {
+    x: 0.0,
+    y: 0.0,
+    w: 0.0,
+    h: 0.0,
+};
+
 impl Rect {
     pub fn new(x: f32, y: f32, w: f32, h: f32) -> Self
         ensures { λ r. ⌜ r ≡ newOf x y w h ⌝ }

@@ -16,9 +16,8 @@ use Rattle.layout.specs.declared.Layout.{Layout}
 use Rattle.layout.specs.Actions.{actionBoundsOf}
 use Rattle.layout.specs.Layout.{anyRect, withBounds, withDpad, withControls, withSticks}
 use Rattle.layout.specs.Lists.{mapFirst}
-use Rattle.search.specs.Search.{placeGameInAspectOf}
+use Rattle.search.specs.Search.{centred, placeGameInAspectOf}
 use Rattle.toolbar.specs.Toolbar.{toolbarHeight}
-use Rattle.arranged.specs.Arranged.{centred}
 use Rattle.moves.specs.declared.Move.the-variants.{Go}
 use Rattle.moves.specs.Moves.{movedOf}
 use Rattle.landscape.specs.declared.Row.{Row}

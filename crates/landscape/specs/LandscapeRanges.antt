@@ -32,8 +32,8 @@ use Rattle.search.proofs.Changes.{each-mapFirst, every-imp}
 use Rattle.search.proofs.Layouts.{place-bounded, place-game-in, place-widest}
 use Rattle.search.proofs.Placement.{each-filter}
 use Rattle.search.proofs.Shapes.{Shape}
+use Rattle.search.specs.Search.{centred}
 use Rattle.toolbar.specs.Toolbar.{toolbarHeight}
-use Rattle.arranged.specs.Arranged.{centred}
 use Rattle.moves.specs.declared.Move.the-variants.{Go}
 use Rattle.moves.specs.Moves.{movedOf}
 use Rattle.landscape.specs.declared.Row.{Row}

@@ -3,12 +3,12 @@ ghost use mathlib.Core.Path.{_≡_};
 ghost use Prim.Native.Nat.{_≤_};
 ghost use Rattle.layout.specs.Lists.{mapFirst};
 ghost use Rattle.landscape.specs.Landscape.{measureRowOf, tightOf, placeOf, inRow, rowSticksOf, rowedOf, fitLandscapeControlsOf};
-use arranged::CENTRED;
 use geometry::Rect;
 use layout::Control;
 use layout::Label;
 use layout::Layout;
 use moves::moved;
+use search::CENTRED;
 use search::place_game_in_aspect;
 use toolbar::TOOLBAR_HEIGHT;
 

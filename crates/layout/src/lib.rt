@@ -11,6 +11,7 @@ ghost use Rattle.geometry.specs.Rect.{overlapsOf};
 ghost use Rattle.layout.specs.Lists.{anyOf};
 ghost use Rattle.layout.specs.Layout.{elementCountOf, elementOf, setElementOf, elementsOf, elementList, cutoutList, withBounds};
 ghost use Rattle.layout.specs.Elements.{replaceFirst, controllerElementsOf, setElementsOf};
+use geometry::EMPTY;
 use geometry::Rect;
 
 pub enum Label {
@@ -64,6 +65,11 @@ pub struct Cutouts {
     pub at: [Rect; 16],
     pub count: usize,
 }
+
+pub const NO_CUTOUTS: Cutouts = Cutouts {
+    at: [EMPTY; 16],
+    count: 0,
+};
 
 impl Label {
     // The label's bit in a button mask.
@@ -355,12 +361,7 @@ impl Layout {
         ensures { λ r. ⌜ r ≡ actionBoundsOf self ⌝ }
     {
         let controls = self.controls;
-        let mut bounds = Rect {
-            x: 0.0,
-            y: 0.0,
-            w: 0.0,
-            h: 0.0,
-        };
+        let mut bounds = EMPTY;
         let mut found = false;
         for i in 0..self.count {
             let c = controls[i];

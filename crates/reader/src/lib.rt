@@ -5,8 +5,10 @@ ghost use lib.Ieee.{binary32, ofBits};
 ghost use lib.ListN.{length};
 ghost use Rattle.geometry.specs.Answer.{refused};
 ghost use Rattle.reader.specs.Order.{answerOf, shortOf, numberAtOf, rectAtOf, filled, readScreenOf, readPictureOf, readModeOf, fitMarkOf, readFitOf, readPlaceOf, readCutoutsOf, readSavedOf, fromByteOf, readFieldOf, blankOf, readOrderOf};
+use geometry::EMPTY;
 use geometry::Rect;
 use layout::Cutouts;
+use layout::NO_CUTOUTS;
 use search::Offset;
 use settings::Fit;
 use settings::Preset;
@@ -216,12 +218,7 @@ fn cutout_rects(value: &[u8], n: usize) -> [Rect; 16]
     requires { ⌜ (n ≤ 16) × (16 * n ≤ length (now value)) ⌝ }
     ensures { λ r. ⌜ r ≡ filled 16 (now (value .entry)) n ⌝ }
 {
-    let mut at = [Rect {
-        x: 0.0,
-        y: 0.0,
-        w: 0.0,
-        h: 0.0,
-    }; 16];
+    let mut at = [EMPTY; 16];
     for i in 0..n {
         at[i] = rect_at(value, i);
     }
@@ -232,12 +229,7 @@ fn saved_rects(value: &[u8], n: usize) -> [Rect; 32]
     requires { ⌜ (n ≤ 32) × (16 * n ≤ length (now value)) ⌝ }
     ensures { λ r. ⌜ r ≡ filled 32 (now (value .entry)) n ⌝ }
 {
-    let mut at = [Rect {
-        x: 0.0,
-        y: 0.0,
-        w: 0.0,
-        h: 0.0,
-    }; 32];
+    let mut at = [EMPTY; 32];
     for i in 0..n {
         at[i] = rect_at(value, i);
     }
@@ -324,21 +316,12 @@ fn read_field(tag: Tag, value: &[u8], s: Settings) -> Reading
 fn blank() -> Settings
     ensures { λ r. ⌜ r ≡ blankOf ⌝ }
 {
-    let none = Rect {
-        x: 0.0,
-        y: 0.0,
-        w: 0.0,
-        h: 0.0,
-    };
     Settings {
         w: 0.0,
         h: 0.0,
-        picture: none,
+        picture: EMPTY,
         preset: Preset::default(),
-        cutouts: Cutouts {
-            at: [none; 16],
-            count: 0,
-        },
+        cutouts: NO_CUTOUTS,
     }
 }
 

@@ -2,7 +2,7 @@
 use mathlib.Core.Bool.{Bool, cond, _&&_, _||_}
 use mathlib.Core.List.{List, [], _∷_, map, foldl}
 use lib.Ieee.{Float, lt, le, eq}
-use Rattle.float.specs.Float.{_⊕_, _⊖_, _⊗_, _⊘_, k0, k0·01, k0·25, k1, k2, k3, k4}
+use Rattle.float.specs.Float.{_⊕_, _⊖_, _⊗_, _⊘_, k0, k0·01, k0·25, k0·5, k1, k2, k3, k4}
 use Rattle.float.specs.MinMax.{minOf, maxOf, clampOf}
 use Rattle.geometry.specs.declared.Rect.{Rect}
 use Rattle.geometry.specs.Rect.{newOf, emptyRect, overlapsOf}
@@ -93,6 +93,10 @@ clearPictureOf w h obstacles = clearPictureAspectOf w h obstacles (k4 ⊘ k3)
 unfoldable pub obstaclesOf : Rect → List Rect → List Rect
 obstaclesOf bounds elements =
     filterMap (λ r. overlapsOf r bounds) (λ r. newOf (r .x ⊖ bounds .x) (r .y ⊖ bounds .y) (r .w) (r .h)) elements
+
+-- `[0.5; 2]`
+abbrev pub centred : Offset
+centred = record { x = k0·5; y = k0·5 }
 
 -- the game for the elements that may not be covered
 unfoldable pub gameOf : List Rect → Rect → Float → Offset → Float → Rect

@@ -9,6 +9,7 @@ ghost use Rattle.search.specs.Search.{withinOf, betterOf, narrowOf, narr
 use float::clamp;
 use float::max;
 use float::min;
+use geometry::EMPTY;
 use geometry::Rect;
 use layout::Elements;
 use layout::Layout;
@@ -18,6 +19,9 @@ pub struct Offset {
     pub x: f32,
     pub y: f32,
 }
+
+// `[0.5; 2]`.
+pub const CENTRED: Offset = Offset { x: 0.5, y: 0.5 };
 
 // A picture may start at y.
 fn within(y: f32, h: f32) -> bool
@@ -70,12 +74,7 @@ fn centered(w: f32, h: f32, obstacles: [Rect; 19], count: usize, aspect: f32) ->
     ensures { λ r. ⌜ r ≡ centeredOf w h (take count obstacles) aspect ⌝ }
 {
     let center = w / 2.0;
-    let mut best = Rect {
-        x: 0.0,
-        y: 0.0,
-        w: 0.0,
-        h: 0.0,
-    };
+    let mut best = EMPTY;
     for j in 0..count + 1 {
         let mut y: f32 = 0.0;
         if j > 0 {
@@ -102,12 +101,7 @@ fn side(w: f32, h: f32, obstacles: [Rect; 19], count: usize, aspect: f32) -> Rec
     requires { ⌜ count ≤ 19 ⌝ }
     ensures { λ r. ⌜ r ≡ sideOf w h (take count obstacles) aspect ⌝ }
 {
-    let mut best = Rect {
-        x: 0.0,
-        y: 0.0,
-        w: 0.0,
-        h: 0.0,
-    };
+    let mut best = EMPTY;
     for i in 0..count + 1 {
         let mut x: f32 = 0.0;
         if i > 0 {

@@ -12,6 +12,7 @@ use Rattle.layout.specs.declared.Cutouts.{Cutouts}
 use Rattle.layout.specs.Layout.{cutoutList}
 use Rattle.layout.specs.Lists.{allOf}
 use Rattle.search.specs.declared.Offset.{Offset}
+use Rattle.search.specs.Search.{centred}
 use Rattle.settings.specs.declared.Fit.{Fit}
 use Rattle.settings.specs.declared.Fit.the-variants.{Unset, Maximum, KeepClear}
 use Rattle.settings.specs.declared.Preset.{Preset}
@@ -29,7 +30,7 @@ defaultOf = record {
   overlap = false;
   fit = Maximum;
   scale = k1;
-  offset = record { x = k0·5; y = k0·5 };
+  offset = centred;
   elements = replicate 32 emptyRect;
   count = 0;
 }

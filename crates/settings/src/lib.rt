@@ -2,8 +2,10 @@
 ghost use mathlib.Core.Path.{_≡_};
 ghost use Prim.Native.Nat.{_≤_};
 ghost use Rattle.settings.specs.Settings.{defaultOf, untouchedOf, pictureFitOf, inLimitsOf, screenInLimitsOf, rectInLimitsOf, placeInLimitsOf, cutoutsInLimitsOf, topsInLimitsOf};
+use geometry::EMPTY;
 use geometry::Rect;
 use layout::Cutouts;
+use search::CENTRED;
 use search::Offset;
 
 // `Option<PictureFit>`
@@ -43,13 +45,8 @@ impl Preset {
             overlap: false,
             fit: Fit::Maximum,
             scale: 1.0,
-            offset: Offset { x: 0.5, y: 0.5 },
-            elements: [Rect {
-                x: 0.0,
-                y: 0.0,
-                w: 0.0,
-                h: 0.0,
-            }; 32],
+            offset: CENTRED,
+            elements: [EMPTY; 32],
             count: 0,
         }
     }

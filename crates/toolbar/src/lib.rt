@@ -5,6 +5,7 @@ ghost use Prim.Native.Nat.{_≤_};
 ghost use lib.ListN.{take};
 ghost use Rattle.layout.specs.Layout.{cutoutList, elementList};
 ghost use Rattle.toolbar.specs.Toolbar.{obstacleList, avoidedOf, BarsOf, besideOf, roomOf, belowOf, pairOf, anchorToolbarOf};
+use geometry::EMPTY;
 use geometry::Rect;
 use layout::Cutouts;
 use layout::Elements;
@@ -114,13 +115,7 @@ fn from_cutouts(cutouts: Cutouts) -> Obstacles
 {
     let from = cutouts.at;
     let n = cutouts.count;
-    let none = Rect {
-        x: 0.0,
-        y: 0.0,
-        w: 0.0,
-        h: 0.0,
-    };
-    let mut at = [none; 31];
+    let mut at = [EMPTY; 31];
     for i in 0..n {
         at[i] = from[i];
     }
