@@ -2,3 +2,4 @@ pub mod Magnitude
 pub mod Literals
 pub mod Order
 pub mod Nan
+pub mod Patterns

@@ -3,7 +3,7 @@ use mathlib.Core.Path.{sym, ap, _∙_, subst}
 use mathlib.Core.Logic.{inl, inr}
 use mathlib.Core.Bool.{Bool, true, false, true≢false}
 use Prim.Native.Nat.{ℕ, zero, suc, _+_, _*_, _^_, _≤_, _<_}
-use native.Mathlib.Nat.{le-of-lt, eq-or-lt-of-le, mul-pos, mul-le-mul-right, mul-lt-mul-of-pos-right, lt-of-mul-lt-mul-right, min-eq-left, min-eq-right}
+use native.Mathlib.Nat.{le-of-lt, mul-pos, mul-le-mul-right, mul-lt-mul-of-pos-right, lt-of-mul-lt-mul-right, min-eq-left, min-eq-right}
 use native.Mathlib.Omega.{arith}
 use lib.Dec.{T, ltb→lt, lt→ltb}
 use lib.IntN.{ℤ}
@@ -16,7 +16,7 @@ use Rattle.hypot.specs.Hypot.{hypotOf}
 use Rattle.hypot.specs.Pattern.{patternOf, value}
 use Rattle.hypot.specs.Nearest.{Nearest}
 use Rattle.hypot.proofs.Order.{lt-or-ge, square-lt}
-use Rattle.hypot.proofs.Floats.{finite-value, value-is, inf-bits, nan-is, inf-is}
+use Rattle.hypot.proofs.Floats.{finite-value, finite-pattern, value-is, inf-bits}
 use Rattle.hypot.proofs.Theorem.{root-is-nearest}
 use Rattle.hypot.proofs.Cases.{hypot-is-root}
 
@@ -60,32 +60,18 @@ below-inf (inf true) m e l = tt
 below-inf (inf false) m e l = l
 below-inf (fin s k g) m e l = tt
 
-abbrev IsFinite : Float → Type 0
-IsFinite nan = ⊥
-IsFinite (inf s) = ⊥
-IsFinite (fin s m e) = Unit {0}
-
-finite-pattern : (x : Float) → T (fits binary32 x) → IsFinite x → patternOf x < 2139095040
-finite-pattern x held f = elim (lt-or-ge (patternOf x) 2139095040) [
-  | inl g ↦ g
-  | inr g ↦ elim (eq-or-lt-of-le g) [
-    | inl e ↦ absurd (subst IsFinite (inf-is x held (sym e) .1) f)
-    | inr k ↦ absurd (subst IsFinite (nan-is x held k) f)
-  ]
-]
-
 finite-sides : (t : Float) (s u : Bool) (m n : ℕ) (e d : ℤ) → T (fits binary32 (fin s m e)) → T (fits binary32 (fin u n d)) → T (lt t (fin false m e)) → T (lt t (hypotOf (fin s m e) (fin u n d)))
 finite-sides t s u m n e d A B l =
     let a = fin s m e in
     let b = fin u n d in
     let p = patternOf a in
     let q = patternOf b in
-    let P : p < 2139095040 = finite-pattern a A tt in
-    let Q : q < 2139095040 = finite-pattern b B tt in
+    let P : p < 0x7f80_0000 = finite-pattern a A tt in
+    let Q : q < 0x7f80_0000 = finite-pattern b B tt in
     let near = root-is-nearest (value p * value p + value q * value q) in
     let r = near .r in
     let most : value p ≤ value r = root-at-least _ p r (omega arith) (near .is) in
-    subst (λ (y : Float). T (lt t y)) (sym (hypot-is-root a b A B P Q ∙ near .root)) (elim (lt-or-ge r 2139095040) [
+    subst (λ (y : Float). T (lt t y)) (sym (hypot-is-root a b A B P Q ∙ near .root)) (elim (lt-or-ge r 0x7f80_0000) [
       | inl g ↦ subst (λ (x : ℕ). T (lt t (ofBits binary32 x))) (sym (min-eq-left (le-of-lt g))) (below-value t (ofBits binary32 r) s _ m e (value p) (value r) (finite-value a A P) (value-is r g) most l)
       | inr g ↦ subst (λ (y : Float). T (lt t y)) (sym (ap (ofBits binary32) (min-eq-right g) ∙ inf-bits)) (below-inf t m e l)
     ])

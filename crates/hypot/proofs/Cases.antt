@@ -12,7 +12,7 @@ use Rattle.hypot.specs.Nearest.{HypotIsRoot}
 use Rattle.hypot.proofs.Order.{lt-or-ge}
 use Rattle.hypot.proofs.Floats.{Whole, finite-is, nan-is, inf-is}
 
-inf-pattern : (s : Bool) → patternOf (inf s) ≡ 2139095040
+inf-pattern : (s : Bool) → patternOf (inf s) ≡ 0x7f80_0000
 unfolding toBits
 inf-pattern true = refl
 inf-pattern false = refl
@@ -27,13 +27,13 @@ inf-right nan t = refl
 inf-right (inf s) t = refl
 inf-right (fin s m e) t = refl
 
-nan-left : (b : Float) → (patternOf b ≡ 2139095040 → ⊥) → hypotOf nan b ≡ nan
+nan-left : (b : Float) → (patternOf b ≡ 0x7f80_0000 → ⊥) → hypotOf nan b ≡ nan
 unfolding hypotOf
 nan-left nan h = refl
 nan-left (inf t) h = absurd (h (inf-pattern t))
 nan-left (fin t n d) h = refl
 
-nan-right : (a : Float) → (patternOf a ≡ 2139095040 → ⊥) → hypotOf a nan ≡ nan
+nan-right : (a : Float) → (patternOf a ≡ 0x7f80_0000 → ⊥) → hypotOf a nan ≡ nan
 unfolding hypotOf
 nan-right nan h = refl
 nan-right (inf t) h = absurd (h (inf-pattern t))
@@ -61,20 +61,20 @@ sorted p q = elim (lt-or-ge p q) [
 ]
 
 module _ (a b : Float) (A : T (fits binary32 a)) (B : T (fits binary32 b)) where
-  pub first-inf : patternOf a ≡ 2139095040 → inf false ≡ hypotOf a b
+  pub first-inf : patternOf a ≡ 0x7f80_0000 → inf false ≡ hypotOf a b
   first-inf h = let i = inf-is a A h in sym (ap (λ (x : Float). hypotOf x b) (i .1) ∙ inf-left (i .0) b)
 
-  pub second-inf : patternOf b ≡ 2139095040 → inf false ≡ hypotOf a b
+  pub second-inf : patternOf b ≡ 0x7f80_0000 → inf false ≡ hypotOf a b
   second-inf h = let i = inf-is b B h in sym (ap (λ (x : Float). hypotOf a x) (i .1) ∙ inf-right a (i .0))
 
-  pub first-nan : 2139095040 < patternOf a → (patternOf b ≡ 2139095040 → ⊥) → a ≡ hypotOf a b
+  pub first-nan : 0x7f80_0000 < patternOf a → (patternOf b ≡ 0x7f80_0000 → ⊥) → a ≡ hypotOf a b
   first-nan h k = let i = nan-is a A h in i ∙ sym (ap (λ (x : Float). hypotOf x b) i ∙ nan-left b k)
 
-  pub second-nan : 2139095040 < patternOf b → (patternOf a ≡ 2139095040 → ⊥) → b ≡ hypotOf a b
+  pub second-nan : 0x7f80_0000 < patternOf b → (patternOf a ≡ 0x7f80_0000 → ⊥) → b ≡ hypotOf a b
   second-nan h k = let i = nan-is b B h in i ∙ sym (ap (λ (x : Float). hypotOf a x) i ∙ nan-right a k)
 
   -- p and q are the patterns, h and l the larger and the smaller of them
-  pub finite-both : (p q h l : ℕ) → p ≡ patternOf a → q ≡ patternOf b → h ≡ max p q → l ≡ min p q → p < 2139095040 → q < 2139095040
+  pub finite-both : (p q h l : ℕ) → p ≡ patternOf a → q ≡ patternOf b → h ≡ max p q → l ≡ min p q → p < 0x7f80_0000 → q < 0x7f80_0000
       → nearestRoot (value h * value h + value l * value l) ≡ hypotOf a b
   finite-both p q h l pp qq hh ll P Q =
       ap (λ (x : ℕ). nearestRoot (value x * value x + value l * value l)) hh
@@ -82,4 +82,4 @@ module _ (a b : Float) (A : T (fits binary32 a)) (B : T (fits binary32 b)) where
       ∙ ap nearestRoot (sorted p q)
       ∙ ap (λ (x : ℕ). nearestRoot (value x * value x + value q * value q)) pp
       ∙ ap (λ (x : ℕ). nearestRoot (value (patternOf a) * value (patternOf a) + value x * value x)) qq
-      ∙ sym (hypot-is-root a b A B (subst (λ (x : ℕ). x < 2139095040) pp P) (subst (λ (x : ℕ). x < 2139095040) qq Q))
+      ∙ sym (hypot-is-root a b A B (subst (λ (x : ℕ). x < 0x7f80_0000) pp P) (subst (λ (x : ℕ). x < 0x7f80_0000) qq Q))

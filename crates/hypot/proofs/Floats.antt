@@ -2,15 +2,17 @@
 use mathlib.Core.Path.{_≡_, refl, sym, ap, _∙_, subst}
 use mathlib.Core.Logic.{_⊎_, inl, inr}
 use Prim.Native.Nat.{ℕ, zero, suc, _+_, _-_, _*_, _/_, _%_, _^_, _≤_, _<_}
-use native.Mathlib.Nat.{le-trans, le-of-lt, lt-irrefl, mod-le, mul-div-cancel, min-eq-left, min-eq-right}
+use native.Mathlib.Nat.{le-trans, le-of-lt, eq-or-lt-of-le, mod-le, mul-div-cancel, min-eq-left, min-eq-right}
 use native.Mathlib.Omega.{arith}
 use mathlib.Core.Bool.{Bool, true, false, not, cond, true≢false}
-use lib.Dec.{T, leb, ltb, eqb, lt→ltb, not-T, eqb→eq}
+use lib.Dec.{T, leb, ltb, lt→ltb}
 use lib.Arith.{le→nltb, lt→nleb}
-use lib.Ieee.{Float, nan, inf, fin, Format, binary32, prec, low, hid, ones, top, down, size, odd, units, fits, isNan, ne, ofFields, ofBits, toBits, nanBits}
+use lib.Ieee.{Float, nan, inf, fin, Format, binary32, hid, ones, top, down, size, odd, units, fits, isNan, ofFields, ofBits, toBits, nanBits}
 use lib.Ieee.Exact.{HasValue, odd-sign, units-val}
 use lib.Ieee.Fits.{odd-fits, down-pos}
 use lib.Ieee.Bits.{ofBits-toBits, ofBits-fits, cond-no, is-true, is-false, nanBits-is, nanBits-above}
+use lib.Ieee.Scale.{finite}
+use Rattle.float.proofs.Patterns.{ofBits-is, fields-normal}
 use Rattle.hypot.specs.Hypot.{whole}
 use Rattle.hypot.specs.Pattern.{patternOf, value, f32At}
 use Rattle.hypot.specs.Nearest.{ValueIs}
@@ -18,43 +20,30 @@ use Rattle.hypot.proofs.Order.{lt-or-ge}
 use Rattle.hypot.proofs.Value.{value-lt, value-le, value-at}
 
 -- ---- a pattern's value
-pub fields-normal : (f : Format) (s : Bool) (x t : ℕ) → suc x < ones f → HasValue (ofFields f s (suc x) t) s ((hid f + t) * 2 ^ x) (2 ^ low f)
-unfolding ofFields
-fields-normal f s x t h =
-    subst (λ (v : Float). HasValue v s ((hid f + t) * 2 ^ x) (2 ^ low f)) (sym (cond-no (eqb (suc x) (ones f)) (cond (eqb t 0) (inf s) nan) (odd (prec f) s (hid f + t) x (low f)) (not-T (eqb (suc x) (ones f)) differ)))
-    (odd-sign (prec f) s (hid f + t) x (low f))
-  where
-    differ : T (eqb (suc x) (ones f)) → ⊥
-    differ u = lt-irrefl (ones f) (subst (λ (z : ℕ). z < ones f) (eqb→eq (suc x) (ones f) u) h)
-
-fields-value : (s : Bool) (x t : ℕ) → x < 255 → t < 8388608 → HasValue (ofFields binary32 s x t) s (value (x * 8388608 + t)) (2 ^ 149)
+fields-value : (s : Bool) (x t : ℕ) → x < 255 → t < 0x80_0000 → HasValue (ofFields binary32 s x t) s (value (x * 0x80_0000 + t)) (2 ^ 149)
 unfolding ofFields
 fields-value s zero t X H = subst (λ (n : ℕ). HasValue (odd 24 s t 0 149) s n (2 ^ 149)) (sym (value-at 0 t (omega arith) (inl refl))) (odd-sign 24 s t 0 149)
 fields-value s (suc x) t X H =
-    subst (λ (n : ℕ). HasValue (ofFields binary32 s (suc x) t) s n (2 ^ 149)) (sym (ap value carry ∙ value-at x (8388608 + t) (omega arith) (inr (omega arith)))) (fields-normal binary32 s x t X)
+    subst (λ (n : ℕ). HasValue (ofFields binary32 s (suc x) t) s n (2 ^ 149)) (sym (ap value carry ∙ value-at x (0x80_0000 + t) (omega arith) (inr (omega arith)))) (fields-normal binary32 s x t X)
   where
-    carry : suc x * 8388608 + t ≡ x * 8388608 + (8388608 + t)
+    carry : suc x * 0x80_0000 + t ≡ x * 0x80_0000 + (0x80_0000 + t)
     carry = omega arith
 
-pub ofBits-is : (f : Format) (b : ℕ) → ofBits f b ≡ ofFields f (leb (top f) b) (b % top f / hid f) (b % hid f)
-unfolding ofBits
-ofBits-is f b = refl
-
-bits-value : (b : ℕ) → b % 2147483648 < 2139095040 → HasValue (ofBits binary32 b) (leb 2147483648 b) (value (b % 2147483648)) (2 ^ 149)
+bits-value : (b : ℕ) → b % 0x8000_0000 < 0x7f80_0000 → HasValue (ofBits binary32 b) (leb 0x8000_0000 b) (value (b % 0x8000_0000)) (2 ^ 149)
 bits-value b h =
-    let x = b % 2147483648 / 8388608 in
-    let t = b % 8388608 in
-    let e : x * 8388608 + t ≡ b % 2147483648 = omega arith in
-    subst (λ (v : Float). HasValue v (leb 2147483648 b) (value (b % 2147483648)) (2 ^ 149)) (sym (ofBits-is binary32 b))
-    (subst (λ (p : ℕ). HasValue (ofFields binary32 (leb 2147483648 b) x t) (leb 2147483648 b) (value p) (2 ^ 149)) e
-    (fields-value (leb 2147483648 b) x t (omega arith) (omega arith)))
+    let x = b % 0x8000_0000 / 0x80_0000 in
+    let t = b % 0x80_0000 in
+    let e : x * 0x80_0000 + t ≡ b % 0x8000_0000 = omega arith in
+    subst (λ (v : Float). HasValue v (leb 0x8000_0000 b) (value (b % 0x8000_0000)) (2 ^ 149)) (sym (ofBits-is binary32 b))
+    (subst (λ (p : ℕ). HasValue (ofFields binary32 (leb 0x8000_0000 b) x t) (leb 0x8000_0000 b) (value p) (2 ^ 149)) e
+    (fields-value (leb 0x8000_0000 b) x t (omega arith) (omega arith)))
 
 pub value-is : (p : ℕ) → ValueIs p
 value-is p h =
-    let e : p % 2147483648 ≡ p = omega arith in
-    let s : leb 2147483648 p ≡ false = is-false (leb 2147483648 p) (lt→nleb 2147483648 p (omega arith)) in
+    let e : p % 0x8000_0000 ≡ p = omega arith in
+    let s : leb 0x8000_0000 p ≡ false = is-false (leb 0x8000_0000 p) (lt→nleb 0x8000_0000 p (omega arith)) in
     subst (λ (b : Bool). HasValue (ofBits binary32 p) b (value p) (2 ^ 149)) s
-    (subst (λ (q : ℕ). HasValue (ofBits binary32 p) (leb 2147483648 p) (value q) (2 ^ 149)) e (bits-value p (subst (λ (q : ℕ). q < 2139095040) (sym e) h)))
+    (subst (λ (q : ℕ). HasValue (ofBits binary32 p) (leb 0x8000_0000 p) (value q) (2 ^ 149)) e (bits-value p (subst (λ (q : ℕ). q < 0x7f80_0000) (sym e) h)))
 
 abbrev pub Whole : Float → ℕ → Type 0
 Whole nan n = ⊥
@@ -66,26 +55,26 @@ whole-of nan s n h = h
 whole-of (inf t) s n h = h
 whole-of (fin t m e) s n h = ap (λ (x : ℕ). x / down e) (h .1) ∙ mul-div-cancel n (down-pos e)
 
-pub finite-value : (x : Float) → T (fits binary32 x) → patternOf x < 2139095040 → HasValue x (leb 2147483648 (toBits binary32 x)) (value (patternOf x)) (2 ^ 149)
+pub finite-value : (x : Float) → T (fits binary32 x) → patternOf x < 0x7f80_0000 → HasValue x (leb 0x8000_0000 (toBits binary32 x)) (value (patternOf x)) (2 ^ 149)
 finite-value x held h =
     let b = toBits binary32 x in
-    subst (λ (y : Float). HasValue y (leb 2147483648 b) (value (patternOf x)) (2 ^ 149)) (ofBits-toBits binary32 x held) (bits-value b h)
+    subst (λ (y : Float). HasValue y (leb 0x8000_0000 b) (value (patternOf x)) (2 ^ 149)) (ofBits-toBits binary32 x held) (bits-value b h)
 
-pub finite-is : (x : Float) → T (fits binary32 x) → patternOf x < 2139095040 → Whole x (value (patternOf x))
+pub finite-is : (x : Float) → T (fits binary32 x) → patternOf x < 0x7f80_0000 → Whole x (value (patternOf x))
 finite-is x held h = whole-of x _ _ (finite-value x held h)
 
 -- ---- `units`
-bits-at : (x : Float) (n : ℕ) → HasValue x false n (2 ^ 149) → toBits binary32 x ≡ (size n - 24) * 8388608 + n / 2 ^ (size n - 24)
+bits-at : (x : Float) (n : ℕ) → HasValue x false n (2 ^ 149) → toBits binary32 x ≡ (size n - 24) * 0x80_0000 + n / 2 ^ (size n - 24)
 unfolding toBits
 bits-at nan n h = absurd h
 bits-at (inf s) n h = absurd h
 bits-at (fin true m e) n h = absurd (true≢false (h .0))
-bits-at (fin false m e) n h = ap (λ (x : ℕ). 0 + (size x - 24) * 8388608 + x / 2 ^ (size x - 24)) (whole-of (fin false m e) false n h) ∙ omega arith
+bits-at (fin false m e) n h = ap (λ (x : ℕ). 0 + (size x - 24) * 0x80_0000 + x / 2 ^ (size x - 24)) (whole-of (fin false m e) false n h) ∙ omega arith
 
 same-value : (x y : Float) (n : ℕ) → T (fits binary32 x) → T (fits binary32 y) → HasValue x false n (2 ^ 149) → HasValue y false n (2 ^ 149) → x ≡ y
 same-value x y n a b h k = sym (ofBits-toBits binary32 x a) ∙ ap (ofBits binary32) (bits-at x n h ∙ sym (bits-at y n k)) ∙ ofBits-toBits binary32 y b
 
-units-fit : (t k : ℕ) → t ≤ 16777216 → t * 2 ^ k < 2 ^ 277 → T (fits binary32 (units binary32 false t k))
+units-fit : (t k : ℕ) → t ≤ 0x100_0000 → t * 2 ^ k < 2 ^ 277 → T (fits binary32 (units binary32 false t k))
 unfolding units
 units-fit t k h g =
     subst (λ (b : Bool). T (fits binary32 (cond b (odd 25 false t k 149) (inf false)))) (sym (is-true (ltb (t * 2 ^ k) (2 ^ 277)) (lt→ltb (t * 2 ^ k) (2 ^ 277) g)))
@@ -95,15 +84,15 @@ units-over : (t k : ℕ) → 2 ^ 277 ≤ t * 2 ^ k → units binary32 false t k 
 unfolding units
 units-over t k h = cond-no (ltb (t * 2 ^ k) (2 ^ 277)) (odd 25 false t k 149) (inf false) (le→nltb (t * 2 ^ k) (2 ^ 277) h)
 
-pub inf-bits : ofBits binary32 2139095040 ≡ inf false
+pub inf-bits : ofBits binary32 0x7f80_0000 ≡ inf false
 unfolding ofBits
 inf-bits = refl
 
-pub units-at : (k t : ℕ) → t ≤ 16777216 → (k ≡ 0) ⊎ (8388608 ≤ t) → units binary32 false t k ≡ f32At (k * 8388608 + t)
+pub units-at : (k t : ℕ) → t ≤ 0x100_0000 → (k ≡ 0) ⊎ (0x80_0000 ≤ t) → units binary32 false t k ≡ f32At (k * 0x80_0000 + t)
 units-at k t h l =
-    let b = k * 8388608 + t in
+    let b = k * 0x80_0000 + t in
     let v : value b ≡ t * 2 ^ k = value-at k t h l in
-    elim (lt-or-ge b 2139095040) [
+    elim (lt-or-ge b 0x7f80_0000) [
       | inl g ↦
           let under : t * 2 ^ k < 2 ^ 277 = subst (λ (x : ℕ). x < 2 ^ 277) v (value-lt g) in
           same-value (units binary32 false t k) (ofBits binary32 b) (t * 2 ^ k) (units-fit t k h under) (ofBits-fits binary32 b) (units-val binary32 false t k under)
@@ -119,17 +108,11 @@ only nan t = refl
 only (inf s) t = absurd t
 only (fin s m e) t = absurd t
 
-pub nan-is : (x : Float) → T (fits binary32 x) → 2139095040 < patternOf x → x ≡ nan
+pub nan-is : (x : Float) → T (fits binary32 x) → 0x7f80_0000 < patternOf x → x ≡ nan
 nan-is x held h =
     let b = toBits binary32 x in
-    let t : T (isNan (ofBits binary32 b)) = subst T (sym (nanBits-above binary32 b) ∙ nanBits-is binary32 b) (lt→ltb 2139095040 (b % 2147483648) h) in
+    let t : T (isNan (ofBits binary32 b)) = subst T (sym (nanBits-above binary32 b) ∙ nanBits-is binary32 b) (lt→ltb 0x7f80_0000 (b % 0x8000_0000) h) in
     only x (subst (λ (y : Float). T (isNan y)) (ofBits-toBits binary32 x held) t)
-
-pub no-nan : (x : Float) → ne x x ≡ false → T (not (isNan x))
-unfolding isNan ne
-no-nan nan h = absurd (true≢false h)
-no-nan (inf s) h = tt
-no-nan (fin s m e) h = tt
 
 pub no-nan-bits : (f : Format) (b : ℕ) → b ≤ ones f * hid f → T (not (nanBits f b))
 no-nan-bits f b h = subst (λ (t : Bool). T (not t)) (sym (nanBits-above f b)) (le→nltb (ones f * hid f) (b % top f) (le-trans (mod-le b (top f)) h))
@@ -139,10 +122,20 @@ all-ones : (s : Bool) → ofFields binary32 s 255 0 ≡ inf s
 unfolding ofFields
 all-ones s = refl
 
-pub inf-is : (x : Float) → T (fits binary32 x) → patternOf x ≡ 2139095040 → (s : Bool) × (x ≡ inf s)
+pub inf-is : (x : Float) → T (fits binary32 x) → patternOf x ≡ 0x7f80_0000 → (s : Bool) × (x ≡ inf s)
 inf-is x held h =
     let b = toBits binary32 x in
-    let s = leb 2147483648 b in
-    let e : b % 2147483648 / 8388608 ≡ 255 = omega arith in
-    let t : b % 8388608 ≡ 0 = omega arith in
-    (s, sym (ofBits-toBits binary32 x held) ∙ ofBits-is binary32 b ∙ ap (λ (y : ℕ). ofFields binary32 s y (b % 8388608)) e ∙ ap (λ (y : ℕ). ofFields binary32 s 255 y) t ∙ all-ones s)
+    let s = leb 0x8000_0000 b in
+    let e : b % 0x8000_0000 / 0x80_0000 ≡ 255 = omega arith in
+    let t : b % 0x80_0000 ≡ 0 = omega arith in
+    (s, sym (ofBits-toBits binary32 x held) ∙ ofBits-is binary32 b ∙ ap (λ (y : ℕ). ofFields binary32 s y (b % 0x80_0000)) e ∙ ap (λ (y : ℕ). ofFields binary32 s 255 y) t ∙ all-ones s)
+
+-- ---- a finite number
+pub finite-pattern : (x : Float) → T (fits binary32 x) → T (finite x) → patternOf x < 0x7f80_0000
+finite-pattern x held h = elim (lt-or-ge (patternOf x) 0x7f80_0000) [
+  | inl l ↦ l
+  | inr g ↦ elim (eq-or-lt-of-le g) [
+    | inl e ↦ absurd (subst (λ (y : Float). T (finite y)) (inf-is x held (sym e) .1) h)
+    | inr l ↦ absurd (subst (λ (y : Float). T (finite y)) (nan-is x held l) h)
+  ]
+]

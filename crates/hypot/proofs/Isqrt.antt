@@ -10,7 +10,8 @@ use lib.Ieee.{size}
 use lib.Ieee.Digits.{size-lt}
 use Rattle.hypot.specs.Hypot.{grow, rootBelow, isqrt}
 use Rattle.hypot.specs.Parts.{rootOf}
-use Rattle.hypot.proofs.Order.{Cmp, lt-or-ge, square-le, square-lt}
+use Rattle.float.specs.Compare.{Cmp}
+use Rattle.hypot.proofs.Order.{lt-or-ge, square-le, square-lt}
 
 abbrev pub IsRoot : ℕ → ℕ → Type 0
 IsRoot n r = (r * r ≤ n) × (n < (r + 1) * (r + 1))

@@ -2,7 +2,7 @@
 use mathlib.Core.Path.{_≡_, refl, sym, ap, _∙_, subst}
 use mathlib.Core.Logic.{inl, inr}
 use Prim.Native.Nat.{ℕ, suc, _+_, _-_, _*_, _/_, _%_, _^_, _≤_, _<_, zero-le}
-use native.Mathlib.Nat.{le-of-lt, le-of-eq, eq-or-lt-of-le, lt-of-lt-of-le, lt-of-le-of-lt, le-add-right, not-le-of-lt, mul-pos, mul-mul-mul-comm, lt-of-mul-lt-mul-right}
+use native.Mathlib.Nat.{le-of-lt, le-of-eq, lt-of-lt-of-le, lt-of-le-of-lt, le-add-right, not-le-of-lt, mul-pos, mul-mul-mul-comm, lt-of-mul-lt-mul-right}
 use native.Mathlib.Numerals.{lt-add-one}
 use native.Mathlib.Omega.{arith}
 use mathlib.Core.Bool.{Bool, true, false, _&&_, _||_, true≢false}
@@ -21,7 +21,8 @@ use Rattle.hypot.specs.Pattern.{patternOf, exponentOf, significandOf, va
 use Rattle.hypot.specs.Nearest.{mid}
 use Rattle.hypot.specs.Parts.{squareOf, sumOfSquaresOf, midpointOf, Settled}
 use Rattle.hypot.proofs.Order.{lt-or-ge, square-lt}
-use Rattle.hypot.proofs.Floats.{ofBits-is, fields-normal, finite-value, nan-is, inf-is}
+use Rattle.float.proofs.Patterns.{ofBits-is, fields-normal}
+use Rattle.hypot.proofs.Floats.{finite-value, finite-pattern}
 use Rattle.hypot.proofs.Rounding.{mid-next, upper}
 use Rattle.hypot.proofs.Ways.{parts, finite-nearest}
 use Rattle.hypot.proofs.Cases.{hypot-is-root}
@@ -88,7 +89,7 @@ square-is (fin t m e) s v h =
     let d = down e in
     ap (λ (z : Bool). round binary64 z (n * n) (d * d)) (alike t) ∙ round-same binary64 false (n * n) (d * d) (v * v) (L * L) (mul-pos (down-pos e) (down-pos e)) (pow-pos 298) (squared n L v d (h .1))
 
-square-exact : (p : ℕ) → p < 2139095040 → HasValue (round binary64 false (value p * value p) (L * L)) false (value p * value p) (L * L)
+square-exact : (p : ℕ) → p < 0x7f80_0000 → HasValue (round binary64 false (value p * value p) (L * L)) false (value p * value p) (L * L)
 square-exact p h =
     let c = significandOf p in
     let k = exponentOf p in
@@ -103,7 +104,7 @@ square-exact p h =
     spread : (c K J W : ℕ) → c * K * (c * K) * (J * W) ≡ c * c * (J * (K * K)) * W
     spread c K J W = omega arith
 
-square-value : (x : Float) → T (fits binary32 x) → patternOf x < 2139095040 → HasValue (squareOf x) false (value (patternOf x) * value (patternOf x)) (L * L)
+square-value : (x : Float) → T (fits binary32 x) → patternOf x < 0x7f80_0000 → HasValue (squareOf x) false (value (patternOf x) * value (patternOf x)) (L * L)
 square-value x held h = rw (square-is x _ _ (finite-value x held h)) (square-exact (patternOf x) h)
 
 added : (m n a b d e c : ℕ) → m * c ≡ a * d → n * c ≡ b * e → (m * e + n * d) * c ≡ (a + b) * (d * e)
@@ -152,69 +153,60 @@ finite-square nan h = h
 finite-square (inf s) h = h
 finite-square (fin s m e) h = tt
 
-pattern-lt : (x : Float) → T (fits binary32 x) → T (finite x) → patternOf x < 2139095040
-pattern-lt x held h = elim (lt-or-ge (patternOf x) 2139095040) [
-  | inl l ↦ l
-  | inr g ↦ elim (eq-or-lt-of-le g) [
-    | inl e ↦ absurd (subst (λ (y : Float). T (finite y)) (inf-is x held (sym e) .1) h)
-    | inr l ↦ absurd (subst (λ (y : Float). T (finite y)) (nan-is x held l) h)
-  ]
-]
-
 -- ---- the midpoint of g and g + 1
-module _ (g : ℕ) (least : 8388608 ≤ g) (most : g < 2139095040) where
-  midpoint-value : HasValue (midpointOf (7516192768 + g)) false ((value (g + 1) + value g) * 2 ^ 924) (2 ^ 1074)
+module _ (g : ℕ) (least : 0x80_0000 ≤ g) (most : g < 0x7f80_0000) where
+  midpoint-value : HasValue (midpointOf (0x1_c000_0000 + g)) false ((value (g + 1) + value g) * 2 ^ 924) (2 ^ 1074)
   midpoint-value =
-      let b = (2 * (7516192768 + g) + 1) * 268435456 in
+      let b = (2 * (0x1_c000_0000 + g) + 1) * 0x1000_0000 in
       let k = exponentOf g in
       let c = significandOf g in
-      let t = (2 * c + 1) * 268435456 - 4503599627370496 in
-      let s : leb 9223372036854775808 b ≡ false = is-false _ (lt→nleb 9223372036854775808 b (omega arith)) in
-      let x : b % 9223372036854775808 / 4503599627370496 ≡ suc (896 + k) = omega arith in
-      let y : b % 4503599627370496 ≡ t = omega arith in
-      let z : 4503599627370496 + t ≡ (2 * c + 1) * 268435456 = omega arith in
-      let n : (4503599627370496 + t) * 2 ^ (896 + k) ≡ (value (g + 1) + value g) * 2 ^ 924 =
-      ap (λ (m : ℕ). m * 2 ^ (896 + k)) z ∙ ap (λ (m : ℕ). (2 * c + 1) * 268435456 * m) (pow-add 2 896 k) ∙ regroup (2 * c + 1) 268435456 (2 ^ 896) (2 ^ k)
+      let t = (2 * c + 1) * 0x1000_0000 - 0x10_0000_0000_0000 in
+      let s : leb 0x8000_0000_0000_0000 b ≡ false = is-false _ (lt→nleb 0x8000_0000_0000_0000 b (omega arith)) in
+      let x : b % 0x8000_0000_0000_0000 / 0x10_0000_0000_0000 ≡ suc (896 + k) = omega arith in
+      let y : b % 0x10_0000_0000_0000 ≡ t = omega arith in
+      let z : 0x10_0000_0000_0000 + t ≡ (2 * c + 1) * 0x1000_0000 = omega arith in
+      let n : (0x10_0000_0000_0000 + t) * 2 ^ (896 + k) ≡ (value (g + 1) + value g) * 2 ^ 924 =
+      ap (λ (m : ℕ). m * 2 ^ (896 + k)) z ∙ ap (λ (m : ℕ). (2 * c + 1) * 0x1000_0000 * m) (pow-add 2 896 k) ∙ regroup (2 * c + 1) 0x1000_0000 (2 ^ 896) (2 ^ k)
       ∙ ap (λ (m : ℕ). m * 2 ^ 924) (mid-next k c (significand-lt g) (inr (omega arith)) ∙ ap (λ (p : ℕ). value (p + 1) + value p) (parts g)) in
       rw (ofBits-is binary64 b, s, x, y) (rw (← n) (fields-normal binary64 false (896 + k) t (omega arith)))
     where
       regroup : (m a b c : ℕ) → m * a * (b * c) ≡ m * c * (a * b)
       regroup m a b c = omega arith
 
-  midpoint-square : squareOf (midpointOf (7516192768 + g))
+  midpoint-square : squareOf (midpointOf (0x1_c000_0000 + g))
       ≡ round binary64 false ((value (g + 1) + value g) * 2 ^ 924 * ((value (g + 1) + value g) * 2 ^ 924)) (2 ^ 1074 * 2 ^ 1074)
   midpoint-square =
-      let m = midpointOf (7516192768 + g) in
+      let m = midpointOf (0x1_c000_0000 + g) in
       let a = (value (g + 1) + value g) * 2 ^ 924 in
       let p = positive-of-value m a (2 ^ 1074) midpoint-value (mul-pos (lt-of-le-of-lt zero-le (lt-of-lt-of-le (value-lt (lt-add-one g)) (le-add-right (value (g + 1)) (value g)))) (pow-pos 924)) in
       mul-at binary64 m m a (2 ^ 1074) a (2 ^ 1074) p p (pow-pos 1074) (pow-pos 1074) midpoint-value midpoint-value
 
   -- the root is above the midpoint, or below it
-  over : (n : ℕ) → T (lt (squareOf (midpointOf (7516192768 + g))) (round binary64 false n (L * L))) → mid (g + 1) g < 4 * n
+  over : (n : ℕ) → T (lt (squareOf (midpointOf (0x1_c000_0000 + g))) (round binary64 false n (L * L))) → mid (g + 1) g < 4 * n
   over n h = cancel (value (g + 1) + value g) (2 ^ 924) L n (round-lt binary64 _ (2 ^ 1074 * 2 ^ 1074) n (L * L) (pow-pos 2148) (pow-pos 298) (subst (λ (x : Float). T (lt x (round binary64 false n (L * L)))) midpoint-square h))
     where
       cancel : (h w l n : ℕ) → h * w * (h * w) * (l * l) < n * (w * (2 * l) * (w * (2 * l))) → h * h < 4 * n
       cancel h w l n k = lt-of-mul-lt-mul-right (w * w * (l * l)) (omega arith)
 
-  under : (n : ℕ) → T (lt (round binary64 false n (L * L)) (squareOf (midpointOf (7516192768 + g)))) → 4 * n < mid (g + 1) g
+  under : (n : ℕ) → T (lt (round binary64 false n (L * L)) (squareOf (midpointOf (0x1_c000_0000 + g)))) → 4 * n < mid (g + 1) g
   under n h = cancel (value (g + 1) + value g) (2 ^ 924) L n (round-lt binary64 n (L * L) _ (2 ^ 1074 * 2 ^ 1074) (pow-pos 298) (pow-pos 2148) (subst (λ (x : Float). T (lt (round binary64 false n (L * L)) x)) midpoint-square h))
     where
       cancel : (h w l n : ℕ) → n * (w * (2 * l) * (w * (2 * l))) < h * w * (h * w) * (l * l) → 4 * n < h * h
       cancel h w l n k = lt-of-mul-lt-mul-right (w * w * (l * l)) (omega arith)
 
-pub settled : (a b : Float) (p : ℕ) → T (fits binary32 a) → T (fits binary32 b) → Settled (sumOfSquaresOf a b) p → ofBits binary32 (p - 7516192768) ≡ hypotOf a b
+pub settled : (a b : Float) (p : ℕ) → T (fits binary32 a) → T (fits binary32 b) → Settled (sumOfSquaresOf a b) p → ofBits binary32 (p - 0x1_c000_0000) ≡ hypotOf a b
 settled a b p A B c =
     let both = finite-sum (squareOf a) (squareOf b) (lies-between _ _ _ (c .low) (c .high)) in
-    let P = pattern-lt a A (finite-square a (both .0)) in
-    let Q = pattern-lt b B (finite-square b (both .1)) in
+    let P = finite-pattern a A (finite-square a (both .0)) in
+    let Q = finite-pattern b B (finite-square b (both .1)) in
     let v = value (patternOf a) in
     let w = value (patternOf b) in
     let n = v * v + w * w in
     let t = sum-is binary64 (squareOf a) (squareOf b) (v * v) (w * w) (L * L) (pow-pos 298) (square-value a A P) (square-value b B Q) in
-    let g = p - 7516192769 in
-    let e : p - 1 ≡ 7516192768 + g = omega (arith, c .least) in
-    let d : p ≡ 7516192768 + (g + 1) = omega (arith, c .least) in
-    let i : p - 7516192768 ≡ g + 1 = omega (arith, c .least) in
+    let g = p - 0x1_c000_0001 in
+    let e : p - 1 ≡ 0x1_c000_0000 + g = omega (arith, c .least) in
+    let d : p ≡ 0x1_c000_0000 + (g + 1) = omega (arith, c .least) in
+    let i : p - 0x1_c000_0000 ≡ g + 1 = omega (arith, c .least) in
     let low = over g (omega (arith, c .least)) (omega (arith, c .most)) n (rw (e, t) at (c .low)) in
     let high = under (g + 1) (omega (arith, c .least)) (omega (arith, c .most)) n (rw (d, t) at (c .high)) in
     ap (ofBits binary32) i ∙ finite-nearest n (g + 1) (omega (arith, c .least, c .most)) (upper n g low high) ∙ sym (hypot-is-root a b A B P Q)

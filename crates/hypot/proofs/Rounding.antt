@@ -8,7 +8,8 @@ use native.Mathlib.Omega.{arith}
 use lib.Ieee.{nearest}
 use Rattle.hypot.specs.Pattern.{value}
 use Rattle.hypot.specs.Nearest.{mid, Nearest}
-use Rattle.hypot.proofs.Order.{Cmp, lt-or-ge, square-le, square-lt}
+use Rattle.float.specs.Compare.{Cmp}
+use Rattle.hypot.proofs.Order.{lt-or-ge, square-le, square-lt}
 use Rattle.hypot.proofs.Value.{value-lt, value-le, pattern-lt, value-at}
 
 mid-le : (g : ℕ) {p q : ℕ} → p ≤ q → mid p g ≤ mid q g
@@ -94,30 +95,30 @@ module _ (n b : ℕ) where
       moved z = omega arith
 
 -- ---- by the digits q of a number q * 2 ^ k
-module _ (k q : ℕ) (h : q < 16777216) (l : (k ≡ 0) ⊎ (8388608 ≤ q)) where
-  value-next : value (k * 8388608 + q + 1) ≡ (q + 1) * 2 ^ k
-  value-next = ap value (add-assoc (k * 8388608) q 1) ∙ value-at k (q + 1) (omega arith) (lead l)
+module _ (k q : ℕ) (h : q < 0x100_0000) (l : (k ≡ 0) ⊎ (0x80_0000 ≤ q)) where
+  value-next : value (k * 0x80_0000 + q + 1) ≡ (q + 1) * 2 ^ k
+  value-next = ap value (add-assoc (k * 0x80_0000) q 1) ∙ value-at k (q + 1) (omega arith) (lead l)
     where
-      lead : (k ≡ 0) ⊎ (8388608 ≤ q) → (k ≡ 0) ⊎ (8388608 ≤ q + 1)
+      lead : (k ≡ 0) ⊎ (0x80_0000 ≤ q) → (k ≡ 0) ⊎ (0x80_0000 ≤ q + 1)
       lead (inl z) = inl z
       lead (inr z) = inr (omega arith)
 
-  pub mid-next : (2 * q + 1) * 2 ^ k ≡ value (k * 8388608 + q + 1) + value (k * 8388608 + q)
-  mid-next = halves q (2 ^ k) ∙ sym (ap (λ (x : ℕ). x + value (k * 8388608 + q)) value-next ∙ ap (λ (x : ℕ). (q + 1) * 2 ^ k + x) (value-at k q (le-of-lt h) l))
+  pub mid-next : (2 * q + 1) * 2 ^ k ≡ value (k * 0x80_0000 + q + 1) + value (k * 0x80_0000 + q)
+  mid-next = halves q (2 ^ k) ∙ sym (ap (λ (x : ℕ). x + value (k * 0x80_0000 + q)) value-next ∙ ap (λ (x : ℕ). (q + 1) * 2 ^ k + x) (value-at k q (le-of-lt h) l))
     where
       halves : (q K : ℕ) → (2 * q + 1) * K ≡ (q + 1) * K + q * K
       halves q K = omega arith
 
-  shift : (o : Ordering) → nearest (k * 8388608 + q) o ≡ k * 8388608 + nearest q o
+  shift : (o : Ordering) → nearest (k * 0x80_0000 + q) o ≡ k * 0x80_0000 + nearest q o
   shift Ordering·lt = refl
   shift Ordering·eq = omega arith
   shift Ordering·gt = omega arith
 
   pub nearest-digits : (n : ℕ) (o : Ordering) → q * 2 ^ k * (q * 2 ^ k) ≤ n → n < (q + 1) * 2 ^ k * ((q + 1) * 2 ^ k) → Cmp o (4 * n) ((2 * q + 1) * 2 ^ k * ((2 * q + 1) * 2 ^ k))
-      → Nearest n (k * 8388608 + nearest q o)
+      → Nearest n (k * 0x80_0000 + nearest q o)
   nearest-digits n o lo hi c =
       subst (λ (r : ℕ). Nearest n r) (shift o)
-      (nearest-at n (k * 8388608 + q) (subst (λ (x : ℕ). x * x ≤ n) (sym (value-at k q (le-of-lt h) l)) lo) (subst (λ (x : ℕ). n < x * x) (sym value-next) hi) o
+      (nearest-at n (k * 0x80_0000 + q) (subst (λ (x : ℕ). x * x ≤ n) (sym (value-at k q (le-of-lt h) l)) lo) (subst (λ (x : ℕ). n < x * x) (sym value-next) hi) o
       (subst (λ (x : ℕ). Cmp o (4 * n) (x * x)) mid-next c))
 
 -- ---- no other pattern is nearest: two that are lie on either side of a tie, so both are even, and one between them would be nearer

@@ -27,8 +27,8 @@ ltb-add a b c = elim (lt-or-ge b c) [
   | inr h ↦ le-ltb b c h ∙ sym (le-ltb (a + b) (a + c) (omega arith))
 ]
 
-pub product-fits : (s n d : ℕ) → s < 137438953472 → n < 33554432 → d ≤ n → d * (d + 2 * s) < 18446744073709551616
-product-fits s n d h k l = let m : d * (d + 2 * s) ≤ 33554431 * 274911461373 = mul-le-mul {n₂ = 33554431} {m₂ = 274911461373} (omega arith) (omega arith) in omega arith
+pub product-fits : (s n d : ℕ) → s < 0x20_0000_0000 → n < 0x200_0000 → d ≤ n → d * (d + 2 * s) < 0x1_0000_0000_0000_0000
+product-fits s n d h k l = let m : d * (d + 2 * s) ≤ 0x1ff_ffff * 0x40_01ff_fffd = mul-le-mul {n₂ = 0x1ff_ffff} {m₂ = 0x40_01ff_fffd} (omega arith) (omega arith) in omega arith
 
-pub square-fits : (n : ℕ) → n < 33554432 → n * n < 18446744073709551616
-square-fits n h = let m : n * n ≤ 33554431 * 33554431 = square-le {a = n} {b = 33554431} (omega arith) in omega arith
+pub square-fits : (n : ℕ) → n < 0x200_0000 → n * n < 0x1_0000_0000_0000_0000
+square-fits n h = let m : n * n ≤ 0x1ff_ffff * 0x1ff_ffff = square-le {a = n} {b = 0x1ff_ffff} (omega arith) in omega arith

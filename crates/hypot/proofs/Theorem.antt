@@ -13,17 +13,18 @@ use lib.Ieee.Nearest.{nearest-ge}
 use Rattle.hypot.specs.Hypot.{isqrt, nearestRoot}
 use Rattle.hypot.specs.Pattern.{f32At}
 use Rattle.hypot.specs.Nearest.{Nearest, RootIsNearest}
-use Rattle.hypot.proofs.Order.{cmp, lt-or-ge, square-le}
+use Rattle.float.specs.Compare.{cmp}
+use Rattle.hypot.proofs.Order.{lt-or-ge, square-le}
 use Rattle.hypot.proofs.Isqrt.{is-root}
 use Rattle.hypot.proofs.Rounding.{nearest-digits, unique}
 use Rattle.hypot.proofs.Floats.{units-at}
 
 -- the digits kept of r, and those dropped
-leads : (r : ℕ) → (size r - 24 ≡ 0) ⊎ (8388608 ≤ r / 2 ^ (size r - 24))
+leads : (r : ℕ) → (size r - 24 ≡ 0) ⊎ (0x80_0000 ≤ r / 2 ^ (size r - 24))
 leads r = elim (lt-or-ge 24 (size r)) [
   | inl g ↦
       let k = size r - 24 in
-      let a : 8388608 * 2 ^ k ≤ r = le-trans (le-of-eq (sym (pow-add 2 23 k))) (size-reaches r (23 + k) (omega arith)) in
+      let a : 0x80_0000 * 2 ^ k ≤ r = le-trans (le-of-eq (sym (pow-add 2 23 k))) (size-reaches r (23 + k) (omega arith)) in
       inr (le-div-iff-mul-le (pow-pos k) .1 a)
   | inr g ↦ inl (omega arith)
 ]
@@ -39,21 +40,21 @@ root-is-nearest n =
     let q = r / 2 ^ k in
     let h = (2 * q + 1) * 2 ^ k in
     let o = compare (4 * n) (h * h) in
-    let small : q < 16777216 = kept-lt 24 r in
+    let small : q < 0x100_0000 = kept-lt 24 r in
     let low : q * 2 ^ k * (q * 2 ^ k) ≤ n = le-trans (square-le (div-mul-le-self r (2 ^ k))) (is-root n .0) in
     let high : n < (q + 1) * 2 ^ k * ((q + 1) * 2 ^ k) = lt-of-lt-of-le (is-root n .1) (square-le (next r (2 ^ k) q (lt-div-mul-add (pow-pos k)))) in
-    let near : Nearest n (k * 8388608 + nearest q o) = nearest-digits k q small (leads r) n o low high (cmp (4 * n) (h * h)) in
+    let near : Nearest n (k * 0x80_0000 + nearest q o) = nearest-digits k q small (leads r) n o low high (cmp (4 * n) (h * h)) in
     record {
-      r = k * 8388608 + nearest q o;
+      r = k * 0x80_0000 + nearest q o;
       is = near;
-      only = λ s a. unique n s (k * 8388608 + nearest q o) a near;
+      only = λ s a. unique n s (k * 0x80_0000 + nearest q o) a near;
       root = opened n ∙ units-at k (nearest q o) (le-trans (nearest-le q o) small) (rounded-leads q k o (leads r));
     }
   where
     next : (r K q : ℕ) → r < q * K + K → r + 1 ≤ (q + 1) * K
     next r K q h = omega arith
 
-    rounded-leads : (q k : ℕ) (o : Ordering) → (k ≡ 0) ⊎ (8388608 ≤ q) → (k ≡ 0) ⊎ (8388608 ≤ nearest q o)
+    rounded-leads : (q k : ℕ) (o : Ordering) → (k ≡ 0) ⊎ (0x80_0000 ≤ q) → (k ≡ 0) ⊎ (0x80_0000 ≤ nearest q o)
     rounded-leads q k o (inl z) = inl z
     rounded-leads q k o (inr g) = inr (le-trans g (nearest-ge q o))
 

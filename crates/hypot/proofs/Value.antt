@@ -7,11 +7,11 @@ use native.Mathlib.Omega.{arith}
 use lib.Pow.{pow-pos, pow-mono}
 use Rattle.hypot.specs.Pattern.{exponentOf, significandOf, value}
 
-pub significand-lt : (p : ℕ) → significandOf p < 16777216
+pub significand-lt : (p : ℕ) → significandOf p < 0x100_0000
 significand-lt p = omega arith
 
 -- a carry out of the 24 digits
-carried : (k : ℕ) → 8388608 * 2 ^ suc k ≡ 16777216 * 2 ^ k
+carried : (k : ℕ) → 0x80_0000 * 2 ^ suc k ≡ 0x100_0000 * 2 ^ k
 carried k = omega (arith, pow-succ' 2 k)
 
 pub value-lt : {p q : ℕ} → p < q → value p < value q
@@ -25,7 +25,7 @@ value-lt {p} {q} h = elim (eq-or-lt-of-le {n = exponentOf p} {m = exponentOf q} 
     within : exponentOf p ≡ exponentOf q → significandOf p < significandOf q
     within e = omega arith
 
-    leads : exponentOf p < exponentOf q → 8388608 ≤ significandOf q
+    leads : exponentOf p < exponentOf q → 0x80_0000 ≤ significandOf q
     leads g = omega arith
 
 pub value-le : {p q : ℕ} → p ≤ q → value p ≤ value q
@@ -37,11 +37,11 @@ pattern-lt {p} {q} h = lt-of-not-le (λ (g : q ≤ p). not-le-of-lt h (value-le 
 parts : (p k t : ℕ) → exponentOf p ≡ k → significandOf p ≡ t → value p ≡ t * 2 ^ k
 parts p k t e s = ap (λ (x : ℕ). significandOf p * 2 ^ x) e ∙ ap (λ (x : ℕ). x * 2 ^ k) s
 
-pub value-at : (k t : ℕ) → t ≤ 16777216 → (k ≡ 0) ⊎ (8388608 ≤ t) → value (k * 8388608 + t) ≡ t * 2 ^ k
+pub value-at : (k t : ℕ) → t ≤ 0x100_0000 → (k ≡ 0) ⊎ (0x80_0000 ≤ t) → value (k * 0x80_0000 + t) ≡ t * 2 ^ k
 value-at k t h l = elim (eq-or-lt-of-le h) [
-  | inl e ↦ parts (k * 8388608 + t) (suc k) 8388608 (omega arith) (omega arith) ∙ carried k ∙ ap (λ (x : ℕ). x * 2 ^ k) (sym e)
+  | inl e ↦ parts (k * 0x80_0000 + t) (suc k) 0x80_0000 (omega arith) (omega arith) ∙ carried k ∙ ap (λ (x : ℕ). x * 2 ^ k) (sym e)
   | inr g ↦ elim l [
-    | inl z ↦ parts (k * 8388608 + t) k t (omega arith) (omega arith)
-    | inr z ↦ parts (k * 8388608 + t) k t (omega arith) (omega arith)
+    | inl z ↦ parts (k * 0x80_0000 + t) k t (omega arith) (omega arith)
+    | inr z ↦ parts (k * 0x80_0000 + t) k t (omega arith) (omega arith)
   ]
 ]

@@ -10,35 +10,35 @@ use Rattle.hypot.specs.Hypot.{nearestRoot}
 use Rattle.hypot.specs.Pattern.{exponentOf, significandOf, value, f32At}
 use Rattle.hypot.specs.Nearest.{mid, Nearest}
 use Rattle.hypot.specs.Parts.{rootOf}
-use Rattle.hypot.proofs.Order.{Cmp, cmp}
+use Rattle.float.specs.Compare.{Cmp, cmp}
 use Rattle.hypot.proofs.Isqrt.{isqrt-from, isqrt-to, root-most, root-least, root-ge, root-cmp}
 use Rattle.hypot.proofs.Value.{significand-lt}
 use Rattle.hypot.proofs.Rounding.{lower, mid-next, nearest-digits}
 use Rattle.hypot.proofs.Theorem.{nearest-is}
 
-pub parts : (p : ℕ) → exponentOf p * 8388608 + significandOf p ≡ p
+pub parts : (p : ℕ) → exponentOf p * 0x80_0000 + significandOf p ≡ p
 parts p = omega arith
 
-pub finite-nearest : (n p : ℕ) → p < 2139095040 → Nearest n p → ofBits binary32 p ≡ nearestRoot n
+pub finite-nearest : (n p : ℕ) → p < 0x7f80_0000 → Nearest n p → ofBits binary32 p ≡ nearestRoot n
 finite-nearest n p h a = ap (ofBits binary32) (sym (min-eq-left (le-of-lt h))) ∙ nearest-is n p a
 
 -- ---- far apart: with c * K the larger side and v the smaller, v * v is less than c * K * K
-square-less : (c K J v : ℕ) → 8388608 ≤ c → 8192 * J ≤ K → 0 < J * J → v < 16777216 * J → v * v < c * (K * K)
+square-less : (c K J v : ℕ) → 0x80_0000 ≤ c → 8192 * J ≤ K → 0 < J * J → v < 0x100_0000 * J → v * v < c * (K * K)
 square-less c K J v lead far p small =
-    let a : v * v ≤ 16777216 * J * (16777216 * J) = mul-le-mul (omega arith) (omega arith) in
-    let b : 8388608 * (8192 * J * (8192 * J)) ≤ c * (K * K) = mul-le-mul lead (mul-le-mul far far) in
+    let a : v * v ≤ 0x100_0000 * J * (0x100_0000 * J) = mul-le-mul (omega arith) (omega arith) in
+    let b : 0x80_0000 * (8192 * J * (8192 * J)) ≤ c * (K * K) = mul-le-mul lead (mul-le-mul far far) in
     omega (arith, a, b, p)
 
 under-mid : (c K v : ℕ) → v * v < c * (K * K) → 4 * (c * K * (c * K) + v * v) < (2 * c + 1) * K * ((2 * c + 1) * K)
 under-mid c K v h = omega (arith, h)
 
-pub far : (p q : ℕ) → p < 2139095040 → 12 < exponentOf p - exponentOf q → ofBits binary32 p ≡ nearestRoot (value p * value p + value q * value q)
+pub far : (p q : ℕ) → p < 0x7f80_0000 → 12 < exponentOf p - exponentOf q → ofBits binary32 p ≡ nearestRoot (value p * value p + value q * value q)
 far p q h g =
     let k = exponentOf p in
     let j = exponentOf q in
     let c = significandOf p in
     let n = value p * value p + value q * value q in
-    let top : 8388608 ≤ c = leads p (exponentOf q) g in
+    let top : 0x80_0000 ≤ c = leads p (exponentOf q) g in
     let scale : 8192 * 2 ^ j ≤ 2 ^ k = le-trans (le-of-eq (sym (pow-add 2 13 j))) (pow-mono (apart k j g)) in
     let less = square-less c (2 ^ k) (2 ^ j) (value q) top scale (mul-pos (pow-pos j) (pow-pos j)) (mul-lt-mul-of-pos-right (significand-lt q) (pow-pos j)) in
     let near : 4 * n < mid (p + 1) p =
@@ -48,7 +48,7 @@ far p q h g =
     apart : (k j : ℕ) → 12 < k - j → 13 + j ≤ k
     apart k j g = omega arith
 
-    leads : (p j : ℕ) → 12 < exponentOf p - j → 8388608 ≤ significandOf p
+    leads : (p j : ℕ) → 12 < exponentOf p - j → 0x80_0000 ≤ significandOf p
     leads p j g = omega arith
 
 -- ---- near: both sides counted in units of 2 ^ f, as the code has them
@@ -66,7 +66,7 @@ module _ (p q e f a b s : ℕ) (ee : e ≡ exponentOf p) (ff : f ≡ exponentOf 
   smaller-side : b * 2 ^ f ≡ value q
   smaller-side = ap (λ (x : ℕ). b * 2 ^ x) ff ∙ ap (λ (x : ℕ). x * 2 ^ exponentOf q) bb
 
-  pub near : (4 * (value p * value p + value q * value q) ≡ (2 * s * (2 * s) + 2 * b * (2 * b)) * (2 ^ f * 2 ^ f)) × ((f ≡ 0) ⊎ (33554432 ≤ rootOf (2 * s * (2 * s) + 2 * b * (2 * b))))
+  pub near : (4 * (value p * value p + value q * value q) ≡ (2 * s * (2 * s) + 2 * b * (2 * b)) * (2 ^ f * 2 ^ f)) × ((f ≡ 0) ⊎ (0x200_0000 ≤ rootOf (2 * s * (2 * s) + 2 * b * (2 * b))))
   near = (
     sym
         (regroup s b (2 ^ f)
@@ -75,8 +75,8 @@ module _ (p q e f a b s : ℕ) (ee : e ≡ exponentOf p) (ff : f ≡ exponentOf 
     elim (eq-zero-or-pos f) [
       | inl z ↦ inl z
       | inr g ↦
-          let m : 8388608 ≤ a = leads g in
-          let k : 8388608 * 1 ≤ s = subst (λ (x : ℕ). 8388608 * 1 ≤ x) (sym ss) (mul-le-mul m (pow-pos (e - f))) in
+          let m : 0x80_0000 ≤ a = leads g in
+          let k : 0x80_0000 * 1 ≤ s = subst (λ (x : ℕ). 0x80_0000 * 1 ≤ x) (sym ss) (mul-le-mul m (pow-pos (e - f))) in
           inr (omega (arith, isqrt-from (2 * s) (2 * b), root-least (2 * s * (2 * s) + 2 * b * (2 * b))))
     ],
   )
@@ -84,14 +84,14 @@ module _ (p q e f a b s : ℕ) (ee : e ≡ exponentOf p) (ff : f ≡ exponentOf 
       regroup : (s b F : ℕ) → (2 * s * (2 * s) + 2 * b * (2 * b)) * (F * F) ≡ 4 * (s * F * (s * F) + b * F * (b * F))
       regroup s b F = omega arith
 
-      leads : 0 < f → 8388608 ≤ a
+      leads : 0 < f → 0x80_0000 ≤ a
       leads g = omega arith
 
-pub root-small : (s n : ℕ) → s < 137438953472 → n < 33554432 → rootOf (s * s + n * n) < 1099511627776
+pub root-small : (s n : ℕ) → s < 0x20_0000_0000 → n < 0x200_0000 → rootOf (s * s + n * n) < 0x100_0000_0000
 root-small s n h k = omega (arith, root-most (s * s + n * n), isqrt-to s n)
 
-pub shifted-lt : (m d : ℕ) → m < 16777216 → d ≤ 12 → m * 2 ^ d < 68719476736
-shifted-lt m d h l = lt-of-lt-of-le (mul-lt-mul-of-pos-right h (pow-pos d)) (mul-le-mul-left 16777216 (pow-mono l))
+pub shifted-lt : (m d : ℕ) → m < 0x100_0000 → d ≤ 12 → m * 2 ^ d < 0x10_0000_0000
+shifted-lt m d h l = lt-of-lt-of-le (mul-lt-mul-of-pos-right h (pow-pos d)) (mul-le-mul-left 0x100_0000 (pow-mono l))
 
 -- ---- how m compares with a square is how 4 n does, in units of 2 ^ f
 module _ (n m f u k : ℕ) (e : 4 * n ≡ m * (2 ^ f * 2 ^ f)) (scale : u * 2 ^ f ≡ 2 ^ k) where
@@ -119,24 +119,24 @@ pub record Kept (w f c u k : ℕ) : Type 0 where
   pub scale : u * 2 ^ f ≡ 2 ^ k
   pub few : u ≤ 32768
   pub most : c ≤ w
-  pub lead : (k ≡ 0) ⊎ (8388608 ≤ c)
+  pub lead : (k ≡ 0) ⊎ (0x80_0000 ≤ c)
 
-pub rounds : (n m w f c u k : ℕ) → w ≡ rootOf m → 4 * n ≡ m * (2 ^ f * 2 ^ f) → Kept w f c u k → c < 16777216
-    → f32At (k * 8388608 + nearest c (compare w ((2 * c + 1) * (2 * u)))) ≡ nearestRoot n
+pub rounds : (n m w f c u k : ℕ) → w ≡ rootOf m → 4 * n ≡ m * (2 ^ f * 2 ^ f) → Kept w f c u k → c < 0x100_0000
+    → f32At (k * 0x80_0000 + nearest c (compare w ((2 * c + 1) * (2 * u)))) ≡ nearestRoot n
 rounds n m w f c u k r e i small =
     let o = compare w ((2 * c + 1) * (2 * u)) in
     let below : 2 * c * 2 ^ k * (2 * c * 2 ^ k) ≤ 4 * n = scaled-le n m f u k e (i .scale) (2 * c) (root-ge m (2 * c * u) (omega (arith, i .lo, r))) in
     let above : 4 * n < 2 * (c + 1) * 2 ^ k * (2 * (c + 1) * 2 ^ k) =
     scaled-cmp n m f u k e (i .scale) (2 * (c + 1)) Ordering·lt (root-cmp m (2 * (c + 1) * u) Ordering·lt (omega (arith, i .hi, r))) in
     let side : Cmp o w (2 * ((2 * c + 1) * u)) = subst (λ (x : ℕ). Cmp o w x) (twice c u) (cmp w ((2 * c + 1) * (2 * u))) in
-    nearest-is n (k * 8388608 + nearest c o)
+    nearest-is n (k * 0x80_0000 + nearest c o)
     (nearest-digits k c small (i .lead) n o (omega (arith, below)) (omega (arith, above))
     (scaled-cmp n m f u k e (i .scale) (2 * c + 1) o (root-cmp m ((2 * c + 1) * u) o (subst (λ (x : ℕ). Cmp o x (2 * ((2 * c + 1) * u))) r side))))
   where
     twice : (c u : ℕ) → (2 * c + 1) * (2 * u) ≡ 2 * ((2 * c + 1) * u)
     twice c u = omega arith
 
-pub kept-start : (w f : ℕ) → (f ≡ 0) ⊎ (33554432 ≤ w) → Kept w f (w / 4) 1 f
+pub kept-start : (w f : ℕ) → (f ≡ 0) ⊎ (0x200_0000 ≤ w) → Kept w f (w / 4) 1 f
 kept-start w f l = record {
   lo = omega arith;
   hi = omega arith;
@@ -146,10 +146,10 @@ kept-start w f l = record {
   lead = elim l [ inl z ↦ inl z | inr g ↦ inr (quarter g) ];
 }
   where
-    quarter : 33554432 ≤ w → 8388608 ≤ w / 4
+    quarter : 0x200_0000 ≤ w → 0x80_0000 ≤ w / 4
     quarter g = omega arith
 
-pub kept-next : (w f c u k : ℕ) → Kept w f c u k → w < 1099511627776 → 16777216 ≤ c → Kept w f (c / 2) (u * 2) (k + 1)
+pub kept-next : (w f c u k : ℕ) → Kept w f c u k → w < 0x100_0000_0000 → 0x100_0000 ≤ c → Kept w f (c / 2) (u * 2) (k + 1)
 kept-next w f c u k i small big =
     let e = c / 2 in
     let down : e * 2 ≤ c = omega arith in

@@ -31,9 +31,9 @@ pub record RootIsNearest (n : ℕ) : Type 0 where
 
 -- The finite f32 with the pattern p is `value p` units of 2 ^ -149. (`value-is`)
 abbrev pub ValueIs : ℕ → Type 0
-ValueIs p = p < 2139095040 → HasValue (ofBits binary32 p) false (value p) (2 ^ 149)
+ValueIs p = p < 0x7f80_0000 → HasValue (ofBits binary32 p) false (value p) (2 ^ 149)
 
 -- Of two finite f32, `hypotOf` is the root of the sum of the squares of their values. (`hypot-is-root`)
 abbrev pub HypotIsRoot : Float → Float → Type 0
-HypotIsRoot a b = T (fits binary32 a) → T (fits binary32 b) → patternOf a < 2139095040 → patternOf b < 2139095040
+HypotIsRoot a b = T (fits binary32 a) → T (fits binary32 b) → patternOf a < 0x7f80_0000 → patternOf b < 0x7f80_0000
     → hypotOf a b ≡ nearestRoot (value (patternOf a) * value (patternOf a) + value (patternOf b) * value (patternOf b))

@@ -18,11 +18,11 @@ sumOfSquaresOf a b = add binary64 (squareOf a) (squareOf b)
 
 -- Halfway between an f32 and the next. p is the f32's pattern with the exponents of f64, which are 896 more; f64 has 29 digits more.
 abbrev pub midpointOf : ℕ → Float
-midpointOf p = ofBits binary64 ((2 * p + 1) * 268435456)
+midpointOf p = ofBits binary64 ((2 * p + 1) * 0x1000_0000)
 
 -- t lies strictly between the squares of the midpoints beside the f32 with the pattern p, which is above the least normal one.
 pub record Settled (t : Float) (p : ℕ) : Type 0 where
-  pub least : 7524581376 < p
-  pub most : p < 9655287808
+  pub least : 0x1_c080_0000 < p
+  pub most : p < 0x2_3f80_0000
   pub low : T (lt (squareOf (midpointOf (p - 1))) t)
   pub high : T (lt t (squareOf (midpointOf p)))

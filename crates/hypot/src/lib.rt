@@ -49,7 +49,7 @@ fn smaller(p: u32, q: u32) -> u32
 }
 
 fn shifted(m: u64, d: u32) -> u64
-    requires { ⌜ m < 16777216 ⌝ }
+    requires { ⌜ m < 0x100_0000 ⌝ }
     requires { ⌜ d ≤ 12 ⌝ }
     ensures { λ r. ⌜ r ≡ m * 2 ^ d ⌝ }
 {
@@ -58,8 +58,8 @@ fn shifted(m: u64, d: u32) -> u64
 
 // Whether x is below the root of s * s + n * n. The squares of x and s do not fit in 64 bits, but their difference does.
 fn below_root(s: u64, n: u64, x: u64) -> bool
-    requires { ⌜ s < 137438953472 ⌝ }
-    requires { ⌜ n < 33554432 ⌝ }
+    requires { ⌜ s < 0x20_0000_0000 ⌝ }
+    requires { ⌜ n < 0x200_0000 ⌝ }
     ensures { λ r. ⌜ r ≡ ltb (x * x) (s * s + n * n) ⌝ }
 {
     if x < s {
@@ -74,8 +74,8 @@ fn below_root(s: u64, n: u64, x: u64) -> bool
 
 // Whether x is above that root.
 fn above_root(s: u64, n: u64, x: u64) -> bool
-    requires { ⌜ s < 137438953472 ⌝ }
-    requires { ⌜ n < 33554432 ⌝ }
+    requires { ⌜ s < 0x20_0000_0000 ⌝ }
+    requires { ⌜ n < 0x200_0000 ⌝ }
     ensures { λ r. ⌜ r ≡ ltb (s * s + n * n) (x * x) ⌝ }
 {
     if x < s {
@@ -90,8 +90,8 @@ fn above_root(s: u64, n: u64, x: u64) -> bool
 
 // The whole part of the root, between s and s + n, by bisection.
 fn whole_root(s: u64, n: u64) -> u64
-    requires { ⌜ s < 137438953472 ⌝ }
-    requires { ⌜ n < 33554432 ⌝ }
+    requires { ⌜ s < 0x20_0000_0000 ⌝ }
+    requires { ⌜ n < 0x200_0000 ⌝ }
     ensures { λ r. ⌜ r ≡ isqrt (s * s + n * n) ⌝ }
 {
     let mut low = s;
@@ -109,8 +109,8 @@ fn whole_root(s: u64, n: u64) -> u64
 
 // Twice the whole part of the root, and one more if the root is not whole: so it compares with every even number as twice the root does.
 fn root(s: u64, n: u64) -> u64
-    requires { ⌜ s < 137438953472 ⌝ }
-    requires { ⌜ n < 33554432 ⌝ }
+    requires { ⌜ s < 0x20_0000_0000 ⌝ }
+    requires { ⌜ n < 0x200_0000 ⌝ }
     ensures { λ r. ⌜ r ≡ rootOf (s * s + n * n) ⌝ }
 {
     let x = whole_root(s, n);
@@ -123,7 +123,7 @@ fn root(s: u64, n: u64) -> u64
 
 // c, or the next number up, by how w compares with h; at a tie the even one.
 fn nearer(c: u64, w: u64, h: u64) -> u64
-    requires { ⌜ c < 16777216 ⌝ }
+    requires { ⌜ c < 0x100_0000 ⌝ }
     ensures { λ r. ⌜ r ≡ nearest c (compare w h) ⌝ }
 {
     if w < h {
@@ -134,9 +134,9 @@ fn nearer(c: u64, w: u64, h: u64) -> u64
 
 // The f32 that is t * 2 ^ k units of 2 ^ -149, or the infinity. A t of 25 digits carries into the exponent.
 fn packed(t: u64, k: u32) -> f32
-    requires { ⌜ t ≤ 16777216 ⌝ }
+    requires { ⌜ t ≤ 0x100_0000 ⌝ }
     requires { ⌜ k ≤ 300 ⌝ }
-    ensures { λ r. ⌜ r ≡ f32At (k * 8388608 + t) ⌝ }
+    ensures { λ r. ⌜ r ≡ f32At (k * 0x80_0000 + t) ⌝ }
 {
     let b = k * 0x80_0000 + (t as u32);
     if b < 0x7f80_0000 {
@@ -148,15 +148,15 @@ fn packed(t: u64, k: u32) -> f32
 
 // The f32 nearest the root of n, where w is `root` of m, which is 4 * n in squares of 2 ^ f.
 fn rounded(w: u64, f: u32) -> f32
-    requires { ⌜ w < 1099511627776 ⌝ }
+    requires { ⌜ w < 0x100_0000_0000 ⌝ }
     requires { ⌜ f ≤ 253 ⌝ }
-    requires { ⌜ (f ≡ 0) ⊎ (33554432 ≤ w) ⌝ }
+    requires { ⌜ (f ≡ 0) ⊎ (0x200_0000 ≤ w) ⌝ }
     ensures { λ r. ⌜ ((n m : ℕ) → w ≡ rootOf m → 4 * n ≡ m * (2 ^ f * 2 ^ f) → r ≡ nearestRoot n) ⌝ }
 {
     let mut c = w / 4;
     let mut u: u64 = 1;
     let mut k = f;
-    while c >= 16777216 {
+    while c >= 0x100_0000 {
         c = c / 2;
         u = u * 2;
         k += 1;
@@ -169,7 +169,7 @@ fn rounded(w: u64, f: u32) -> f32
 // than half of its last place.
 fn finite(p: u32, q: u32) -> f32
     requires { ⌜ q ≤ p ⌝ }
-    requires { ⌜ p < 2139095040 ⌝ }
+    requires { ⌜ p < 0x7f80_0000 ⌝ }
     ensures { λ r. ⌜ r ≡ nearestRoot (value p * value p + value q * value q) ⌝ }
 {
     let e = exponent(p);
@@ -238,7 +238,7 @@ fn candidate(r: f64) -> u64 {
 
 // Halfway between the f32 with the pattern p and the next, p counting the exponents as f64 does.
 fn midpoint(p: u64) -> f64
-    requires { ⌜ p < 9655287808 ⌝ }
+    requires { ⌜ p < 0x2_3f80_0000 ⌝ }
     ensures { λ r. ⌜ r ≡ midpointOf p ⌝ }
 {
     f64::from_bits((2 * p + 1) * 0x1000_0000)
@@ -248,10 +248,10 @@ fn midpoint(p: u64) -> f64
 fn settled(t: f64, p: u64) -> bool
     ensures { λ r. ⌜ (T r → Settled t p) ⌝ }
 {
-    if p <= 7524581376 {
+    if p <= 0x1_c080_0000 {
         return false;
     }
-    if p >= 9655287808 {
+    if p >= 0x2_3f80_0000 {
         return false;
     }
     let low = midpoint(p - 1);
@@ -275,7 +275,7 @@ pub fn hypot(a: f32, b: f32) -> f32
     let t = sum_of_squares(a, b);
     let p = candidate(estimate(t));
     if settled(t, p) {
-        return f32::from_bits((p - 7516192768) as u32);
+        return f32::from_bits((p - 0x1_c000_0000) as u32);
     }
     exact(a, b)
 }

@@ -1,7 +1,7 @@
 -- `candidate` is defined for every r.
 use native.Mathlib.Omega.{arith}
 use borrow.Author.Needs.{needs}
-use Rattle.hypot.proofs.Floats.{no-nan}
+use Rattle.float.proofs.Nan.{no-nan}
 use Rattle.hypot.proofs.candidate.Statement.{statement}
 use Rattle.hypot.proofs.candidate.Tie as tie
 

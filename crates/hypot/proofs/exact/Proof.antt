@@ -16,7 +16,7 @@ held-b : (c : tie.Start) → T (fits binary32 (c .args .b))
 held-b c = passes _ (c .good .1 .0 .1)
 
 float-from-bits-result : tie.Need-float-from-bits-result
-float-from-bits-result c = no-nan-bits binary32 2139095040 (omega arith)
+float-from-bits-result c = no-nan-bits binary32 0x7f80_0000 (omega arith)
 
 returns : tie.Need-returns
 returns c =
@@ -24,7 +24,7 @@ returns c =
     inf-bits ∙ first-inf (s .args .a) (s .args .b) (held-a s) (held-b s) (sym (c .before .before .pattern .ensures) ∙ c .if1 .taken)
 
 float-from-bits-result-2 : tie.Need-float-from-bits-result-2
-float-from-bits-result-2 c = no-nan-bits binary32 2139095040 (omega arith)
+float-from-bits-result-2 c = no-nan-bits binary32 0x7f80_0000 (omega arith)
 
 returns-2 : tie.Need-returns-2
 returns-2 c =

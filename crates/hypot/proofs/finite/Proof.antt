@@ -13,11 +13,11 @@ use Rattle.hypot.proofs.finite.Statement.{statement}
 use Rattle.hypot.proofs.finite.Tie as tie
 
 -- what is known of the two sides, counted in units of 2 ^ f
-small : (c : tie.After-shifted) → c .shifted .result < 68719476736
+small : (c : tie.After-shifted) → c .shifted .result < 0x10_0000_0000
 small c =
     let a = c .before .significand .result in
     let d = c .before .before .before .before .exponent .result - c .before .before .before .exponent2 .result in
-    subst (λ (x : ℕ). x < 68719476736) (sym (c .shifted .ensures)) (shifted-lt a d (omega arith) (c .before .before .if1 .left))
+    subst (λ (x : ℕ). x < 0x10_0000_0000) (sym (c .shifted .ensures)) (shifted-lt a d (omega arith) (c .before .before .if1 .left))
 
 abbrev sum : tie.After-significand2 → ℕ
 sum c = let a = c .before .before .before .before .before .before .args in value (a .p) * value (a .p) + value (a .q) * value (a .q)
@@ -28,7 +28,7 @@ scaled c = 2 * c .before .shifted .result * (2 * c .before .shifted .result) + 2
 abbrev place : tie.After-significand2 → ℕ
 place c = c .before .before .before .before .exponent2 .result
 
-sides : (c : tie.After-significand2) → (4 * sum c ≡ scaled c * (2 ^ place c * 2 ^ place c)) × ((place c ≡ 0) ⊎ (33554432 ≤ rootOf (scaled c)))
+sides : (c : tie.After-significand2) → (4 * sum c ≡ scaled c * (2 ^ place c * 2 ^ place c)) × ((place c ≡ 0) ⊎ (0x200_0000 ≤ rootOf (scaled c)))
 sides c =
     let e = c .before .before .before .before in
     let s = e .before .before in
@@ -52,10 +52,10 @@ root-requires c κs = (omega (arith, small (c .before)), omega arith)
 rounded-requires : tie.Need-rounded-requires
 rounded-requires c κs =
     let b = c .before in (
-      subst (λ (w : ℕ). w < 1099511627776) (sym (c .root .ensures)) (root-small _ _ (omega (arith, small (b .before))) (omega arith)),
+      subst (λ (w : ℕ). w < 0x100_0000_0000) (sym (c .root .ensures)) (root-small _ _ (omega (arith, small (b .before))) (omega arith)),
       (
         omega arith,
-        subst (λ (w : ℕ). (place b ≡ 0) ⊎ (33554432 ≤ w)) (sym (c .root .ensures)) (sides b .1),
+        subst (λ (w : ℕ). (place b ≡ 0) ⊎ (0x200_0000 ≤ w)) (sym (c .root .ensures)) (sides b .1),
       ),
     )
 

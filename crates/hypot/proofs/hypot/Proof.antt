@@ -5,7 +5,8 @@ use native.Mathlib.Omega.{arith}
 use mathlib.Core.Path.{subst}
 use lib.Ieee.{Float, binary32}
 use Rattle.hypot.specs.Parts.{sumOfSquaresOf, Settled}
-use Rattle.hypot.proofs.Floats.{no-nan, no-nan-bits}
+use Rattle.float.proofs.Nan.{no-nan}
+use Rattle.hypot.proofs.Floats.{no-nan-bits}
 use Rattle.hypot.proofs.Midpoints.{settled}
 use Rattle.hypot.proofs.hypot.Statement.{statement}
 use Rattle.hypot.proofs.hypot.Tie as tie

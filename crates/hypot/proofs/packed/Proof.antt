@@ -9,10 +9,10 @@ use Rattle.hypot.proofs.packed.Statement.{statement}
 use Rattle.hypot.proofs.packed.Tie as tie
 
 float-from-bits-result : tie.Need-float-from-bits-result
-float-from-bits-result c = no-nan-bits binary32 (c .before .args .k * 8388608 + c .before .args .t) (omega arith)
+float-from-bits-result c = no-nan-bits binary32 (c .before .args .k * 0x80_0000 + c .before .args .t) (omega arith)
 
 float-from-bits-result-2 : tie.Need-float-from-bits-result-2
-float-from-bits-result-2 c = no-nan-bits binary32 2139095040 (omega arith)
+float-from-bits-result-2 c = no-nan-bits binary32 0x7f80_0000 (omega arith)
 
 returns : tie.Need-returns
 returns c = ap (ofBits binary32) (sym (min-eq-left (le-of-lt (c .if1 .taken))))

@@ -39,7 +39,7 @@ returns c =
     let a = c .before .before .before .before .args in
     λ n m r e.
     c .packed .ensures
-    ∙ ap (λ (t : ℕ). f32At (i .k * 8388608 + t)) (c .before .nearer .ensures)
+    ∙ ap (λ (t : ℕ). f32At (i .k * 0x80_0000 + t)) (c .before .nearer .ensures)
     ∙ rounds n m (a .w) (a .f) (i .c) (i .u) (i .k) r e (i .inv) (c .before .before .loop-test .left)
 
 pub rounded-spec : {M : Type 1} → statement M
