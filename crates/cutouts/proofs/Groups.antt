@@ -1,16 +1,17 @@
 -- Groups by index: the indices are within the elements, ranges of indices, the faces, and a group that moves.
 use mathlib.Core.Path.{_≡_, refl, ap, sym, _∙_}
-use mathlib.Core.Bool.{Bool, true, false, cond}
+use mathlib.Core.Bool.{Bool, true, false, not}
 use mathlib.Core.List.{List, [], _∷_, _++_, map, foldl, foldl-append}
 use Prim.Native.Nat.{ℕ, zero, suc, _+_, _-_, _<_, _≤_}
+use native.Mathlib.Numerals.{add-one}
 use native.Mathlib.Omega.{arith}
 use borrow.Author.Tests.{lt-ltb, ltb-true}
 use lib.Dec.{ltb}
 use lib.Ieee.{Float}
 use lib.ListN.{length, take, drop, getD, set, length-append, take-append-drop}
-use lib.Seq.{getD-take, length-take-le, take-all, take-set-lt}
+use lib.Seq.{getD-take, length-take-le, take-all, take-set-lt, take-suc-set}
 use Rattle.geometry.specs.declared.Rect.{Rect}
-use Rattle.geometry.specs.Choice.{both}
+use Rattle.geometry.specs.Choice.{either, both}
 use Rattle.geometry.specs.Rect.{overlapsOf}
 use Rattle.layout.specs.Elements.{countFrom, range}
 use Rattle.layout.specs.declared.Control.{Control}
@@ -19,9 +20,8 @@ use Rattle.layout.specs.Actions.{actionElementsOf}
 use Rattle.layout.specs.Label.{isFaceOf}
 use Rattle.layout.specs.Layout.{anyRect, anyControl, controlList}
 use Rattle.layout.specs.Lists.{allOf, anyOf, filterMap, enumerateFrom}
-use Rattle.layout.proofs.Filters.{one-more}
-use Rattle.layout.proofs.Loops.{filterMap-append}
-use Rattle.cutouts.specs.Cutouts.{settleOf, belowAll}
+use Rattle.layout.proofs.Loops.{filterMap-append, one-more, no-more}
+use Rattle.cutouts.specs.Cutouts.{inGroupOf, settleOf, belowAll}
 
 -- an element on no cutout stays
 pub missed : (w h : Float) (holes at : List Rect) (n i : ℕ) → i < n → anyOf (overlapsOf (getD at i anyRect)) holes ≡ false → settleOf w h holes (take n at) (i ∷ []) ≡ take n at
@@ -77,35 +77,77 @@ module _ (n : ℕ) where
   pub range-whole : (i k : ℕ) → i ≡ n → k ≡ n → take i (range 0 n) ≡ range 0 k
   range-whole i k e f = rw (e, f) (take-all n (range 0 n) (omega (arith, length-range)))
 
+-- what f makes of the indices outside a group that are below i
+module _ {B : Type 0} (group : List ℕ) (f : ℕ → B) (n : ℕ) where
+  abbrev pub outside : ℕ → List B
+  outside i = filterMap (λ i. not (inGroupOf group i)) f (take i (range 0 n))
+
+  module _ (i : ℕ) (h : i < n) {flag : Bool} (e : flag ≡ inGroupOf group i) where
+    pub outside-more : flag ≡ false → outside (i + 1) ≡ outside i ++ (f i ∷ [])
+    outside-more t = one-more (λ i. not (inGroupOf group i)) f (range 0 n) i 0 (below-range n i h) {flag = not flag} (rw (range-at n i h, e)) (rw t) ∙ rw (range-at n i h)
+
+    pub outside-same : flag ≡ true → outside (i + 1) ≡ outside i
+    outside-same t = no-more (λ i. not (inGroupOf group i)) f (range 0 n) i 0 (below-range n i h) {flag = not flag} (rw (range-at n i h, e)) (rw t)
+
+  pub outside-all : (i : ℕ) → i ≡ n → (l : List Rect) → length l ≡ n → outside i ≡ filterMap (λ i. not (inGroupOf group i)) f (range 0 (length l))
+  outside-all i e l k = ap (filterMap (λ i. not (inGroupOf group i)) f) (range-whole n i (length l) e k)
+
 -- ---- enumerated elements
-pub length-enumerate : {A : Type 0} (j : ℕ) (l : List A) → length (enumerateFrom j l) ≡ length l
+length-enumerate : {A : Type 0} (j : ℕ) (l : List A) → length (enumerateFrom j l) ≡ length l
 length-enumerate j [] = refl
 length-enumerate j (x ∷ l) = ap suc (length-enumerate (suc j) l)
 
-pub enumerate-at : {A : Type 0} (j : ℕ) (l : List A) (i : ℕ) (d : A) → i < length l → getD (enumerateFrom j l) i (0, d) ≡ (j + i, getD l i d)
+enumerate-at : {A : Type 0} (j : ℕ) (l : List A) (i : ℕ) (d : A) → i < length l → getD (enumerateFrom j l) i (0, d) ≡ (j + i, getD l i d)
 enumerate-at j [] i d h = absurd (let z : ⊥ = omega arith in z)
 enumerate-at j (x ∷ l) zero d h = let e : j ≡ j + 0 = omega arith in ap (λ (k : ℕ). (k, x)) e
 enumerate-at j (x ∷ l) (suc i) d h = let e : suc j + i ≡ j + suc i = omega arith in enumerate-at (suc j) l i d (omega arith) ∙ ap (λ (k : ℕ). (k, getD l i d)) e
 
--- the face controls, with their elements' indices
-module _ (controls : List Control) (n : ℕ) (h : n ≤ length controls) where
-  pub length-faces : length (enumerateFrom 1 (take n controls)) ≡ n
-  length-faces = length-enumerate 1 (take n controls) ∙ length-take-le n controls h
+-- the first elements give no more than all of them
+fewer : {A B : Type 0} (p : A → Bool) (f : A → B) (l : List A) (i : ℕ) → length (filterMap p f (take i l)) ≤ length (filterMap p f l)
+fewer p f l i =
+    let e : length (filterMap p f (take i l)) + length (filterMap p f (drop i l)) ≡ length (filterMap p f l) =
+    sym (length-append (filterMap p f (take i l)) (filterMap p f (drop i l))) ∙ ap length (sym (filterMap-append p f (take i l) (drop i l)) ∙ ap (filterMap p f) (take-append-drop i l)) in
+    omega arith
 
-  pub face-at : (i : ℕ) → i < n → getD (enumerateFrom 1 (take n controls)) i (0, anyControl) ≡ (i + 1, getD controls i anyControl)
+-- the elements' indices of the face controls among the first i
+module _ (l : Layout) (h : l .count ≤ length (l .controls)) where
+  abbrev isFace : ℕ × Control → Bool
+  isFace e = isFaceOf (e .1 .label)
+
+  abbrev index : ℕ × Control → ℕ
+  index e = e .0
+
+  abbrev pub facesTo : ℕ → List ℕ
+  facesTo i = filterMap isFace index (take i (enumerateFrom 1 (controlList l)))
+
+  count-is : length (enumerateFrom 1 (controlList l)) ≡ l .count
+  count-is = length-enumerate 1 (controlList l) ∙ length-take-le (l .count) (l .controls) h
+
+  face-at : (i : ℕ) → i < l .count → getD (enumerateFrom 1 (controlList l)) i (0, anyControl) ≡ (i + 1, getD (l .controls) i anyControl)
   face-at i j =
-      let l : length (take n controls) ≡ n = length-take-le n controls h in
+      let k : length (controlList l) ≡ l .count = length-take-le (l .count) (l .controls) h in
       let e : 1 + i ≡ i + 1 = omega arith in
-      enumerate-at 1 (take n controls) i anyControl (omega arith) ∙ rw (e, getD-take n controls i anyControl j)
+      enumerate-at 1 (controlList l) i anyControl (omega arith) ∙ rw (e, getD-take (l .count) (l .controls) i anyControl j)
+
+  module _ (i : ℕ) (j : i < l .count) {flag : Bool} (e : flag ≡ isFaceOf (getD (l .controls) i anyControl .label)) where
+    pub face-more : flag ≡ true → facesTo (i + 1) ≡ facesTo i ++ ((i + 1) ∷ [])
+    face-more t = one-more isFace index (enumerateFrom 1 (controlList l)) i (0, anyControl) (omega (arith, count-is)) (e ∙ rw (face-at i j)) t ∙ rw (face-at i j)
+
+    pub face-same : flag ≡ false → facesTo (i + 1) ≡ facesTo i
+    face-same t = no-more isFace index (enumerateFrom 1 (controlList l)) i (0, anyControl) (omega (arith, count-is)) (e ∙ rw (face-at i j)) t
+
+  pub faces-all : (i : ℕ) → l .count ≤ i → facesTo i ≡ actionElementsOf l
+  unfolding actionElementsOf
+  faces-all i k = ap (filterMap isFace index) (take-all i (enumerateFrom 1 (controlList l)) (omega (arith, count-is)))
+
+  pub faces-few : (i : ℕ) → length (facesTo i) ≤ length (actionElementsOf l)
+  unfolding actionElementsOf
+  faces-few i = fewer isFace index (enumerateFrom 1 (controlList l)) i
 
 enumerate-below : {A : Type 0} (p : ℕ × A → Bool) (n j : ℕ) (l : List A) → j + length l ≤ n → belowAll n (filterMap p (λ e. e .0) (enumerateFrom j l)) ≡ true
 unfolding belowAll allOf
 enumerate-below p n j [] h = refl
-enumerate-below p n j (x ∷ l) h = go (p (j, x)) (filterMap p (λ e. e .0) (enumerateFrom (suc j) l)) (enumerate-below p n (suc j) l (omega arith)) (lt-ltb j n (omega arith))
-  where
-    go : (b : Bool) (r : List ℕ) → belowAll n r ≡ true → ltb j n ≡ true → belowAll n (cond b (j ∷ r) r) ≡ true
-    go true r e t = rw t e
-    go false r e t = e
+enumerate-below p n j (x ∷ l) h = let e = enumerate-below p n (suc j) l (omega arith) in either (λ r. belowAll n r ≡ true) (p (j, x)) (rw (lt-ltb j n (omega arith)) e) e
 
 pub faces-below : (l : Layout) (n : ℕ) → l .count + 1 ≤ n → l .count ≤ length (l .controls) → belowAll n (actionElementsOf l) ≡ true
 unfolding actionElementsOf
@@ -113,20 +155,12 @@ faces-below l n h k =
     let e : length (controlList l) ≡ l .count = length-take-le (l .count) (l .controls) k in
     enumerate-below (λ e. isFaceOf (e .1 .label)) n 1 (controlList l) (omega arith)
 
--- the first elements give no more than all of them
-pub fewer : {A B : Type 0} (p : A → Bool) (f : A → B) (l : List A) (i : ℕ) → length (filterMap p f (take i l)) ≤ length (filterMap p f l)
-fewer p f l i =
-    let e : length (filterMap p f (take i l)) + length (filterMap p f (drop i l)) ≡ length (filterMap p f l) =
-    sym (length-append (filterMap p f (take i l)) (filterMap p f (drop i l))) ∙ ap length (sym (filterMap-append p f (take i l) (drop i l)) ∙ ap (filterMap p f) (take-append-drop i l)) in
-    omega arith
+-- ---- one more stored behind the first n, and the room for it
+pub put-more : {A : Type 0} (out : List A) (n : ℕ) (v : A) {xs xs' : List A} → n < length out → take n out ≡ xs → xs' ≡ xs ++ (v ∷ []) → take (n + 1) (set out n v) ≡ xs'
+put-more out n v h p e = rw (add-one n, take-suc-set out n v h, p, e)
 
--- where at most m elements pass, there is room for the next that does
-pub room : {A B : Type 0} (p : A → Bool) (f : A → B) (l : List A) (i : ℕ) (d : A) (out : List B) (count m : ℕ) {flag : Bool} → i < length l → flag ≡ p (getD l i d) → flag ≡ true
-    → count ≤ length out → take count out ≡ filterMap p f (take i l) → length (filterMap p f l) ≤ m → count < m
-room p f l i d out count m h e t k q r =
-    let a : length (take count out) ≡ count = length-take-le count out k in
-    let b : length (filterMap p f (take (i + 1) l)) ≡ length (filterMap p f (take i l)) + 1 = ap length (one-more p f l i d h e t) ∙ length-append (filterMap p f (take i l)) (f (getD l i d) ∷ []) in
-    omega (arith, ap length q, fewer p f l (i + 1))
+pub room : {A : Type 0} (out : List A) (n m : ℕ) (v : A) {xs xs' : List A} → n ≤ length out → take n out ≡ xs → xs' ≡ xs ++ (v ∷ []) → length xs' ≤ m → n < m
+room out n m v {xs = xs} h p e k = omega (arith, length-take-le n out h, ap length p, ap length e ∙ length-append xs (v ∷ []))
 
 -- ---- one more step of a fold, and one rectangle of the first n put anew
 pub fold-more : {A B : Type 0} (s : B → A → B) (z acc acc' : B) (xs xs' : List A) (g : A) → acc ≡ foldl s z xs → xs' ≡ xs ++ (g ∷ []) → acc' ≡ s acc g → acc' ≡ foldl s z xs'

@@ -8,12 +8,12 @@ use native.Mathlib.Omega.{arith}
 use lib.Dec.{eqb}
 use lib.Ieee.{Float, binary32}
 use lib.Ieee.Fits.{add-fits}
+use lib.Ieee.Bits.{is-true}
 use lib.ListN.{length, getD, set}
 use Rattle.geometry.specs.declared.Rect.{Rect}
-use Rattle.geometry.specs.Choice.{both}
+use Rattle.geometry.specs.Choice.{either, by-test, both}
 use Rattle.layout.specs.declared.Layout.{Layout}
 use Rattle.layout.specs.Actions.{actionElementsOf}
-use Rattle.layout.specs.Elements.{setElementsOf}
 use Rattle.layout.specs.ElementLaws.{length-elements}
 use Rattle.layout.specs.declared.Control.{Control}
 use Rattle.layout.specs.declared.Label.{Label}
@@ -31,11 +31,7 @@ use Rattle.cutouts.specs.Settled.{Settled, AllSettled, none, next}
 -- the answer of a search is none, or passes the test
 find-passes : (p : Move → Bool) (ms : List Move) → (find p (λ m. m) Stay ms ≡ Stay) ⊎ (p (find p (λ m. m) Stay ms) ≡ true)
 find-passes p [] = inl refl
-find-passes p (x ∷ ms) = go (p x) refl (find p (λ m. m) Stay ms) (find-passes p ms)
-  where
-    go : (b : Bool) → p x ≡ b → (r : Move) → (r ≡ Stay) ⊎ (p r ≡ true) → (cond b x r ≡ Stay) ⊎ (p (cond b x r) ≡ true)
-    go true e r q = inr e
-    go false e r q = q
+find-passes p (x ∷ ms) = by-test (λ r. (r ≡ Stay) ⊎ (p r ≡ true)) (p x) (λ t. inr (is-true (p x) t)) (λ t. find-passes p ms)
 
 module _ {w h : Float} where
   all-length : {xs ys : List Rect} → AllSettled w h xs ys → length ys ≡ length xs
@@ -82,11 +78,10 @@ module _ (w h : Float) where
 
   all-settle : (holes elements : List Rect) (group : List ℕ) → AllSettled w h elements (settleOf w h holes elements group)
   unfolding settleOf searchOf
-  all-settle holes elements group = go (hitsOf (membersOf elements group) holes)
-    where
-      go : (b : Bool) → AllSettled w h elements (cond b (shiftOf elements group (searchOf w h holes (othersOf elements group) (membersOf elements group))) elements)
-      go true = all-shift holes (othersOf elements group) elements group _ (find-passes (allClearOf w h holes (othersOf elements group) (membersOf elements group)) (orderedOf (candidatesOf (membersOf elements group) holes)))
-      go false = all-same elements
+  all-settle holes elements group =
+      let members = membersOf elements group in
+      let others = othersOf elements group in
+      either (AllSettled w h elements) (hitsOf members holes) (all-shift holes others elements group _ (find-passes (allClearOf w h holes others members) (orderedOf (candidatesOf members holes)))) (all-same elements)
 
   all-group : (holes old es : List Rect) (groups : List (List ℕ)) → AllSettled w h old es → AllSettled w h old (foldl (settleOf w h holes) es groups)
   all-group holes old es [] e = e
@@ -106,19 +101,13 @@ module _ (w h : Float) where
     -- of the layout, for the reader: no proof cites this law and the next
     pub avoid-cutouts-kept : Kept l (avoidCutoutsOf l w h cutouts)
     unfolding avoidCutoutsOf
-    avoid-cutouts-kept = go (eqb (length (withAreaOf cutouts)) 0)
-      where
-        go : (b : Bool) → Kept l (cond b l (setElementsOf l after))
-        go true = record { game = refl; count = refl; stickcount = refl; labels = refl }
-        go false = set-elements-kept l _ cs (length-after ∙ length-elements l cs ss)
+    avoid-cutouts-kept =
+        either (Kept l) (eqb (length (withAreaOf cutouts)) 0) (record { game = refl; count = refl; stickcount = refl; labels = refl }) (set-elements-kept l _ cs (length-after ∙ length-elements l cs ss))
 
     pub avoid-cutouts-settled : AllSettled w h (elementsOf l) (elementsOf (avoidCutoutsOf l w h cutouts))
     unfolding avoidCutoutsOf
-    avoid-cutouts-settled = go (eqb (length (withAreaOf cutouts)) 0)
-      where
-        go : (b : Bool) → AllSettled w h (elementsOf l) (elementsOf (cond b l (setElementsOf l after)))
-        go true = all-same (elementsOf l)
-        go false = rw (set-elements-list l after cs (length-after ∙ length-elements l cs ss)) all-after
+    avoid-cutouts-settled =
+        either (λ m. AllSettled w h (elementsOf l) (elementsOf m)) (eqb (length (withAreaOf cutouts)) 0) (all-same (elementsOf l)) (rw (set-elements-list l after cs (length-after ∙ length-elements l cs ss)) all-after)
 
 -- ---- how many faces a layout has, by its labels
 count-faces : (j : ℕ) (cs : List Control)

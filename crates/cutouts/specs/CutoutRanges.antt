@@ -1,33 +1,34 @@
 -- The cutout pass keeps the range of a layout's elements: an element moves only to where it lies on the screen.
-use mathlib.Core.Path.{_≡_, refl, _∙_}
-use mathlib.Core.Bool.{Bool, true, false, not, _&&_, cond}
+use mathlib.Core.Path.{_≡_, refl, sym, _∙_}
+use mathlib.Core.Bool.{Bool, true, false, not}
 use mathlib.Core.List.{List}
 use mathlib.Core.Logic.{_⊎_, inl, inr}
 use Prim.Native.Nat.{ℕ, _+_, _-_, _*_, _^_, _≤_, _<_}
-use native.Mathlib.Nat.{le-of-lt, mul-le-mul-right, le-of-mul-le-mul-right, mul-pos}
+use native.Mathlib.Nat.{le-of-lt, mul-le-mul-right, mul-pos}
 use native.Mathlib.Omega.{arith}
 use lib.Dec.{T, eqb, leb, ltb, leb→le, nleb→lt, ltb→lt}
 use denote.Floats.{passes}
 use lib.ListN.{length}
 use lib.Pow.{pow-pos}
 use lib.Ieee.{Float, nan, inf, fin, binary32, up, down, ofBits, round, sum, add, le, fits}
-use lib.Ieee.Fits.{and-l, and-r, down-pos, add-fits}
+use lib.Ieee.Fits.{down-pos, add-fits}
 use lib.Ieee.Order.{round-mono}
 use Rattle.float.specs.Float.{_⊕_, k0, k8192}
 use Rattle.geometry.specs.declared.Rect.{Rect}
 use Rattle.layout.specs.declared.Layout.{Layout}
-use Rattle.layout.specs.Elements.{setElementsOf}
 use Rattle.layout.specs.ElementLaws.{length-elements}
 use Rattle.moves.specs.Moves.{insideOf}
 use Rattle.numerics.specs.Each.{Each}
 use Rattle.numerics.specs.Value.{magnitude, Whole, eps, posPart, AtMost, P}
 use Rattle.numerics.specs.Range.{In, at}
 use Rattle.numerics.specs.Rects.{maxCorner, maxSide, Element}
-use Rattle.numerics.specs.Operations.{fits-whole, size-is}
+use Rattle.numerics.specs.Operations.{fits-whole, size-is, less}
 use Rattle.numerics.specs.Bounds.{eps-pos, most-magnitude, between-most, le-law, zero-most, zero-parts}
 use Rattle.numerics.specs.Ranges.{add-in, most-in, moved-in, range-most, tested}
 use Rattle.numerics.specs.Literals.{i8192}
+use Rattle.geometry.specs.Choice.{either, by-test}
 use Rattle.search.specs.Bounded.{Bounded}
+use Rattle.search.proofs.Placement.{all-four}
 use Rattle.search.proofs.Layouts.{elements-in}
 use Rattle.search.proofs.Changes.{set-elements-in}
 use Rattle.cutouts.specs.Cutouts.{withAreaOf, avoidCutoutsOf}
@@ -39,16 +40,10 @@ use Rattle.cutouts.specs.CutoutLaws.{after, all-after, length-after}
 far-sum : (t : Bool) (a b c : ℕ) → 0 < c → 32768 * c ≤ a → b ≤ 8593 * c → T (le (round binary32 false 16384 1) (sum binary32 false a t b c))
 unfolding sum
 far-sum false a b c C h k = round-mono binary32 16384 1 (a + b) c (omega arith) C (omega arith)
-far-sum true a b c C h k = go (ltb a b) (ltb→lt a b)
-  where
-    go : (x : Bool) → (T x → a < b) → T (le (round binary32 false 16384 1) (cond x (round binary32 true (b - a) c) (round binary32 false (a - b) c)))
-    go true u = let v = u tt in absurd (let y : ⊥ = omega arith in y)
-    go false u = round-mono binary32 16384 1 (a - b) c (omega arith) C (omega arith)
+far-sum true a b c C h k =
+    by-test (λ z. T (le (round binary32 false 16384 1) z)) (ltb a b) (λ t. let v = ltb→lt a b t in absurd (let y : ⊥ = omega arith in y)) (λ t. round-mono binary32 16384 1 (a - b) c (omega arith) C (omega arith))
 
 -- fractions over c, by their units
-units-le : (l a b c M N : ℕ) → 0 < l → a * l ≡ M * c → b * l ≡ N * c → M ≤ N → a ≤ b
-units-le l a b c M N L p q h = let k = mul-le-mul-right c h in let x : a * l ≤ b * l = omega (arith, p, q, k) in le-of-mul-le-mul-right x L
-
 units-of : (k c : ℕ) → k * c * 2 ^ 149 ≡ eps * (256 * k) * c
 unfolding eps
 units-of k c = go (2 ^ 141)
@@ -83,8 +78,8 @@ far (fin false m e) (fin t n d) f R s = go (leb M (eps * (256 * 32768))) (leb→
     go : (b : Bool) → (T b → M ≤ eps * (256 * 32768)) → (T (not b) → eps * (256 * 32768) < M) → AtMost (fin false m e) (256 * 32768) ⊎ T (le (k8192 ⊕ k8192) (fin false m e ⊕ fin t n d))
     go true u v = inl (record { whole = W; size = rw (size-is (fin false m e)) (u tt) })
     go false u v =
-        let j = mul-le-mul-right (down d) (units-le (2 ^ 149) (32768 * down e) (m * up e) (down e) (eps * (256 * 32768)) M (pow-pos 149) (units-of 32768 (down e)) W (le-of-lt (v tt))) in
-        let k = mul-le-mul-right (down e) (units-le (2 ^ 149) (n * up d) (8593 * down d) (down d) (magnitude (fin t n d)) (eps * maxSide) (pow-pos 149) (R .whole) (units-of 8593 (down d)) (most-magnitude R)) in
+        let j = mul-le-mul-right (down d) (less (down e) (eps * (256 * 32768)) M (2 ^ 149) (32768 * down e) (m * up e) (sym (units-of 32768 (down e))) (sym W) (pow-pos 149) (le-of-lt (v tt))) in
+        let k = mul-le-mul-right (down e) (less (down d) (magnitude (fin t n d)) (eps * maxSide) (2 ^ 149) (n * up d) (8593 * down d) (sym (R .whole)) (sym (units-of 8593 (down d))) (pow-pos 149) (most-magnitude R)) in
         inr (far-sum t (m * up e * down d) (n * up d * down e) (down e * down d) (mul-pos (down-pos e) (down-pos d)) (omega (arith, j)) (omega (arith, k)))
 
 -- one side of an element that was moved
@@ -100,16 +95,10 @@ module _ {w h : Float} (W : In w (at 0) (at 8192)) (H : In h (at 0) (at 8192)) w
   unfolding insideOf
   settled-in old new (inl e) E = rw e E
   settled-in old new (inr m) E =
-      let t1 : Bool = le k0 (new .x) in
-      let t2 : Bool = le k0 (new .y) in
-      let t3 : Bool = le (new .x ⊕ new .w) w in
-      let t4 : Bool = le (new .y ⊕ new .h) h in
-      let t : T (t1 && (t2 && (t3 && t4))) = passes _ (m .inside) in
-      let u = and-r t1 (t2 && (t3 && t4)) t in
-      let v = and-r t2 (t3 && t4) u in
+      let s = all-four (le k0 (new .x)) (le k0 (new .y)) (le (new .x ⊕ new .w) w) (le (new .y ⊕ new .h) h) (passes _ (m .inside)) in
       let wide : AtMost (new .w) maxSide = rw (m .width) (E .w) in
       let high : AtMost (new .h) maxSide = rw (m .height) (E .h) in
-      record { x = side-in (m .fitsx) wide W (and-l t1 (t2 && (t3 && t4)) t) (and-l t3 t4 v); y = side-in (m .fitsy) high H (and-l t2 (t3 && t4) u) (and-r t3 t4 v); w = wide; h = high }
+      record { x = side-in (m .fitsx) wide W (s .0) (s .2); y = side-in (m .fitsy) high H (s .1) (s .3); w = wide; h = high }
 
   all-settled-in : {olds news : List Rect} → AllSettled w h olds news → Each Element olds → Each Element news
   all-settled-in none e = tt
@@ -117,10 +106,6 @@ module _ {w h : Float} (W : In w (at 0) (at 8192)) (H : In h (at 0) (at 8192)) w
 
   pub avoid-bounded : (l : Layout) (cutouts : List Rect) → l .count ≤ length (l .controls) → l .stickcount ≤ length (l .sticks) → Bounded l → Bounded (avoidCutoutsOf l w h cutouts)
   unfolding avoidCutoutsOf
-  avoid-bounded l cutouts cs ss L = go (eqb (length (withAreaOf cutouts)) 0)
-    where
-      go : (b : Bool) → Bounded (cond b l (setElementsOf l (after w h l cutouts cs ss)))
-      go true = L
-      go false =
-          let n = length-after w h l cutouts cs ss ∙ length-elements l cs ss in
-          set-elements-in (after w h l cutouts cs ss) (omega (arith, n)) L (all-settled-in (all-after w h l cutouts cs ss) (elements-in l L))
+  avoid-bounded l cutouts cs ss L =
+      let n = length-after w h l cutouts cs ss ∙ length-elements l cs ss in
+      either Bounded (eqb (length (withAreaOf cutouts)) 0) L (set-elements-in (after w h l cutouts cs ss) (omega (arith, n)) L (all-settled-in (all-after w h l cutouts cs ss) (elements-in l L)))

@@ -1,23 +1,15 @@
 -- Loops over an array that keep or join the elements that pass a test.
 use mathlib.Core.Path.{_≡_, refl, ap, sym, _∙_}
 use mathlib.Core.Bool.{Bool, true, false, cond}
-use mathlib.Core.List.{List, [], _∷_, _++_, append-nil, append-assoc, foldl-append}
+use mathlib.Core.List.{List, [], _∷_, _++_, append-assoc, foldl-append}
 use Prim.Native.Nat.{ℕ, suc, _+_, _<_}
 use native.Mathlib.Numerals.{add-one}
 use native.Mathlib.Omega.{arith}
 use lib.ListN.{length, take, drop, getD, set, length-append}
-use lib.Seq.{take-suc, drop-cons, set-append-seam, length-take-le}
-use Rattle.layout.specs.Lists.{filterMap, retain, compact, reduce}
+use lib.Seq.{drop-cons, set-append-seam, length-take-le}
+use Rattle.layout.specs.Lists.{retain, compact, reduce}
 use Rattle.layout.specs.ListLaws.{retain-fewer}
-use Rattle.layout.proofs.Loops.{filterMap-append}
-
-module _ {A B : Type 0} (p : A → Bool) (f : A → B) (l : List A) (i : ℕ) (d : A) (h : i < length l) {flag : Bool} (e : flag ≡ p (getD l i d)) where
-  -- a turn that finds an element, and one that does not
-  pub one-more : flag ≡ true → filterMap p f (take (i + 1) l) ≡ filterMap p f (take i l) ++ (f (getD l i d) ∷ [])
-  one-more t = rw (add-one i, take-suc l i d h, filterMap-append, ← e, t)
-
-  pub no-more : flag ≡ false → filterMap p f (take (i + 1) l) ≡ filterMap p f (take i l)
-  no-more t = rw (add-one i, take-suc l i d h, filterMap-append, ← e, t, append-nil)
+use Rattle.layout.proofs.Loops.{one-more, no-more}
 
 -- `compact`, with n elements kept so far
 module _ {A : Type 0} (p : A → Bool) (l : List A) (i : ℕ) (d : A) (h : i < length l) {flag : Bool} (e : flag ≡ p (getD l i d)) where

@@ -97,16 +97,24 @@ module _ {A B : Type 0} (p : A → Bool) (f : A → B) where
       go true e = ap (λ t. f x ∷ t) e
       go false e = e
 
+module _ {A B : Type 0} (p : A → Bool) (f : A → B) (l : List A) (i : ℕ) (d : A) (h : i < length l) {flag : Bool} (e : flag ≡ p (getD l i d)) where
+  -- a turn that finds an element, and one that does not
+  pub one-more : flag ≡ true → filterMap p f (take (i + 1) l) ≡ filterMap p f (take i l) ++ (f (getD l i d) ∷ [])
+  one-more t = rw (add-one i, take-suc l i d h, filterMap-append, ← e, t)
+
+  pub no-more : flag ≡ false → filterMap p f (take (i + 1) l) ≡ filterMap p f (take i l)
+  no-more t = rw (add-one i, take-suc l i d h, filterMap-append, ← e, t, append-nil)
+
+module _ {A B : Type 0} (p : A → Bool) (f : A → B) where
   -- a turn that stores
   pub filterMap-put : (l : List A) (i : ℕ) (d : A) (out : List B) (n : ℕ) {flag : Bool} {v : B} → i < length l → n < length out → take n out ≡ filterMap p f (take i l)
       → flag ≡ p (getD l i d) → flag ≡ true → v ≡ f (getD l i d) → take (n + 1) (set out n v) ≡ filterMap p f (take (i + 1) l)
-  filterMap-put l i d out n {v = v} h k s e t q =
-      rw (add-one i, take-suc l i d h, filterMap-append, ← s, ← e, t, ← q, add-one n) (take-suc-set out n v k)
+  filterMap-put l i d out n {v = v} h k s e t q = rw (one-more p f l i d h e t, ← s, ← q, add-one n) (take-suc-set out n v k)
 
   -- a turn that does not
   pub filterMap-skip : (l : List A) (i : ℕ) (d : A) (out : List B) (n : ℕ) {flag : Bool} → i < length l → take n out ≡ filterMap p f (take i l)
       → flag ≡ p (getD l i d) → flag ≡ false → take n out ≡ filterMap p f (take (i + 1) l)
-  filterMap-skip l i d out n h s e t = rw (add-one i, take-suc l i d h, filterMap-append, ← s, ← e, t, append-nil)
+  filterMap-skip l i d out n h s e t = s ∙ sym (no-more p f l i d h e t)
 
 -- ---- a loop that changes the first elements in place
 module _ {A : Type 0} (g : A → A) where

@@ -1,14 +1,14 @@
 -- Laws of a layout's elements: the list of them is `element` at each index, the controller's are those but the toolbar's.
 use mathlib.Core.Path.{_≡_, refl, ap, ap₂, sym, _∙_}
-use mathlib.Core.Bool.{Bool, true, false, cond}
+use mathlib.Core.Bool.{cond}
 use mathlib.Core.List.{List, _∷_, _++_, map, map-append}
 use Prim.Native.Nat.{ℕ, zero, suc, _+_, _-_, _<_, _≤_}
 use native.Mathlib.Omega.{arith}
-use borrow.Author.Tests.{ltb-true, ltb-false}
-use lib.Dec.{ltb}
+use lib.Dec.{ltb, ltb→lt, nltb→le}
 use lib.ListN.{length, take, drop, getD, length-append, length-map, List·getD-append, List·getD-map}
 use lib.Seq.{drop-cons, getD-append-add, getD-take, length-take-le, take-at, take-all, drop-append-add}
 use Rattle.geometry.specs.declared.Rect.{Rect}
+use Rattle.geometry.specs.Choice.{by-test}
 use Rattle.layout.specs.declared.Control.{Control}
 use Rattle.layout.specs.declared.Layout.{Layout}
 use Rattle.layout.specs.Layout.{anyRect, anyControl, controlList, stickList, elementCountOf, elementOf, boundsOf, elementsOf}
@@ -17,11 +17,7 @@ use Rattle.layout.specs.Elements.{countFrom, controllerElementsOf}
 module _ {A : Type 0} where
   -- a claim about a branch, by its two sides
   pub by-ltb : (i k : ℕ) {x y z : A} → (i < k → z ≡ x) → (k ≤ i → z ≡ y) → z ≡ cond (ltb i k) x y
-  by-ltb i k {x = x} {y = y} {z = z} p q = go (ltb i k) refl
-    where
-      go : (b : Bool) → ltb i k ≡ b → z ≡ cond b x y
-      go true e = p (ltb-true i k e)
-      go false e = q (ltb-false i k e)
+  by-ltb i k {z = z} p q = by-test (λ w. z ≡ w) (ltb i k) (λ t. p (ltb→lt i k t)) (λ t. q (nltb→le i k t))
 
 -- the elements after the controls
 abbrev lastOf : Layout → List Rect

@@ -5,6 +5,7 @@ use mathlib.Core.List.{List, [], _∷_, map}
 use Prim.Native.Nat.{ℕ, zero, suc, _≤_, zero-le, suc-le-suc}
 use native.Mathlib.Nat.{le-suc, le-trans}
 use lib.ListN.{length, take}
+use Rattle.geometry.specs.Choice.{either}
 use Rattle.layout.specs.Lists.{mapFirst, retain}
 
 module _ {A B : Type 0} (f : A → B) where
@@ -20,11 +21,7 @@ module _ {A B : Type 0} (f : A → B) where
 module _ {A : Type 0} (p : A → Bool) where
   pub retain-fewer : (l : List A) → length (retain p l) ≤ length l
   retain-fewer [] = zero-le
-  retain-fewer (x ∷ l) = go (p x) (retain-fewer l)
-    where
-      go : (b : Bool) → length (retain p l) ≤ length l → length (cond b (x ∷ retain p l) (retain p l)) ≤ suc (length l)
-      go true h = suc-le-suc h
-      go false h = le-trans h (le-suc (length l))
+  retain-fewer (x ∷ l) = let h = retain-fewer l in either (λ (k : List A). length k ≤ suc (length l)) (p x) (suc-le-suc h) (le-trans h (le-suc (length l)))
 
 module _ {A : Type 0} (g : A → A) where
   pub length-mapFirst : (n : ℕ) (xs : List A) → length (mapFirst g n xs) ≡ length xs

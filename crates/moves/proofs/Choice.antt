@@ -2,13 +2,14 @@
 use mathlib.Core.Path.{_≡_, refl, sym, _∙_}
 use mathlib.Core.Bool.{true, false}
 use mathlib.Core.List.{List, [], _∷_, zipWith}
-use Prim.Native.Nat.{ℕ, zero, suc, _+_, _<_, _≤_}
+use Prim.Native.Nat.{ℕ, _+_, _<_, _≤_}
 use native.Mathlib.Numerals.{add-one}
 use native.Mathlib.Omega.{arith}
 use lib.Ieee.{Float, nan}
 use lib.ListN.{length, take, drop, getD, drop-of-length-le}
 use lib.Seq.{drop-cons, getD-take, length-take-le}
 use Rattle.geometry.specs.declared.Rect.{Rect}
+use Rattle.layout.proofs.Stores.{getD-zipWith}
 use Rattle.moves.specs.declared.Move.{Move}
 use Rattle.moves.specs.declared.Move.the-variants.{Stay, Go}
 use Rattle.moves.specs.Moves.{movesIn, allClearOf, firstClearOf}
@@ -19,13 +20,6 @@ unfolding zipWith
 length-zip f [] ys e = refl
 length-zip f (x ∷ xs) [] e = sym e
 length-zip f (x ∷ xs) (y ∷ ys) e = let z : length (zipWith f xs ys) ≡ length xs = length-zip f xs ys (omega arith) in omega arith
-
-zip-at : {A B C : Type 0} (f : A → B → C) (xs : List A) (ys : List B) (i : ℕ) (a : A) (b : B) (c : C) → i < length xs → i < length ys → getD (zipWith f xs ys) i c ≡ f (getD xs i a) (getD ys i b)
-unfolding zipWith
-zip-at f [] ys i a b c h k = absurd (let z : ⊥ = omega arith in z)
-zip-at f (x ∷ xs) [] i a b c h k = absurd (let z : ⊥ = omega arith in z)
-zip-at f (x ∷ xs) (y ∷ ys) zero a b c h k = refl
-zip-at f (x ∷ xs) (y ∷ ys) (suc i) a b c h k = zip-at f xs ys i a b c (omega arith) (omega arith)
 
 module _ (dxs dys : List Float) (n i : ℕ) (hx : n ≤ length dxs) (hy : n ≤ length dys) where
   length-moves : length (movesIn dxs dys n) ≡ n
@@ -40,7 +34,7 @@ module _ (dxs dys : List Float) (n i : ℕ) (hx : n ≤ length dxs) (hy : n ≤ 
   move-at h =
       let lx : length (take n dxs) ≡ n = length-take-le n dxs hx in
       let ly : length (take n dys) ≡ n = length-take-le n dys hy in
-      zip-at Go (take n dxs) (take n dys) i nan nan Stay (omega arith) (omega arith) ∙ rw (getD-take n dxs i nan h, getD-take n dys i nan h)
+      sym (getD-zipWith Go (take n dxs) (take n dys) i nan nan Stay (omega arith) (omega arith)) ∙ rw (getD-take n dxs i nan h, getD-take n dys i nan h)
 
   next-move : i < n → drop i (movesIn dxs dys n) ≡ Go (getD dxs i nan) (getD dys i nan) ∷ drop (i + 1) (movesIn dxs dys n)
   next-move h =

@@ -4,12 +4,14 @@ use mathlib.Core.Path.{_≡_, refl, sym, ap, subst}
 use Prim.Native.Nat.{ℕ, suc, _+_, _*_, _≤_, _<_}
 use native.Mathlib.Nat.{le-of-mul-le-mul-right, le-trans, le-of-eq, le-of-lt, mul-le-mul-right, mul-le-mul-left, mul-pos, le-refl, zero-lt-suc, zero-mul}
 use native.Mathlib.Omega.{arith}
-use mathlib.Core.Bool.{Bool, true, false, not, _||_, cond}
+use mathlib.Core.Bool.{Bool, true, false, not, _||_}
 use mathlib.Core.Logic.{_⊎_, inl, inr}
-use lib.Dec.{T, leb, ltb, leb→le, ltb→lt, lit≤}
+use lib.Dec.{T, leb, ltb, leb→le, ltb→lt, lit≤, not-T}
 use lib.Pow.{pow-pos}
-use lib.Ieee.{Float, nan, ofBits, lt, le, eq, ne}
+use lib.Ieee.{Float, ofBits, lt, le, eq, ne}
 use lib.Ieee.Compare.{differs-from-itself}
+use lib.Ieee.Bits.{is-false}
+use Rattle.geometry.specs.Choice.{by-test}
 use Rattle.float.specs.Float.{_⊕_, _⊖_, _⊗_, _⊘_, k0}
 use Rattle.float.specs.MinMax.{minOf, maxOf}
 use Rattle.numerics.specs.Value.{magnitude, Whole, posPart, negPart, eps, top, limit, AtMost, Fraction, P, N, E, Le}
@@ -43,77 +45,6 @@ room x y n m p q t =
     let z = eps-pos in
     omega arith
 
--- ---- the sum
-pub record Adds (d : ℕ) (r x y : Float) : Type 0 where
-  pub over : P d r + (N d x + N d y) ≤ N d r + (P d x + P d y) + E d
-  pub under : N d r + (P d x + P d y) ≤ P d r + (N d x + N d y) + E d
-
-near-adds : (d : ℕ) (r x y : Float) → Near r (posPart x + posPart y) (negPart x + negPart y) 1 eps → Adds d r x y
-unfolding P N E
-near-adds d r x y h =
-    let a = mul-le-mul-right d (h .over) in
-    let b = mul-le-mul-right d (h .under) in
-    record { over = omega arith; under = omega arith }
-
-pub add-law : (d : ℕ) {x y : Float} {n m : ℕ} → AtMost x n → AtMost y m → T (ltb (n + m) limit) → Adds d (x ⊕ y) x y
-add-law d {x} {y} {n} {m} p q t = near-adds d (x ⊕ y) x y (add-near x y (p .whole) (q .whole) (room x y n m p q t))
-
--- a result is no larger than what it is near to, and e
-pub near-magnitude : (r : Float) (P Q W e : ℕ) → Near r P Q W e → magnitude r * W ≤ P + Q + e * W
-near-magnitude r P Q W e h = go (one-zero r) (ap (λ (z : ℕ). z * W) (size-is r))
-  where
-    go : (posPart r ≡ 0) ⊎ (negPart r ≡ 0) → (posPart r + negPart r) * W ≡ magnitude r * W → magnitude r * W ≤ P + Q + e * W
-    go (inl z) m = let k = ap (λ (v : ℕ). v * W) z in omega (arith, h .under)
-    go (inr z) m = let k = ap (λ (v : ℕ). v * W) z in omega (arith, h .over)
-
-near-size : (r : Float) (P Q W e k : ℕ) → 0 < W → Near r P Q W e → P + Q ≤ k * W → posPart r + negPart r ≤ k + e
-near-size r P Q W e k D h l =
-    let m = near-magnitude r P Q W e h in
-    let z : magnitude r * W ≤ (k + e) * W = omega arith in
-    rw (size-is r) (le-of-mul-le-mul-right z D)
-
-near-most : (r : Float) (P Q n : ℕ) → Near r P Q 1 eps → P + Q ≤ eps * n → AtMost r (n + 1)
-near-most r P Q n h l = record { whole = h .whole; size = let k = near-size r P Q 1 eps (eps * n) (zero-lt-suc 0) h (omega arith) in omega arith }
-
-pub add-most : {x y : Float} {n m : ℕ} → AtMost x n → AtMost y m → T (ltb (n + m) limit) → AtMost (x ⊕ y) (n + m + 1)
-add-most {x} {y} {n} {m} p q t =
-    let a = p .size in
-    let b = q .size in
-    near-most (x ⊕ y) (posPart x + posPart y) (negPart x + negPart y) (n + m) (add-near x y (p .whole) (q .whole) (room x y n m p q t)) (omega arith)
-
--- ---- the difference
-pub record Subs (d : ℕ) (r x y : Float) : Type 0 where
-  pub over : P d r + (N d x + P d y) ≤ N d r + (P d x + N d y) + E d
-  pub under : N d r + (P d x + N d y) ≤ P d r + (N d x + P d y) + E d
-
-near-subs : (d : ℕ) (r x y : Float) → Near r (posPart x + negPart y) (negPart x + posPart y) 1 eps → Subs d r x y
-unfolding P N E
-near-subs d r x y h =
-    let a = mul-le-mul-right d (h .over) in
-    let b = mul-le-mul-right d (h .under) in
-    record { over = omega arith; under = omega arith }
-
-pub sub-law : (d : ℕ) {x y : Float} {n m : ℕ} → AtMost x n → AtMost y m → T (ltb (n + m) limit) → Subs d (x ⊖ y) x y
-sub-law d {x} {y} {n} {m} p q t = near-subs d (x ⊖ y) x y (sub-near x y (p .whole) (q .whole) (room x y n m p q t))
-
-pub sub-most : {x y : Float} {n m : ℕ} → AtMost x n → AtMost y m → T (ltb (n + m) limit) → AtMost (x ⊖ y) (n + m + 1)
-sub-most {x} {y} {n} {m} p q t =
-    let a = p .size in
-    let b = q .size in
-    near-most (x ⊖ y) (posPart x + negPart y) (negPart x + posPart y) (n + m) (sub-near x y (p .whole) (q .whole) (room x y n m p q t)) (omega arith)
-
--- ---- the product by a fraction A / B, and the quotient by it
-pub record Muls (d : ℕ) (r x : Float) (A B : ℕ) : Type 0 where
-  pub over : P d r * B + N d x * A ≤ N d r * B + P d x * A + E d * B
-  pub under : N d r * B + P d x * A ≤ P d r * B + N d x * A + E d * B
-
-ratio-muls : (d : ℕ) (r x : Float) (A B : ℕ) → Near r (posPart x * A) (negPart x * A) B eps → Muls d r x A B
-unfolding P N E
-ratio-muls d r x A B h =
-    let a = mul-le-mul-right d (h .over) in
-    let b = mul-le-mul-right d (h .under) in
-    record { over = omega arith; under = omega arith }
-
 pub room-mul : (x : Float) (n A B : ℕ) → AtMost x n → T (ltb (n * A) (limit * B)) → magnitude x * A < top * B
 room-mul x n A B p t =
     let a : magnitude x * A ≤ eps * n * A = mul-le-mul-right A (most-magnitude p) in
@@ -122,41 +53,105 @@ room-mul x n A B p t =
     let z = eps-pos in
     omega arith
 
+-- ---- the operations, where there is room
+pub add-bounded : {x y : Float} {n m : ℕ} → AtMost x n → AtMost y m → T (ltb (n + m) limit) → Near (x ⊕ y) (posPart x + posPart y) (negPart x + negPart y) 1 eps
+add-bounded {x} {y} {n} {m} p q t = add-near x y (p .whole) (q .whole) (room x y n m p q t)
+
+pub sub-bounded : {x y : Float} {n m : ℕ} → AtMost x n → AtMost y m → T (ltb (n + m) limit) → Near (x ⊖ y) (posPart x + negPart y) (negPart x + posPart y) 1 eps
+sub-bounded {x} {y} {n} {m} p q t = sub-near x y (p .whole) (q .whole) (room x y n m p q t)
+
+pub mul-bounded : {x y : Float} {n A B : ℕ} → AtMost x n → Fraction y A B → T (ltb (n * A) (limit * B)) → Near (x ⊗ y) (posPart x * A) (negPart x * A) B eps
+mul-bounded {x} {y} {n} {A} {B} p q t = mul-near x y A B (p .whole) q (room-mul x n A B p t)
+
+pub div-bounded : {x y : Float} {n A B : ℕ} → AtMost x n → Fraction y A B → T (ltb (n * B) (limit * A)) → Near (x ⊘ y) (posPart x * B) (negPart x * B) A eps
+div-bounded {x} {y} {n} {A} {B} p q t = div-near x y A B (p .whole) q (room-mul x n B A p t)
+
+-- ---- results over d: r is (A - B) / W but for 1/256
+pub record Off (d : ℕ) (r : Float) (A B W : ℕ) : Type 0 where
+  pub over : P d r * W + B ≤ N d r * W + A + E d * W
+  pub under : N d r * W + A ≤ P d r * W + B + E d * W
+
+near-off : (d : ℕ) {r : Float} {A B W : ℕ} (A' B' : ℕ) → Near r A B W eps → A * d ≡ A' → B * d ≡ B' → Off d r A' B' W
+unfolding P N E
+near-off d A' B' h p q =
+    let a = mul-le-mul-right d (h .over) in
+    let b = mul-le-mul-right d (h .under) in
+    record { over = omega arith; under = omega arith }
+
+abbrev pub Adds : ℕ → Float → Float → Float → Type 0
+Adds d r x y = Off d r (P d x + P d y) (N d x + N d y) 1
+
+abbrev pub Subs : ℕ → Float → Float → Float → Type 0
+Subs d r x y = Off d r (P d x + N d y) (N d x + P d y) 1
+
+-- the product by a fraction A / B, or the quotient by B / A
+abbrev pub Muls : ℕ → Float → Float → ℕ → ℕ → Type 0
+Muls d r x A B = Off d r (P d x * A) (N d x * A) B
+
+pub add-law : (d : ℕ) {x y : Float} {n m : ℕ} → AtMost x n → AtMost y m → T (ltb (n + m) limit) → Adds d (x ⊕ y) x y
+unfolding P N
+add-law d p q t = near-off d _ _ (add-bounded p q t) (omega arith) (omega arith)
+
+pub sub-law : (d : ℕ) {x y : Float} {n m : ℕ} → AtMost x n → AtMost y m → T (ltb (n + m) limit) → Subs d (x ⊖ y) x y
+unfolding P N
+sub-law d p q t = near-off d _ _ (sub-bounded p q t) (omega arith) (omega arith)
+
 pub mul-law : (d : ℕ) {x y : Float} {n A B : ℕ} → AtMost x n → Fraction y A B → T (ltb (n * A) (limit * B)) → Muls d (x ⊗ y) x A B
-mul-law d {x} {y} {n} {A} {B} p q t = ratio-muls d (x ⊗ y) x A B (mul-near x y A B (p .whole) q (room-mul x n A B p t))
+unfolding P N
+mul-law d p q t = near-off d _ _ (mul-bounded p q t) (omega arith) (omega arith)
 
 pub div-law : (d : ℕ) {x y : Float} {n A B : ℕ} → AtMost x n → Fraction y A B → T (ltb (n * B) (limit * A)) → Muls d (x ⊘ y) x B A
-div-law d {x} {y} {n} {A} {B} p q t = ratio-muls d (x ⊘ y) x B A (div-near x y A B (p .whole) q (room-mul x n B A p t))
+unfolding P N
+div-law d p q t = near-off d _ _ (div-bounded p q t) (omega arith) (omega arith)
 
-ratio-most : (r x : Float) (n A B k : ℕ) → 0 < B → AtMost x n → Near r (posPart x * A) (negPart x * A) B eps → T (leb (n * A) (k * B)) → AtMost r (k + 1)
-ratio-most r x n A B k D p h t =
-    let a : (posPart x + negPart x) * A ≤ eps * n * A = mul-le-mul-right A (p .size) in
-    let b : eps * (n * A) ≤ eps * (k * B) = mul-le-mul-left eps (leb→le (n * A) (k * B) t) in
-    let c : posPart x * A + negPart x * A ≤ eps * k * B = omega arith in
-    record { whole = h .whole; size = let z = near-size r (posPart x * A) (negPart x * A) B eps (eps * k) D h c in omega arith }
+-- ---- the size of a result: no larger than what it is near to, and e
+pub near-magnitude : (r : Float) (P Q W e : ℕ) → Near r P Q W e → magnitude r * W ≤ P + Q + e * W
+near-magnitude r P Q W e h = go (one-zero r) (ap (λ (z : ℕ). z * W) (size-is r))
+  where
+    go : (posPart r ≡ 0) ⊎ (negPart r ≡ 0) → (posPart r + negPart r) * W ≡ magnitude r * W → magnitude r * W ≤ P + Q + e * W
+    go (inl z) m = let k = ap (λ (v : ℕ). v * W) z in omega (arith, h .under)
+    go (inr z) m = let k = ap (λ (v : ℕ). v * W) z in omega (arith, h .over)
+
+near-most : {r : Float} {P Q W : ℕ} (k : ℕ) → 0 < W → Near r P Q W eps → P + Q ≤ eps * k * W → AtMost r (k + 1)
+near-most {r} {P} {Q} {W} k D h l =
+    let m = near-magnitude r P Q W eps h in
+    let z : magnitude r * W ≤ eps * (k + 1) * W = omega arith in
+    record { whole = h .whole; size = rw (size-is r) (le-of-mul-le-mul-right z D) }
+
+pub add-most : {x y : Float} {n m : ℕ} → AtMost x n → AtMost y m → T (ltb (n + m) limit) → AtMost (x ⊕ y) (n + m + 1)
+add-most {n = n} {m = m} p q t = near-most (n + m) (zero-lt-suc 0) (add-bounded p q t) (omega (arith, p .size, q .size))
+
+pub sub-most : {x y : Float} {n m : ℕ} → AtMost x n → AtMost y m → T (ltb (n + m) limit) → AtMost (x ⊖ y) (n + m + 1)
+sub-most {n = n} {m = m} p q t = near-most (n + m) (zero-lt-suc 0) (sub-bounded p q t) (omega (arith, p .size, q .size))
+
+scaled-size : {x : Float} {n : ℕ} (A B k : ℕ) → AtMost x n → T (leb (n * A) (k * B)) → posPart x * A + negPart x * A ≤ eps * k * B
+scaled-size {n = n} A B k p t =
+    let a = mul-le-mul-right A (p .size) in
+    let b = mul-le-mul-left eps (leb→le (n * A) (k * B) t) in
+    omega arith
 
 pub mul-most : {x y : Float} {n A B : ℕ} (k : ℕ) → AtMost x n → Fraction y A B → T (ltb (n * A) (limit * B)) → T (leb (n * A) (k * B)) → AtMost (x ⊗ y) (k + 1)
-mul-most {x} {y} {n} {A} {B} k p q t u = ratio-most (x ⊗ y) x n A B k (q .below) p (mul-near x y A B (p .whole) q (room-mul x n A B p t)) u
+mul-most {A = A} {B = B} k p q t u = near-most k (q .below) (mul-bounded p q t) (scaled-size A B k p u)
 
 pub div-most : {x y : Float} {n A B : ℕ} (k : ℕ) → AtMost x n → Fraction y A B → T (ltb (n * B) (limit * A)) → T (leb (n * B) (k * A)) → AtMost (x ⊘ y) (k + 1)
-div-most {x} {y} {n} {A} {B} k p q t u = ratio-most (x ⊘ y) x n B A k (q .above) p (div-near x y A B (p .whole) q (room-mul x n B A p t)) u
+div-most {A = A} {B = B} k p q t u = near-most k (q .above) (div-bounded p q t) (scaled-size B A k p u)
 
 -- ---- comparison, with equality left in: there is slack everywhere
-pub lt-law : (d : ℕ) (x y : Float) → Whole x → Whole y → T (lt x y) → Le d x y
+pub le-over : (d : ℕ) (x y : Float) → posPart x + negPart y ≤ posPart y + negPart x → Le d x y
 unfolding P N
-lt-law d x y p q t = let k = mul-le-mul-right d (le-of-lt (lt-true x y p q t)) in omega arith
+le-over d x y h = let k = mul-le-mul-right d h in omega arith
+
+pub lt-law : (d : ℕ) (x y : Float) → Whole x → Whole y → T (lt x y) → Le d x y
+lt-law d x y p q t = le-over d x y (le-of-lt (lt-true x y p q t))
 
 pub lt-not : (d : ℕ) (x y : Float) → Whole x → Whole y → T (not (lt x y)) → Le d y x
-unfolding P N
-lt-not d x y p q t = let k = mul-le-mul-right d (lt-false x y p q t) in omega arith
+lt-not d x y p q t = le-over d y x (lt-false x y p q t)
 
 pub eq-law : (d : ℕ) (x y : Float) → Whole x → Whole y → T (eq x y) → Le d x y
-unfolding P N
-eq-law d x y p q t = let k = mul-le-mul-right d (le-of-eq (eq-true x y p q t)) in omega arith
+eq-law d x y p q t = le-over d x y (le-of-eq (eq-true x y p q t))
 
 pub eq-law' : (d : ℕ) (x y : Float) → Whole x → Whole y → T (eq x y) → Le d y x
-unfolding P N
-eq-law' d x y p q t = let k = mul-le-mul-right d (le-of-eq (sym (eq-true x y p q t))) in omega arith
+eq-law' d x y p q t = le-over d y x (le-of-eq (sym (eq-true x y p q t)))
 
 pub E-pos : (d : ℕ) → 0 < d → 0 < E d
 unfolding E
@@ -192,24 +187,16 @@ le-not d x y p q t = lt-not d x y p q (nor-l (lt x y) (eq x y) t)
 
 -- ---- the lesser and the greater, the first on a tie, a number before a NaN
 whole-same : (x : Float) → Whole x → ne x x ≡ false
-whole-same x p = go (ne x x) (differs-from-itself x)
-  where
-    go : (b : Bool) → (T b → x ≡ nan) → b ≡ false
-    go true h = absurd (subst Whole (h tt) p)
-    go false h = refl
-
-pick : (b : Bool) (x y : Float) (C : Float → Type 0) → (T b → C x) → (T (not b) → C y) → C (cond b x y)
-pick true x y C f g = f tt
-pick false x y C f g = g tt
+whole-same x p = is-false (ne x x) (not-T (ne x x) (λ t. subst Whole (differs-from-itself x t) p))
 
 -- what holds of x where x is the lesser, and of y where y is
 pub min-ind : (d : ℕ) (x y : Float) → Whole x → Whole y → (C : Float → Type 0) → (Le d x y → C x) → (Le d y x → C y) → C (minOf x y)
 unfolding minOf
-min-ind d x y p q C f g = rw (whole-same x p) (pick (lt y x) y x C (λ t. g (lt-law d y x q p t)) (λ t. f (lt-not d y x q p t)))
+min-ind d x y p q C f g = rw (whole-same x p) (by-test C (lt y x) (λ t. g (lt-law d y x q p t)) (λ t. f (lt-not d y x q p t)))
 
 pub max-ind : (d : ℕ) (x y : Float) → Whole x → Whole y → (C : Float → Type 0) → (Le d y x → C x) → (Le d x y → C y) → C (maxOf x y)
 unfolding maxOf
-max-ind d x y p q C f g = rw (whole-same x p) (pick (lt x y) y x C (λ t. g (lt-law d x y p q t)) (λ t. f (lt-not d x y p q t)))
+max-ind d x y p q C f g = rw (whole-same x p) (by-test C (lt x y) (λ t. g (lt-law d x y p q t)) (λ t. f (lt-not d x y p q t)))
 
 pub record Lesser (d : ℕ) (z x y : Float) : Type 0 where
   pub first : Le d z x

@@ -1,13 +1,14 @@
 -- Whole numbers by their parts above and below zero, of which one is 0: laws that turn facts about ℤ into inequalities for `omega`.
 use mathlib.Core.Path.{_≡_, refl, sym, ap, _∙_, subst}
-use Prim.Native.Nat.{ℕ, zero, suc, _+_, _-_, _*_, _≤_, _<_}
+use Prim.Native.Nat.{ℕ, zero, suc, _+_, _*_, _≤_}
 use native.Mathlib.Nat.{zero-mul}
 use native.Mathlib.Omega.{arith}
-use mathlib.Core.Bool.{Bool, true, false, not, cond}
+use mathlib.Core.Bool.{true, false, not}
 use lib.Dec.{T, ltb, leb→le, le→leb, ltb→lt, nltb→le, nleb→lt}
 use lib.IntN.{ℤ, pos, negsuc, negℤ, subℕ, _+ℤ_, _*ℤ_}
 use lib.Signed.{leZ, ltZ}
 use lib.Ieee.{Float, nan, inf, fin}
+use Rattle.geometry.specs.Choice.{by-test}
 use Rattle.numerics.specs.Value.{magnitude, Whole, posPart, negPart, value, above, below, P, N}
 
 pub le-parts : (a b : ℤ) → T (leZ a b) → above a + below b ≤ above b + below a
@@ -18,10 +19,7 @@ le-parts (negsuc a) (negsuc b) t = let k = leb→le b a t in omega arith
 
 pub parts-le : (a b : ℤ) → above a + below b ≤ above b + below a → T (leZ a b)
 parts-le (pos a) (pos b) h = le→leb a b (omega arith)
-parts-le (pos a) (negsuc b) h = absurd (bad a b h)
-  where
-    bad : (a b : ℕ) → a + suc b ≤ 0 + 0 → ⊥
-    bad a b h = omega arith
+parts-le (pos a) (negsuc b) h = absurd (let z : ⊥ = omega arith in z)
 parts-le (negsuc a) (pos b) h = tt
 parts-le (negsuc a) (negsuc b) h = le→leb b a (omega arith)
 
@@ -38,11 +36,7 @@ nlt-parts (negsuc a) (pos b) t = absurd t
 nlt-parts (negsuc a) (negsuc b) t = let k = nltb→le b a t in omega arith
 
 sub-parts : (a b : ℕ) → above (subℕ a b) + b ≡ below (subℕ a b) + a
-sub-parts a b = go (ltb a b) (ltb→lt a b) (nltb→le a b)
-  where
-    go : (t : Bool) → (T t → a < b) → (T (not t) → b ≤ a) → above (cond t (negsuc (b - suc a)) (pos (a - b))) + b ≡ below (cond t (negsuc (b - suc a)) (pos (a - b))) + a
-    go true h k = let l = h tt in omega arith
-    go false h k = let l = k tt in omega arith
+sub-parts a b = by-test (λ z. above z + b ≡ below z + a) (ltb a b) (λ t. omega (arith, ltb→lt a b t)) (λ t. omega (arith, nltb→le a b t))
 
 pub add-parts : (a b : ℤ) → above (a +ℤ b) + below a + below b ≡ below (a +ℤ b) + above a + above b
 add-parts (pos a) (pos b) = omega arith

@@ -8,7 +8,7 @@ use lib.Ieee.{ofBits, add, mul, div}
 use Rattle.float.specs.Float.{_⊕_, _⊗_, _⊘_, k0, k0·01, k0·055, k0·25, k0·4, k0·5, k0·75, k1, k1·4, k2, k3, k4, k6, k8, k12, k14, k16, k18, k20, k24, k28, k32, k40, k44, k48, k50, k52, k56, k64, k68, k70, k72, k76, k80, k84, k88, k96, k100, k104, k112, k120, k122, k128, k136, k140, k156, k160, k164, k168, k176, k184, k196, k200, k204, k224, k240, k272, k288, k336, k360, k480, k8192, √2}
 use Rattle.numerics.specs.Value.{magnitude, posPart, negPart, eps, limit, AtMost, Fraction, P, N, E}
 use Rattle.numerics.specs.Range.{In, at}
-use Rattle.numerics.specs.Ranges.{literal, range-most}
+use Rattle.numerics.specs.Ranges.{literal, fraction, range-most}
 
 pub i0 : In k0 (at 0) (at 0)
 i0 = unfold ofBits magnitude posPart negPart eps in (literal refl tt tt)
@@ -192,53 +192,41 @@ pub i4√2 : In (k4 ⊗ √2) (limit + 1448) (limit + 1449)
 i4√2 = unfold ofBits mul magnitude posPart negPart eps in (literal refl tt tt)
 
 -- ---- fractions
-pub f0·01 : Fraction k0·01 5368709 536870912
-unfolding ofBits magnitude
-f0·01 = record { whole = refl; plus = refl; is = refl; above = lit≤ tt; below = lit≤ tt }
+pub f0·01 : Fraction k0·01 0x51eb85 0x20000000
+f0·01 = unfold ofBits magnitude in (fraction refl refl refl tt tt)
 
-pub f0·055 : Fraction k0·055 7381975 134217728
-unfolding ofBits magnitude
-f0·055 = record { whole = refl; plus = refl; is = refl; above = lit≤ tt; below = lit≤ tt }
+pub f0·055 : Fraction k0·055 0x70a3d7 0x8000000
+f0·055 = unfold ofBits magnitude in (fraction refl refl refl tt tt)
 
-pub f0·4 : Fraction k0·4 13421773 33554432
-unfolding ofBits magnitude
-f0·4 = record { whole = refl; plus = refl; is = refl; above = lit≤ tt; below = lit≤ tt }
+pub f0·4 : Fraction k0·4 0xcccccd 0x2000000
+f0·4 = unfold ofBits magnitude in (fraction refl refl refl tt tt)
 
 pub f0·75 : Fraction k0·75 3 4
-unfolding ofBits magnitude
-f0·75 = record { whole = refl; plus = refl; is = refl; above = lit≤ tt; below = lit≤ tt }
+f0·75 = unfold ofBits magnitude in (fraction refl refl refl tt tt)
 
 pub f1 : Fraction k1 1 1
-unfolding ofBits magnitude
-f1 = record { whole = refl; plus = refl; is = refl; above = lit≤ tt; below = lit≤ tt }
+f1 = unfold ofBits magnitude in (fraction refl refl refl tt tt)
 
 pub f2 : Fraction k2 2 1
-unfolding ofBits magnitude
-f2 = record { whole = refl; plus = refl; is = refl; above = lit≤ tt; below = lit≤ tt }
+f2 = unfold ofBits magnitude in (fraction refl refl refl tt tt)
 
 pub f3 : Fraction k3 3 1
-unfolding ofBits magnitude
-f3 = record { whole = refl; plus = refl; is = refl; above = lit≤ tt; below = lit≤ tt }
+f3 = unfold ofBits magnitude in (fraction refl refl refl tt tt)
 
 pub f4 : Fraction k4 4 1
-unfolding ofBits magnitude
-f4 = record { whole = refl; plus = refl; is = refl; above = lit≤ tt; below = lit≤ tt }
+f4 = unfold ofBits magnitude in (fraction refl refl refl tt tt)
 
 pub f52 : Fraction k52 52 1
-unfolding ofBits magnitude
-f52 = record { whole = refl; plus = refl; is = refl; above = lit≤ tt; below = lit≤ tt }
+f52 = unfold ofBits magnitude in (fraction refl refl refl tt tt)
 
-pub f1√2 : Fraction (k1 ⊕ √2) 5062973 2097152
-unfolding ofBits add magnitude
-f1√2 = record { whole = refl; plus = refl; is = refl; above = lit≤ tt; below = lit≤ tt }
+pub f1√2 : Fraction (k1 ⊕ √2) 0x4d413d 0x200000
+f1√2 = unfold ofBits add magnitude in (fraction refl refl refl tt tt)
 
-pub f4/3 : Fraction (k4 ⊘ k3) 11184811 8388608
-unfolding ofBits div magnitude
-f4/3 = record { whole = refl; plus = refl; is = refl; above = lit≤ tt; below = lit≤ tt }
+pub f4/3 : Fraction (k4 ⊘ k3) 0xaaaaab 0x800000
+f4/3 = unfold ofBits div magnitude in (fraction refl refl refl tt tt)
 
-pub f480/272 : Fraction (k480 ⊘ k272) 7401713 4194304
-unfolding ofBits div magnitude
-f480/272 = record { whole = refl; plus = refl; is = refl; above = lit≤ tt; below = lit≤ tt }
+pub f480/272 : Fraction (k480 ⊘ k272) 0x70f0f1 0x400000
+f480/272 = unfold ofBits div magnitude in (fraction refl refl refl tt tt)
 
 -- ---- the numbers of psp's shape, for `scaled-in`
 pub psp-wide : magnitude k480 ≤ 2 * magnitude k272

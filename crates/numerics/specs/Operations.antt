@@ -1,13 +1,14 @@
 -- The f32 operations on values below 2^17, as inequalities between whole numbers of units: a result is within `eps` of the exact one. And comparisons as orders of values.
-use mathlib.Core.Path.{_≡_, refl, sym, ap, _∙_, subst}
-use Prim.Native.Nat.{ℕ, zero, suc, _+_, _-_, _*_, _/_, _%_, _^_, _≤_, _<_, zero-le}
-use native.Mathlib.Nat.{le-antisymm, lt-irrefl, zero-lt-suc, le-of-eq, le-of-lt, le-of-suc-le-suc, lt-of-not-le, not-le-of-lt, sub-add-cancel, mul-one, mul-comm, mul-assoc, mul-right-comm, mul-le-mul-right, mul-lt-mul-of-pos-right, le-of-mul-le-mul-right, lt-of-mul-lt-mul-right, eq-of-mul-eq-mul-right, mul-pos, mul-sub, mul-div-cancel, zero-mul, mul-zero}
+use mathlib.Core.Path.{_≡_, refl, sym, ap, ap₂, _∙_, subst}
+use Prim.Native.Nat.{ℕ, zero, suc, _+_, _-_, _*_, _/_, _%_, _^_, _≤_, _<_}
+use native.Mathlib.Nat.{zero-lt-suc, le-of-eq, le-of-lt, le-of-suc-le-suc, lt-of-not-le, not-le-of-lt, sub-add-cancel, mul-one, mul-comm, mul-assoc, mul-le-mul-right, mul-lt-mul-of-pos-right, le-of-mul-le-mul-right, lt-of-mul-lt-mul-right, eq-of-mul-eq-mul-right, mul-pos, mul-sub, mul-div-cancel, zero-mul, mul-zero}
 use native.Mathlib.Omega.{arith}
-use mathlib.Core.Bool.{Bool, true, false, not, _&&_, _||_, Bool·beq, cond, true≢false}
+use mathlib.Core.Bool.{Bool, true, false, not, _&&_, _||_, Bool·beq, cond}
 use mathlib.Core.Logic.{_⊎_, inl, inr}
 use lib.IntN.{ℤ, pos, negsuc}
 use lib.Dec.{T, leb, ltb, eqb, leb→le, ltb→lt, nltb→le, eqb→eq, lit≤}
 use lib.Pow.{pow-add, pow-pos, pow-lt}
+use borrow.Author.Tests.{ne-eqb}
 use lib.Ieee.{Float, nan, inf, fin, binary32, up, down, unlike, round, neg, sum, add, sub, mul, div, lt, eq, fits, below, level}
 use lib.Ieee.Fits.{up-pos, down-pos, and-l, and-r}
 use lib.Ieee.Exact.{HasValue, round-exact}
@@ -73,6 +74,21 @@ of-value x s g Z W e h a b =
     go false = omega arith
     go true = omega arith
 
+-- ---- a fraction rounded
+-- r is the fraction a / c, which is Z / W units, rounded and with the sign s
+pub record Rounded (r : Float) (s : Bool) (Z W : ℕ) : Type 0 where
+  pub a : ℕ
+  pub c : ℕ
+  pub is : r ≡ round binary32 s a c
+  pub divisor : 0 < c
+  pub units : a * 2 ^ 149 * W ≡ Z * c
+
+rescale : (a l c Z W Z' W' : ℕ) → 0 < W → a * l * W ≡ Z * c → Z * W' ≡ Z' * W → a * l * W' ≡ Z' * c
+rescale a l c Z W Z' W' D p q = eq-of-mul-eq-mul-right W D (a * l * W') (Z' * c) (let e = ap (λ (z : ℕ). z * W') p in let f = ap (λ (z : ℕ). z * c) q in omega arith)
+
+rescaled : {r : Float} {s : Bool} {Z W : ℕ} (Z' W' : ℕ) → Rounded r s Z W → 0 < W → Z * W' ≡ Z' * W → Rounded r s Z' W'
+rescaled {Z = Z} {W = W} Z' W' h D q = record { a = h .a; c = h .c; is = h .is; divisor = h .divisor; units = rescale (h .a) (2 ^ 149) (h .c) Z W Z' W' D (h .units) q }
+
 strip : (g n c e W Z : ℕ) → 0 < c → n * W ≡ Z * c → Close g n c e → (g * W ≤ Z + e * W) × (Z ≤ g * W + e * W)
 strip g n c e W Z C q h =
     let a = mul-le-mul-right W (h .over) in
@@ -84,68 +100,123 @@ strip g n c e W Z C q h =
 inside : (n c t W Z : ℕ) → 0 < c → n * W ≡ Z * c → Z < t * W → n < t * c
 inside n c t W Z C q h = let k = mul-lt-mul-of-pos-right h C in let x : n * W < t * c * W = omega arith in lt-of-mul-lt-mul-right W x
 
--- the fraction a / c, which is Z / W units, below 2 ^ (k + 25)
-pub round-within : (k : ℕ) (s : Bool) (a c Z W : ℕ) → 0 < c → a * 2 ^ 149 * W ≡ Z * c → Z < 2 ^ (k + 25) * W → 2 ^ (k + 25) + 2 ^ k < overflow binary32
-    → Near (round binary32 s a c) (posIf s Z) (negIf s Z) W (2 ^ k)
-round-within k s a c Z W C q h l =
-    let i = inside (a * 2 ^ 149) c (2 ^ (k + 25)) W Z C q h in
-    let f = strip (grid binary32 a c) (a * 2 ^ 149) c (2 ^ k) W Z C q (grid-close binary32 k a c C i) in
-    of-value (round binary32 s a c) s (grid binary32 a c) Z W (2 ^ k) (round-value binary32 k a c C i s l) (f .0) (f .1)
+-- below 2 ^ (k + 25) units it is off by 2 ^ k at most
+pub round-within : (k : ℕ) {r : Float} {s : Bool} {Z W : ℕ} → Rounded r s Z W → Z < 2 ^ (k + 25) * W → 2 ^ (k + 25) + 2 ^ k < overflow binary32 → Near r (posIf s Z) (negIf s Z) W (2 ^ k)
+round-within k {s = s} {Z = Z} {W = W} r h l =
+    let a = r .a in
+    let c = r .c in
+    let i = inside (a * 2 ^ 149) c (2 ^ (k + 25)) W Z (r .divisor) (r .units) h in
+    let f = strip (grid binary32 a c) (a * 2 ^ 149) c (2 ^ k) W Z (r .divisor) (r .units) (grid-close binary32 k a c (r .divisor) i) in
+    rw (r .is) (of-value (round binary32 s a c) s (grid binary32 a c) Z W (2 ^ k) (round-value binary32 k a c (r .divisor) i s l) (f .0) (f .1))
 
-round-near : (s : Bool) (a c Z W : ℕ) → 0 < c → a * 2 ^ 149 * W ≡ Z * c → Z < top * W → Near (round binary32 s a c) (posIf s Z) (negIf s Z) W eps
+round-near : {r : Float} {s : Bool} {Z W : ℕ} → Rounded r s Z W → Z < top * W → Near r (posIf s Z) (negIf s Z) W eps
 unfolding eps top
-round-near s a c Z W C q h = round-within 141 s a c Z W C q h (lit≤ tt)
+round-near r h = round-within 141 r h (lit≤ tt)
 
-round-whole : (s : Bool) (a c Z : ℕ) → 0 < c → a * 2 ^ 149 ≡ Z * c → Z < top → Near (round binary32 s a c) (posIf s Z) (negIf s Z) 1 eps
-round-whole s a c Z C q h = round-near s a c Z 1 C (mul-one (a * 2 ^ 149) ∙ q) (omega arith)
+-- ---- two finite numbers over one divisor, and what is made of them there
+record Shared (x y : Float) : Type 0 where
+  pub a : ℕ
+  pub b : ℕ
+  pub c : ℕ
+  pub divisor : 0 < c
+  pub left : a * 2 ^ 149 ≡ magnitude x * c
+  pub right : b * 2 ^ 149 ≡ magnitude y * c
+  pub sums : x ⊕ y ≡ sum binary32 (sign x) a (sign y) b c
+  pub belows : lt x y ≡ below (sign x) a (sign y) b
+  pub levels : eq x y ≡ level (sign x) a (sign y) b
 
--- ---- the sum
 -- m * ue / de is M units, so over the common divisor de * dd it is M too
 common : (mu l M de dd : ℕ) → mu * l ≡ M * de → mu * dd * l ≡ M * (de * dd)
-common mu l M de dd q = mul-right-comm mu dd l ∙ ap (λ (z : ℕ). z * dd) q ∙ mul-assoc M de dd
+common mu l M de dd q = let e = ap (λ (z : ℕ). z * dd) q in omega arith
 
-common' : (mu l M de dd : ℕ) → mu * l ≡ M * dd → mu * de * l ≡ M * (de * dd)
-common' mu l M de dd q = common mu l M dd de q ∙ ap (λ (z : ℕ). M * z) (mul-comm dd de)
+shared : (x y : Float) → Whole x → Whole y → Shared x y
+shared nan y p q = absurd p
+shared (inf s) y p q = absurd p
+shared (fin s m e) nan p q = absurd q
+shared (fin s m e) (inf t) p q = absurd q
+shared (fin s m e) (fin t n d) p q =
+    record {
+      a = m * up e * down d;
+      b = n * up d * down e;
+      c = down e * down d;
+      divisor = mul-pos (down-pos e) (down-pos d);
+      left = common (m * up e) (2 ^ 149) _ (down e) (down d) p;
+      right = common (n * up d) (2 ^ 149) _ (down d) (down e) q ∙ ap (λ (z : ℕ). magnitude (fin t n d) * z) (mul-comm (down d) (down e));
+      sums = unfold add in refl;
+      belows = unfold lt in refl;
+      levels = unfold eq in refl;
+    }
 
-less : (a b l M N c : ℕ) → 0 < c → a * l ≡ M * c → b * l ≡ N * c → a ≤ b → M ≤ N
-less a b l M N c C p q h = let k = mul-le-mul-right l h in let x : M * c ≤ N * c = omega arith in le-of-mul-le-mul-right x C
+-- a / c and b / c are M / l and N / l
+module _ (l a b c M N : ℕ) (p : a * l ≡ M * c) (q : b * l ≡ N * c) where
+  pub less : 0 < c → a ≤ b → M ≤ N
+  less C h = let k = mul-le-mul-right l h in let x : M * c ≤ N * c = omega arith in le-of-mul-le-mul-right x C
 
-minus : (a b l M N c : ℕ) → a * l ≡ M * c → b * l ≡ N * c → (b - a) * l ≡ (N - M) * c
-minus a b l M N c p q =
-    mul-comm (b - a) l ∙ mul-sub l b a ∙ ap (λ (z : ℕ). z - l * a) (mul-comm l b ∙ q ∙ mul-comm N c) ∙ ap (λ (z : ℕ). c * N - z) (mul-comm l a ∙ p ∙ mul-comm M c)
-    ∙ sym (mul-sub c N M) ∙ mul-comm c (N - M)
+  strictly : 0 < l → a < b → M < N
+  strictly L h = let k = mul-lt-mul-of-pos-right h L in let x : M * c < N * c = omega arith in lt-of-mul-lt-mul-right c x
 
-plus : (a b l M N c : ℕ) → a * l ≡ M * c → b * l ≡ N * c → (a + b) * l ≡ (M + N) * c
-plus a b l M N c p q = omega arith
+  minus : (b - a) * l ≡ (N - M) * c
+  minus = rw (mul-comm (b - a), mul-comm (N - M), mul-sub, mul-sub) (omega arith)
 
-sum-near : (s : Bool) (a : ℕ) (t : Bool) (b c M N : ℕ) → 0 < c → a * 2 ^ 149 ≡ M * c → b * 2 ^ 149 ≡ N * c → M + N < top → Near (sum binary32 s a t b c) (posIf s M + posIf t N) (negIf s M + negIf t N) 1 eps
-unfolding sum
-sum-near false a false b c M N C p q h =
-    shifted (round binary32 false (a + b) c) (M + N) 0 1 eps (M + N) (0 + 0) (round-whole false (a + b) c (M + N) C (plus a b (2 ^ 149) M N c p q) h) (omega arith)
-sum-near true a true b c M N C p q h =
-    shifted (round binary32 true (a + b) c) 0 (M + N) 1 eps (0 + 0) (M + N) (round-whole true (a + b) c (M + N) C (plus a b (2 ^ 149) M N c p q) h) (omega arith)
-sum-near false a true b c M N C p q h = go (ltb a b) (ltb→lt a b) (nltb→le a b)
-  where
-    go : (x : Bool) → (T x → a < b) → (T (not x) → b ≤ a) → Near (cond x (round binary32 true (b - a) c) (round binary32 false (a - b) c)) (M + 0) (0 + N) 1 eps
-    go true u v =
-        let l : M ≤ N = less a b (2 ^ 149) M N c C p q (le-of-lt (u tt)) in
-        shifted (round binary32 true (b - a) c) 0 (N - M) 1 eps (M + 0) (0 + N) (round-whole true (b - a) c (N - M) C (minus a b (2 ^ 149) M N c p q) (omega arith)) (omega arith)
-    go false u v =
-        let l : N ≤ M = less b a (2 ^ 149) N M c C q p (v tt) in
-        shifted (round binary32 false (a - b) c) (M - N) 0 1 eps (M + 0) (0 + N) (round-whole false (a - b) c (M - N) C (minus b a (2 ^ 149) N M c q p) (omega arith)) (omega arith)
-sum-near true a false b c M N C p q h = go (ltb a b) (ltb b a) (ltb→lt a b) (nltb→le a b) (nltb→le b a)
-  where
-    go : (x y : Bool) → (T x → a < b) → (T (not x) → b ≤ a) → (T (not y) → a ≤ b) → Near (cond x (round binary32 false (b - a) c) (round binary32 (true && y) (a - b) c)) (0 + N) (M + 0) 1 eps
-    go true y u v w =
-        let l : M ≤ N = less a b (2 ^ 149) M N c C p q (le-of-lt (u tt)) in
-        shifted (round binary32 false (b - a) c) (N - M) 0 1 eps (0 + N) (M + 0) (round-whole false (b - a) c (N - M) C (minus a b (2 ^ 149) M N c p q) (omega arith)) (omega arith)
-    go false true u v w =
-        let l : N ≤ M = less b a (2 ^ 149) N M c C q p (v tt) in
-        shifted (round binary32 true (a - b) c) 0 (M - N) 1 eps (0 + N) (M + 0) (round-whole true (a - b) c (M - N) C (minus b a (2 ^ 149) N M c q p) (omega arith)) (omega arith)
-    go false false u v w =
-        let l : N ≤ M = less b a (2 ^ 149) N M c C q p (v tt) in
-        let k : M ≤ N = less a b (2 ^ 149) M N c C p q (w tt) in
-        shifted (round binary32 false (a - b) c) (M - N) 0 1 eps (0 + N) (M + 0) (round-whole false (a - b) c (M - N) C (minus b a (2 ^ 149) N M c q p) (omega arith)) (omega arith)
+  plus : (a + b) * l ≡ (M + N) * c
+  plus = omega arith
+
+nothing : (l c : ℕ) → 0 * l ≡ 0 * c
+nothing l c = omega arith
+
+-- a fraction of Z units, by any two parts with that difference
+whole-near : (s : Bool) (a c Z P Q : ℕ) → 0 < c → a * 2 ^ 149 ≡ Z * c → Z < top → posIf s Z + Q ≡ P + negIf s Z → Near (round binary32 s a c) P Q 1 eps
+whole-near s a c Z P Q C q h e = shifted _ (posIf s Z) (negIf s Z) 1 eps P Q (round-near (record { a = a; c = c; is = refl; divisor = C; units = mul-one (a * 2 ^ 149) ∙ q }) (omega arith)) e
+
+module _ (a b c M N : ℕ) (C : 0 < c) (p : a * 2 ^ 149 ≡ M * c) (q : b * 2 ^ 149 ≡ N * c) where
+  -- signs that differ
+  difference-near : (s x y : Bool) → (T x → a < b) → (T (not x) → b ≤ a) → (T (not y) → a ≤ b) → M + N < top
+      → Near (cond x (round binary32 (not s) (b - a) c) (round binary32 (s && y) (a - b) c)) (posIf s M + posIf (not s) N) (negIf s M + negIf (not s) N) 1 eps
+  difference-near false true y u v w h =
+      let l = less (2 ^ 149) a b c M N p q C (le-of-lt (u tt)) in whole-near true (b - a) c (N - M) _ _ C (minus (2 ^ 149) a b c M N p q) (omega arith) (omega arith)
+  difference-near true true y u v w h =
+      let l = less (2 ^ 149) a b c M N p q C (le-of-lt (u tt)) in whole-near false (b - a) c (N - M) _ _ C (minus (2 ^ 149) a b c M N p q) (omega arith) (omega arith)
+  difference-near false false y u v w h =
+      let l = less (2 ^ 149) b a c N M q p C (v tt) in whole-near false (a - b) c (M - N) _ _ C (minus (2 ^ 149) b a c N M q p) (omega arith) (omega arith)
+  difference-near true false true u v w h =
+      let l = less (2 ^ 149) b a c N M q p C (v tt) in whole-near true (a - b) c (M - N) _ _ C (minus (2 ^ 149) b a c N M q p) (omega arith) (omega arith)
+  difference-near true false false u v w h =
+      let l = less (2 ^ 149) b a c N M q p C (v tt) in
+      let k = less (2 ^ 149) a b c M N p q C (w tt) in
+      whole-near false (a - b) c (M - N) _ _ C (minus (2 ^ 149) b a c N M q p) (omega arith) (omega arith)
+
+  sum-near : (s t : Bool) → M + N < top → Near (sum binary32 s a t b c) (posIf s M + posIf t N) (negIf s M + negIf t N) 1 eps
+  unfolding sum
+  sum-near false false h = whole-near false (a + b) c (M + N) _ _ C (plus (2 ^ 149) a b c M N p q) h (omega arith)
+  sum-near true true h = whole-near true (a + b) c (M + N) _ _ C (plus (2 ^ 149) a b c M N p q) h (omega arith)
+  sum-near false true h = difference-near false (ltb a b) (ltb b a) (ltb→lt a b) (nltb→le a b) (nltb→le b a) h
+  sum-near true false h = difference-near true (ltb a b) (ltb b a) (ltb→lt a b) (nltb→le a b) (nltb→le b a) h
+
+  below-true : (s t : Bool) → T (below s a t b) → posIf s M + negIf t N < posIf t N + negIf s M
+  below-true false false h = omega (arith, strictly (2 ^ 149) a b c M N p q (pow-pos 149) (ltb→lt a b h))
+  below-true false true h = absurd h
+  below-true true false h = omega (arith, strictly (2 ^ 149) 0 (a + b) c 0 (M + N) (nothing (2 ^ 149) c) (plus (2 ^ 149) a b c M N p q) (pow-pos 149) (ltb→lt 0 (a + b) h))
+  below-true true true h = omega (arith, strictly (2 ^ 149) b a c N M q p (pow-pos 149) (ltb→lt b a h))
+
+  below-false : (s t : Bool) → T (not (below s a t b)) → posIf t N + negIf s M ≤ posIf s M + negIf t N
+  below-false false false h = omega (arith, less (2 ^ 149) b a c N M q p C (nltb→le a b h))
+  below-false false true h = omega arith
+  below-false true false h = omega (arith, less (2 ^ 149) (a + b) 0 c (M + N) 0 (plus (2 ^ 149) a b c M N p q) (nothing (2 ^ 149) c) C (nltb→le 0 (a + b) h))
+  below-false true true h = omega (arith, less (2 ^ 149) a b c M N p q C (nltb→le b a h))
+
+  level-true : (s t : Bool) → T (level s a t b) → posIf s M + negIf t N ≡ posIf t N + negIf s M
+  level-true s t h =
+      let e : a ≡ b = eqb→eq a b (and-l (eqb a b) _ h) in
+      go s t (and-r (eqb a b) _ h) (less (2 ^ 149) a b c M N p q C (le-of-eq e)) (less (2 ^ 149) b a c N M q p C (le-of-eq (sym e)))
+    where
+      flat : T (eqb a 0) → M ≤ 0
+      flat z = less (2 ^ 149) a 0 c M 0 p (nothing (2 ^ 149) c) C (le-of-eq (eqb→eq a 0 z))
+
+      go : (s t : Bool) → T (Bool·beq s t || eqb a 0) → M ≤ N → N ≤ M → posIf s M + negIf t N ≡ posIf t N + negIf s M
+      go false false k u v = omega arith
+      go true true k u v = omega arith
+      go false true k u v = omega (arith, flat k)
+      go true false k u v = omega (arith, flat k)
 
 -- a size, and no matter what sign
 pub size-is : (x : Float) → posPart x + negPart x ≡ magnitude x
@@ -165,14 +236,8 @@ one-zero (fin false m e) = inr refl
 one-zero (fin true m e) = inl refl
 
 pub add-near : (x y : Float) → Whole x → Whole y → magnitude x + magnitude y < top → Near (x ⊕ y) (posPart x + posPart y) (negPart x + negPart y) 1 eps
-unfolding add posPart negPart
-add-near nan y p q h = absurd p
-add-near (inf s) y p q h = absurd p
-add-near (fin s m e) nan p q h = absurd q
-add-near (fin s m e) (inf t) p q h = absurd q
-add-near (fin s m e) (fin t n d) p q h =
-    sum-near s (m * up e * down d) t (n * up d * down e) (down e * down d) (magnitude (fin s m e)) (magnitude (fin t n d)) (mul-pos (down-pos e) (down-pos d))
-    (common (m * up e) (2 ^ 149) (magnitude (fin s m e)) (down e) (down d) p) (common' (n * up d) (2 ^ 149) (magnitude (fin t n d)) (down e) (down d) q) h
+unfolding posPart negPart
+add-near x y p q h = let k = shared x y p q in rw (k .sums) (sum-near (k .a) (k .b) (k .c) (magnitude x) (magnitude y) (k .divisor) (k .left) (k .right) (sign x) (sign y) h)
 
 pub neg-whole : (y : Float) → Whole y → Whole (neg y)
 unfolding neg magnitude
@@ -200,61 +265,54 @@ sub-near x y p q h =
     shifted (x ⊖ y) (posPart x + posPart (neg y)) (negPart x + negPart (neg y)) 1 eps (posPart x + negPart y) (negPart x + posPart y)
     (add-near x (neg y) p (neg-whole y q) (subst (λ (z : ℕ). magnitude x + z < top) (sym (neg-magnitude y)) h)) (omega arith)
 
--- y is Y / W: a product by y, cancelled by the unit l
-pub times : (a b l X Yu Y W de dd : ℕ) → 0 < l → a * l ≡ X * de → b * l ≡ Yu * dd → Yu * W ≡ Y * l → a * b * l * W ≡ X * Y * (de * dd)
-times a b l X Yu Y W de dd L p q r =
-    eq-of-mul-eq-mul-right l L (a * b * l * W) (X * Y * (de * dd))
-    (let e1 = ap (λ (z : ℕ). z * (b * l * W)) p in
-    let e2 = ap (λ (z : ℕ). X * de * (z * W)) q in
-    let e3 = ap (λ (z : ℕ). X * de * (z * dd)) r in
-    omega arith)
+-- ---- the product and the quotient
+module _ (a b l X Y de dd : ℕ) (p : a * l ≡ X * de) (q : b * l ≡ Y * dd) where
+  product-units : a * b * l * l ≡ X * Y * (de * dd)
+  product-units = let k : a * l * (b * l) ≡ X * de * (Y * dd) = ap₂ (λ (u v : ℕ). u * v) p q in omega arith
 
-pub over-by : (a b l X Yu Y W de dd : ℕ) → 0 < l → a * l ≡ X * de → b * l ≡ Yu * dd → Yu * W ≡ Y * l → a * dd * l * Y ≡ X * W * (b * de)
-over-by a b l X Yu Y W de dd L p q r =
-    eq-of-mul-eq-mul-right l L (a * dd * l * Y) (X * W * (b * de))
-    (let e1 = ap (λ (z : ℕ). z * (dd * l * Y)) p in
-    let e2 = ap (λ (z : ℕ). X * W * de * z) q in
-    let e3 = ap (λ (z : ℕ). X * de * dd * z) r in
-    omega arith)
+  quotient-units : a * dd * l * Y ≡ X * l * (b * de)
+  quotient-units = let k : a * l * (Y * dd) ≡ X * de * (b * l) = ap₂ (λ (u v : ℕ). u * v) p (sym q) in omega arith
 
-signed : (s : Bool) (X Y : ℕ) → posIf s (X * Y) + negIf s X * Y ≡ posIf s X * Y + negIf s (X * Y)
-signed false X Y = omega arith
-signed true X Y = omega arith
+pub mul-rounded : (x y : Float) → Whole x → Whole y → Rounded (x ⊗ y) (unlike (sign x) (sign y)) (magnitude x * magnitude y) (2 ^ 149)
+mul-rounded nan y p q = absurd p
+mul-rounded (inf s) y p q = absurd p
+mul-rounded (fin s m e) nan p q = absurd q
+mul-rounded (fin s m e) (inf t) p q = absurd q
+mul-rounded (fin s m e) (fin t n d) p q =
+    record {
+      a = m * up e * (n * up d);
+      c = down e * down d;
+      is = unfold mul in refl;
+      divisor = mul-pos (down-pos e) (down-pos d);
+      units = product-units (m * up e) (n * up d) (2 ^ 149) (magnitude (fin s m e)) (magnitude (fin t n d)) (down e) (down d) p q;
+    }
 
-mul-open : (s : Bool) (m : ℕ) (e : ℤ) (n : ℕ) (d : ℤ) → fin s m e ⊗ fin false n d ≡ round binary32 s (m * up e * (n * up d)) (down e * down d)
-unfolding mul
-mul-open false m e n d = refl
-mul-open true m e n d = refl
-
-pub mul-near : (x y : Float) (Y W : ℕ) → Whole x → Fraction y Y W → magnitude x * Y < top * W → Near (x ⊗ y) (posPart x * Y) (negPart x * Y) W eps
-unfolding posPart negPart
-mul-near nan y Y W p q h = absurd p
-mul-near (inf s) y Y W p q h = absurd p
-mul-near (fin s m e) nan Y W p q h = absurd (q .whole)
-mul-near (fin s m e) (inf t) Y W p q h = absurd (q .whole)
-mul-near (fin s m e) (fin true n d) Y W p q h = absurd (true≢false (q .plus))
-mul-near (fin s m e) (fin false n d) Y W p q h =
-    let X = magnitude (fin s m e) in
-    rw (mul-open s m e n d)
-    (shifted (round binary32 s (m * up e * (n * up d)) (down e * down d)) (posIf s (X * Y)) (negIf s (X * Y)) W eps (posIf s X * Y) (negIf s X * Y)
-    (round-near s (m * up e * (n * up d)) (down e * down d) (X * Y) W (mul-pos (down-pos e) (down-pos d))
-    (times (m * up e) (n * up d) (2 ^ 149) X (magnitude (fin false n d)) Y W (down e) (down d) (pow-pos 149) p (q .whole) (q .is)) h) (signed s X Y))
-
-pub div-open : (s t : Bool) (m : ℕ) (e : ℤ) (n : ℕ) (d : ℤ) → 0 < n → fin s m e ⊘ fin t n d ≡ round binary32 (unlike s t) (m * up e * down d) (n * up d * down e)
+div-open : (s t : Bool) (m : ℕ) (e : ℤ) (n : ℕ) (d : ℤ) → 0 < n → fin s m e ⊘ fin t n d ≡ round binary32 (unlike s t) (m * up e * down d) (n * up d * down e)
 unfolding div
-div-open s t m e n d h = go (eqb n 0) (eqb→eq n 0)
-  where
-    go : (b : Bool) → (T b → n ≡ 0) → cond b (cond (eqb m 0) nan (inf (unlike s t))) (round binary32 (unlike s t) (m * up e * down d) (n * up d * down e)) ≡ round binary32 (unlike s t) (m * up e * down d) (n * up d * down e)
-    go true k = absurd (lt-irrefl 0 (rw (k tt) at h))
-    go false k = refl
+div-open s t m e n d h = rw (ne-eqb n 0 (λ e. omega arith))
 
-pub magnitude-pos : (s : Bool) (n : ℕ) (d : ℤ) → Whole (fin s n d) → 0 < magnitude (fin s n d) → 0 < n
+magnitude-pos : (s : Bool) (n : ℕ) (d : ℤ) → Whole (fin s n d) → 0 < magnitude (fin s n d) → 0 < n
 magnitude-pos s zero d p h =
     absurd (none (magnitude (fin s zero d)) (down d) (sym (ap (λ (z : ℕ). z * 2 ^ 149) (zero-mul (up d)) ∙ zero-mul (2 ^ 149)) ∙ p) h (down-pos d))
   where
     none : (m c : ℕ) → 0 ≡ m * c → 0 < m → 0 < c → ⊥
     none m c e a b = let k = mul-pos a b in omega arith
 magnitude-pos s (suc n) d p h = zero-lt-suc n
+
+pub div-rounded : (x y : Float) → Whole x → Whole y → 0 < magnitude y → Rounded (x ⊘ y) (unlike (sign x) (sign y)) (magnitude x * 2 ^ 149) (magnitude y)
+div-rounded nan y p q g = absurd p
+div-rounded (inf s) y p q g = absurd p
+div-rounded (fin s m e) nan p q g = absurd q
+div-rounded (fin s m e) (inf t) p q g = absurd q
+div-rounded (fin s m e) (fin t n d) p q g =
+    let N = magnitude-pos t n d q g in
+    record {
+      a = m * up e * down d;
+      c = n * up d * down e;
+      is = div-open s t m e n d N;
+      divisor = mul-pos (mul-pos N (up-pos d)) (down-pos e);
+      units = quotient-units (m * up e) (n * up d) (2 ^ 149) (magnitude (fin s m e)) (magnitude (fin t n d)) (down e) (down d) p q;
+    }
 
 fraction-pos : (y : Float) (Y W : ℕ) → Fraction y Y W → 0 < magnitude y
 fraction-pos y Y W q = go (magnitude y) W (Y * 2 ^ 149) (q .is) (mul-pos (q .above) (pow-pos 149))
@@ -263,88 +321,40 @@ fraction-pos y Y W q = go (magnitude y) W (Y * 2 ^ 149) (q .is) (mul-pos (q .abo
     go zero w z e h = let k = zero-mul w in absurd (omega arith)
     go (suc m) w z e h = zero-lt-suc m
 
-like : (s : Bool) → unlike s false ≡ s
-like false = refl
-like true = refl
+-- by a number above zero
+ratio-near : {r : Float} (x y : Float) (A B : ℕ) → sign y ≡ false → Rounded r (unlike (sign x) (sign y)) (magnitude x * A) B → magnitude x * A < top * B → Near r (posPart x * A) (negPart x * A) B eps
+unfolding posPart negPart
+ratio-near {r} x y A B e h l = shifted r _ _ B eps _ _ (round-near h l) (rw e (signed (sign x) (magnitude x)))
+  where
+    signed : (s : Bool) (X : ℕ) → posIf (unlike s false) (X * A) + negIf s X * A ≡ posIf s X * A + negIf (unlike s false) (X * A)
+    signed false X = omega arith
+    signed true X = omega arith
+
+-- Z is X times Yu, and y, which is Yu / l, is Y / W
+by-fraction : (X Yu l Y W : ℕ) → Yu * W ≡ Y * l → X * Yu * W ≡ X * Y * l
+by-fraction X Yu l Y W q = let e = ap (λ (z : ℕ). X * z) q in omega arith
+
+pub mul-near : (x y : Float) (Y W : ℕ) → Whole x → Fraction y Y W → magnitude x * Y < top * W → Near (x ⊗ y) (posPart x * Y) (negPart x * Y) W eps
+mul-near x y Y W p q h =
+    ratio-near x y Y W (q .plus) (rescaled (magnitude x * Y) W (mul-rounded x y p (q .whole)) (pow-pos 149) (by-fraction (magnitude x) (magnitude y) (2 ^ 149) Y W (q .is))) h
 
 pub div-near : (x y : Float) (Y W : ℕ) → Whole x → Fraction y Y W → magnitude x * W < top * Y → Near (x ⊘ y) (posPart x * W) (negPart x * W) Y eps
-unfolding posPart negPart
-div-near nan y Y W p q h = absurd p
-div-near (inf s) y Y W p q h = absurd p
-div-near (fin s m e) nan Y W p q h = absurd (q .whole)
-div-near (fin s m e) (inf t) Y W p q h = absurd (q .whole)
-div-near (fin s m e) (fin true n d) Y W p q h = absurd (true≢false (q .plus))
-div-near (fin s m e) (fin false n d) Y W p q h =
-    let X = magnitude (fin s m e) in
-    let N = magnitude-pos false n d (q .whole) (fraction-pos (fin false n d) Y W q) in
-    rw (div-open s false m e n d N, like s)
-    (shifted (round binary32 s (m * up e * down d) (n * up d * down e)) (posIf s (X * W)) (negIf s (X * W)) Y eps (posIf s X * W) (negIf s X * W)
-    (round-near s (m * up e * down d) (n * up d * down e) (X * W) Y (mul-pos (mul-pos N (up-pos d)) (down-pos e))
-    (over-by (m * up e) (n * up d) (2 ^ 149) X (magnitude (fin false n d)) Y W (down e) (down d) (pow-pos 149) p (q .whole) (q .is)) h) (signed s X W))
+div-near x y Y W p q h =
+    let g = fraction-pos y Y W q in
+    ratio-near x y W Y (q .plus) (rescaled (magnitude x * W) Y (div-rounded x y p (q .whole) g) g (by-fraction (magnitude x) (2 ^ 149) (magnitude y) W Y (mul-comm (2 ^ 149) Y ∙ sym (q .is) ∙ mul-comm (magnitude y) W))) h
 
--- ---- comparison
-less' : (a b l M N c : ℕ) → 0 < l → a * l ≡ M * c → b * l ≡ N * c → a < b → M < N
-less' a b l M N c L p q h = let k = mul-lt-mul-of-pos-right h L in let x : M * c < N * c = omega arith in lt-of-mul-lt-mul-right c x
-
-below-true : (s : Bool) (a : ℕ) (t : Bool) (b l M N c : ℕ) → 0 < l → 0 < c → a * l ≡ M * c → b * l ≡ N * c → T (below s a t b) → posIf s M + negIf t N < posIf t N + negIf s M
-below-true false a false b l M N c L C p q h = let k = less' a b l M N c L p q (ltb→lt a b h) in omega arith
-below-true false a true b l M N c L C p q h = absurd h
-below-true true a false b l M N c L C p q h =
-    let k : 0 < M + N = less' 0 (a + b) l 0 (M + N) c L (zero-mul l ∙ sym (zero-mul c)) (plus a b l M N c p q) (ltb→lt 0 (a + b) h) in omega arith
-below-true true a true b l M N c L C p q h = let k = less' b a l N M c L q p (ltb→lt b a h) in omega arith
-
-below-false : (s : Bool) (a : ℕ) (t : Bool) (b l M N c : ℕ) → 0 < l → 0 < c → a * l ≡ M * c → b * l ≡ N * c → T (not (below s a t b)) → posIf t N + negIf s M ≤ posIf s M + negIf t N
-below-false false a false b l M N c L C p q h = let k = less b a l N M c C q p (nltb→le a b h) in omega arith
-below-false false a true b l M N c L C p q h = omega arith
-below-false true a false b l M N c L C p q h =
-    let k : M + N ≤ 0 = less (a + b) 0 l (M + N) 0 c C (plus a b l M N c p q) (zero-mul l ∙ sym (zero-mul c)) (nltb→le 0 (a + b) h) in omega arith
-below-false true a true b l M N c L C p q h = let k = less a b l M N c C p q (nltb→le b a h) in omega arith
-
-level-true : (s : Bool) (a : ℕ) (t : Bool) (b l M N c : ℕ) → 0 < l → 0 < c → a * l ≡ M * c → b * l ≡ N * c → T (level s a t b) → posIf s M + negIf t N ≡ posIf t N + negIf s M
-level-true s a t b l M N c L C p q h =
-    let e : a ≡ b = eqb→eq a b (and-l (eqb a b) (Bool·beq s t || eqb a 0) h) in
-    let u : M ≡ N = le-antisymm (less a b l M N c C p q (le-of-eq e)) (less b a l N M c C q p (le-of-eq (sym e))) in
-    go s t (and-r (eqb a b) (Bool·beq s t || eqb a 0) h) u
-  where
-    flat : a ≡ 0 → M ≡ 0
-    flat z = le-antisymm (less a 0 l M 0 c C p (zero-mul l ∙ sym (zero-mul c)) (le-of-eq z)) zero-le
-
-    go : (s t : Bool) → T (Bool·beq s t || eqb a 0) → M ≡ N → posIf s M + negIf t N ≡ posIf t N + negIf s M
-    go false false k u = omega arith
-    go true true k u = omega arith
-    go false true k u = let z = flat (eqb→eq a 0 k) in omega arith
-    go true false k u = let z = flat (eqb→eq a 0 k) in omega arith
-
--- exactly one of the two holds, so a comparison that failed says the other
+-- ---- comparison: exactly one of the two holds, so a comparison that failed says the other
 pub lt-true : (x y : Float) → Whole x → Whole y → T (lt x y) → posPart x + negPart y < posPart y + negPart x
-unfolding lt posPart negPart
-lt-true nan y p q h = absurd p
-lt-true (inf s) y p q h = absurd p
-lt-true (fin s m e) nan p q h = absurd q
-lt-true (fin s m e) (inf t) p q h = absurd q
-lt-true (fin s m e) (fin t n d) p q h =
-    below-true s (m * up e * down d) t (n * up d * down e) (2 ^ 149) (magnitude (fin s m e)) (magnitude (fin t n d)) (down e * down d) (pow-pos 149) (mul-pos (down-pos e) (down-pos d))
-    (common (m * up e) (2 ^ 149) (magnitude (fin s m e)) (down e) (down d) p) (common' (n * up d) (2 ^ 149) (magnitude (fin t n d)) (down e) (down d) q) h
+unfolding posPart negPart
+lt-true x y p q h = let k = shared x y p q in below-true (k .a) (k .b) (k .c) (magnitude x) (magnitude y) (k .divisor) (k .left) (k .right) (sign x) (sign y) (rw (k .belows) at h)
 
 pub lt-false : (x y : Float) → Whole x → Whole y → T (not (lt x y)) → posPart y + negPart x ≤ posPart x + negPart y
-unfolding lt posPart negPart
-lt-false nan y p q h = absurd p
-lt-false (inf s) y p q h = absurd p
-lt-false (fin s m e) nan p q h = absurd q
-lt-false (fin s m e) (inf t) p q h = absurd q
-lt-false (fin s m e) (fin t n d) p q h =
-    below-false s (m * up e * down d) t (n * up d * down e) (2 ^ 149) (magnitude (fin s m e)) (magnitude (fin t n d)) (down e * down d) (pow-pos 149) (mul-pos (down-pos e) (down-pos d))
-    (common (m * up e) (2 ^ 149) (magnitude (fin s m e)) (down e) (down d) p) (common' (n * up d) (2 ^ 149) (magnitude (fin t n d)) (down e) (down d) q) h
+unfolding posPart negPart
+lt-false x y p q h = let k = shared x y p q in below-false (k .a) (k .b) (k .c) (magnitude x) (magnitude y) (k .divisor) (k .left) (k .right) (sign x) (sign y) (rw (k .belows) at h)
 
 pub eq-true : (x y : Float) → Whole x → Whole y → T (eq x y) → posPart x + negPart y ≡ posPart y + negPart x
-unfolding eq posPart negPart
-eq-true nan y p q h = absurd p
-eq-true (inf s) y p q h = absurd p
-eq-true (fin s m e) nan p q h = absurd q
-eq-true (fin s m e) (inf t) p q h = absurd q
-eq-true (fin s m e) (fin t n d) p q h =
-    level-true s (m * up e * down d) t (n * up d * down e) (2 ^ 149) (magnitude (fin s m e)) (magnitude (fin t n d)) (down e * down d) (pow-pos 149) (mul-pos (down-pos e) (down-pos d))
-    (common (m * up e) (2 ^ 149) (magnitude (fin s m e)) (down e) (down d) p) (common' (n * up d) (2 ^ 149) (magnitude (fin t n d)) (down e) (down d) q) h
+unfolding posPart negPart
+eq-true x y p q h = let k = shared x y p q in level-true (k .a) (k .b) (k .c) (magnitude x) (magnitude y) (k .divisor) (k .left) (k .right) (sign x) (sign y) (rw (k .levels) at h)
 
 -- ---- a product with zero is zero, and products commute
 zero-value : (x : Float) (s : Bool) (c : ℕ) → 0 < c → HasValue x s 0 c → AtMost x 0
@@ -356,22 +366,15 @@ zero-value (fin t m e) s c C h =
     let v = value-is (fin t m e) t 0 (refl, z) in
     record { whole = v .0; size = le-of-eq (size-is (fin t m e) ∙ v .1 ∙ sym (mul-zero eps)) }
 
-mul-nothing : (a b l de : ℕ) → 0 < l → a * l ≡ 0 * de → a * b ≡ 0
-mul-nothing a b l de L q = ap (λ (z : ℕ). z * b) (eq-of-mul-eq-mul-right l L a 0 (q ∙ zero-mul de ∙ sym (zero-mul l))) ∙ zero-mul b
+no-units : (a l X Y c : ℕ) → 0 < l → a * l * l ≡ X * Y * c → X ≡ 0 → a ≡ 0
+no-units a l X Y c L q z = eq-of-mul-eq-mul-right (l * l) (mul-pos L L) a 0 (let k = ap (λ (v : ℕ). v * Y * c) z in omega arith)
 
 pub zero-times : (x y : Float) → AtMost x 0 → Whole y → AtMost (x ⊗ y) 0
-unfolding mul
-zero-times nan y p q = absurd (p .whole)
-zero-times (inf s) y p q = absurd (p .whole)
-zero-times (fin s m e) nan p q = absurd q
-zero-times (fin s m e) (inf t) p q = absurd q
-zero-times (fin s m e) (fin t n d) p q =
-    let c = down e * down d in
-    let C = mul-pos (down-pos e) (down-pos d) in
-    let k : magnitude (fin s m e) ≡ 0 = let a = size-is (fin s m e) in let b = p .size in omega arith in
-    let z = mul-nothing (m * up e) (n * up d) (2 ^ 149) (down e) (pow-pos 149) (p .whole ∙ ap (λ (v : ℕ). v * down e) k) in
-    zero-value (round binary32 (unlike s t) (m * up e * (n * up d)) c) (unlike s t) c C
-    (rw z (round-exact binary32 (unlike s t) 0 c 0 0 C (pow-pos 24) (pow-pos 277) (sym (zero-mul c))))
+zero-times x y p q =
+    let r = mul-rounded x y (p .whole) q in
+    let s = unlike (sign x) (sign y) in
+    let z = no-units (r .a) (2 ^ 149) (magnitude x) (magnitude y) (r .c) (pow-pos 149) (r .units) (omega (arith, size-is x, p .size)) in
+    zero-value (x ⊗ y) s (r .c) (r .divisor) (rw (r .is, z) (round-exact binary32 s 0 (r .c) 0 0 (r .divisor) (pow-pos 24) (pow-pos 277) (sym (zero-mul (r .c)))))
 
 unlike-flip : (s t : Bool) → unlike s t ≡ unlike t s
 unlike-flip true true = refl

@@ -7,51 +7,33 @@ use mathlib.Core.Bool.{Bool, true, false, _&&_}
 use mathlib.Core.Logic.{_⊎_, inl, inr}
 use lib.Dec.{T, leb, ltb, leb→le, le→leb, ltb→lt, lit≤}
 use lib.Pow.{pow-pos}
-use lib.Ieee.{Float, nan, inf, fin, binary32, up, down, unlike, round, mul}
-use lib.Ieee.Fits.{up-pos, down-pos, and-l, and-r}
+use lib.Ieee.{Float, binary32, round, mul}
 use lib.Ieee.Scale.{overflow}
 use Rattle.float.specs.Float.{_⊗_, _⊘_}
 use Rattle.numerics.specs.Value.{magnitude, Whole, posIf, negIf, posPart, negPart, eps, top, limit, AtMost, P, N, Le}
 use Rattle.numerics.specs.Range.{In, at, reach}
-use Rattle.numerics.specs.Operations.{round-within, times, over-by, size-is, one-zero, magnitude-pos, div-open}
+use Rattle.numerics.specs.Rects.{maxCorner, maxArea}
+use Rattle.numerics.specs.Operations.{Rounded, round-within, mul-rounded, div-rounded, size-is, one-zero}
 use Rattle.numerics.specs.Bounds.{eps-pos, top-eps, near-magnitude, most-magnitude, most-more}
-use Rattle.numerics.specs.Ranges.{in-reach, most-in}
+use Rattle.numerics.specs.Ranges.{and-four, in-reach, most-in}
 
 -- the size of a rounded fraction Z / W units
 pub record Sized (r : Float) (Z W e : ℕ) : Type 0 where
   pub whole : Whole r
   pub most : magnitude r * W ≤ Z + e * W
 
-sized : (k : ℕ) (s : Bool) (a c Z W : ℕ) → 0 < c → a * 2 ^ 149 * W ≡ Z * c → Z < 2 ^ (k + 25) * W → 2 ^ (k + 25) + 2 ^ k < overflow binary32 → Sized (round binary32 s a c) Z W (2 ^ k)
-sized k s a c Z W C q h l =
-    let n = round-within k s a c Z W C q h l in
-    record { whole = n .whole; most = rw (parts s) at (near-magnitude (round binary32 s a c) (posIf s Z) (negIf s Z) W (2 ^ k) n) }
+sized : (k : ℕ) {r : Float} {s : Bool} {Z W : ℕ} → Rounded r s Z W → Z < 2 ^ (k + 25) * W → 2 ^ (k + 25) + 2 ^ k < overflow binary32 → Sized r Z W (2 ^ k)
+sized k {r} {s} {Z} {W} f h l =
+    let n = round-within k f h l in
+    record { whole = n .whole; most = rw (parts s) at (near-magnitude r (posIf s Z) (negIf s Z) W (2 ^ k) n) }
   where
     parts : (s : Bool) → posIf s Z + negIf s Z ≡ Z
     parts false = omega arith
     parts true = omega arith
 
-mul-sized : (k : ℕ) (x y : Float) → Whole x → Whole y → magnitude x * magnitude y < 2 ^ (k + 25) * 2 ^ 149 → 2 ^ (k + 25) + 2 ^ k < overflow binary32
-    → Sized (x ⊗ y) (magnitude x * magnitude y) (2 ^ 149) (2 ^ k)
-unfolding mul
-mul-sized k nan y p q h l = absurd p
-mul-sized k (inf s) y p q h l = absurd p
-mul-sized k (fin s m e) nan p q h l = absurd q
-mul-sized k (fin s m e) (inf t) p q h l = absurd q
-mul-sized k (fin s m e) (fin t n d) p q h l =
-    sized k (unlike s t) (m * up e * (n * up d)) (down e * down d) (magnitude (fin s m e) * magnitude (fin t n d)) (2 ^ 149) (mul-pos (down-pos e) (down-pos d))
-    (times (m * up e) (n * up d) (2 ^ 149) (magnitude (fin s m e)) (magnitude (fin t n d)) (magnitude (fin t n d)) (2 ^ 149) (down e) (down d) (pow-pos 149) p q refl) h l
-
-div-sized : (x z : Float) → Whole x → Whole z → 0 < magnitude z → magnitude x * 2 ^ 149 < top * magnitude z → Sized (x ⊘ z) (magnitude x * 2 ^ 149) (magnitude z) eps
-div-sized nan z p q g h = absurd p
-div-sized (inf s) z p q g h = absurd p
-div-sized (fin s m e) nan p q g h = absurd q
-div-sized (fin s m e) (inf t) p q g h = absurd q
-div-sized (fin s m e) (fin t n d) p q g h =
-    let N = magnitude-pos t n d q g in
-    rw (div-open s t m e n d N)
-    (unfold eps top in (sized 141 (unlike s t) (m * up e * down d) (n * up d * down e) (magnitude (fin s m e) * 2 ^ 149) (magnitude (fin t n d)) (mul-pos (mul-pos N (up-pos d)) (down-pos e))
-    (over-by (m * up e) (n * up d) (2 ^ 149) (magnitude (fin s m e)) (magnitude (fin t n d)) (magnitude (fin t n d)) (2 ^ 149) (down e) (down d) (pow-pos 149) p q refl) h (lit≤ tt)))
+sized-near : {r : Float} {s : Bool} {Z W : ℕ} → Rounded r s Z W → Z < top * W → Sized r Z W eps
+unfolding eps top
+sized-near f h = sized 141 f h (lit≤ tt)
 
 unit : 2 ^ 149 ≡ eps * 256
 unfolding eps
@@ -81,14 +63,13 @@ pub product-most : (k : ℕ) {x y : Float} {n m : ℕ} → AtMost x n → AtMost
 product-most k {x} {y} {n} {m} f g t u =
     let X = most-magnitude f in
     let Y = most-magnitude g in
-    let r : Sized (x ⊗ y) (magnitude x * magnitude y) (2 ^ 149) eps =
-    unfold eps top in (mul-sized 141 x y (f .whole) (g .whole) (product-room (magnitude x) (magnitude y) eps top (2 ^ 149) n m X Y (ltb→lt (n * m) (limit * 256) t) top-eps unit eps-pos) (lit≤ tt)) in
+    let r = sized-near (mul-rounded x y (f .whole) (g .whole)) (product-room (magnitude x) (magnitude y) eps top (2 ^ 149) n m X Y (ltb→lt (n * m) (limit * 256) t) top-eps unit eps-pos) in
     magnitude-most (r .whole) (product-size (magnitude (x ⊗ y)) (magnitude x) (magnitude y) eps (2 ^ 149) n m k (r .most) X Y (leb→le (n * m) (k * 256) u) unit (pow-pos 149))
 
 -- ---- x * y / z, with y from -8192 to 8192 and at most j times z, and z at least 205
-first : (X Y e t l n : ℕ) → X ≤ e * n → Y ≤ e * 2097152 → n ≤ 5600000 → t ≡ e * limit → l ≡ e * 256 → 0 < e → X * Y < t * 2048 * l
+first : (X Y e t l n : ℕ) → X ≤ e * n → Y ≤ e * maxArea → n ≤ maxCorner → t ≡ e * limit → l ≡ e * 256 → 0 < e → X * Y < t * 2048 * l
 first X Y e t l n a b c p q h =
-    let k : X * Y ≤ e * 5600000 * (e * 2097152) = mul-le-mul (le-trans a (mul-le-mul-left e c)) b in
+    let k : X * Y ≤ e * maxCorner * (e * maxArea) = mul-le-mul (le-trans a (mul-le-mul-left e c)) b in
     let m : t * 2048 * l ≡ e * limit * 2048 * (e * 256) = ap (λ (z : ℕ). z * 2048 * l) p ∙ ap (λ (z : ℕ). e * limit * 2048 * z) q in
     let z : 0 < e * e = mul-pos h h in
     omega arith
@@ -106,38 +87,33 @@ third q X Z e n j rl D a b c =
     let l = mul-le-mul-right j c in
     omega arith
 
-less-top : (rl X Z e t n j : ℕ) → rl ≤ (X * j + e * 10) * Z → X ≤ e * n → n * j ≤ 33000000 → t ≡ e * limit → 0 < Z → 0 < e → rl < t * Z
+less-top : (rl X Z e t n j : ℕ) → rl ≤ (X * j + e * 10) * Z → X ≤ e * n → n * j ≤ (limit - 11) → t ≡ e * limit → 0 < Z → 0 < e → rl < t * Z
 less-top rl X Z e t n j a b c p D h =
     let k : X * j + e * 10 < t = (let m = mul-le-mul-left e c in let o = mul-le-mul-right j b in omega arith) in
     lt-of-le-of-lt a (mul-lt-mul-of-pos-right k D)
 
-scaled-most : (j : ℕ) {x y : Float} (z : Float) {n : ℕ} → AtMost x n → n ≤ 5600000 → n * j ≤ 33000000 → AtMost y 2097152 → Whole z → magnitude y ≤ j * magnitude z → 205 * 2 ^ 149 ≤ magnitude z
+scaled-most : (j : ℕ) {x y : Float} (z : Float) {n : ℕ} → AtMost x n → n ≤ maxCorner → n * j ≤ (limit - 11) → AtMost y maxArea → Whole z → magnitude y ≤ j * magnitude z → 205 * 2 ^ 149 ≤ magnitude z
     → AtMost (x ⊗ y ⊘ z) (n * j + 11)
 scaled-most j {x} {y} z {n} f K K' g q below large =
     let X = most-magnitude f in
     let D : 0 < magnitude z = lt-of-lt-of-le (mul-pos (zero-lt-suc 204) (pow-pos 149)) large in
     let r : Sized (x ⊗ y) (magnitude x * magnitude y) (2 ^ 149) (eps * 2048) =
-    unfold eps top in (mul-sized 152 x y (f .whole) (g .whole) (first (magnitude x) (magnitude y) eps top (2 ^ 149) n X (most-magnitude g) K top-eps unit eps-pos) (lit≤ tt)) in
+    unfold eps top in (sized 152 (mul-rounded x y (f .whole) (g .whole)) (first (magnitude x) (magnitude y) eps top (2 ^ 149) n X (most-magnitude g) K top-eps unit eps-pos) (lit≤ tt)) in
     let b = second (magnitude (x ⊗ y)) (magnitude x) (magnitude y) (magnitude z) eps (2 ^ 149) j (r .most) below large in
-    let s = div-sized (x ⊗ y) z (r .whole) q D (less-top (magnitude (x ⊗ y) * 2 ^ 149) (magnitude x) (magnitude z) eps top n j b X K' top-eps D eps-pos) in
+    let s = sized-near (div-rounded (x ⊗ y) z (r .whole) q D) (less-top (magnitude (x ⊗ y) * 2 ^ 149) (magnitude x) (magnitude z) eps top n j b X K' top-eps D eps-pos) in
     magnitude-most (s .whole) (third (magnitude (x ⊗ y ⊘ z)) (magnitude x) (magnitude z) eps n j (magnitude (x ⊗ y) * 2 ^ 149) D (s .most) b X)
 
 abbrev pub scaledable : ℕ → ℕ → ℕ → ℕ → ℕ → ℕ → Bool
-scaledable j a b c d e = leb (reach a b) 5600000 && (leb (reach a b * j) 33000000 && (leb (reach c d) 2097152 && leb (at 205) e))
+scaledable j a b c d e = (leb (reach a b) maxCorner && leb (reach a b * j) (limit - 11)) && (leb (reach c d) maxArea && leb (at 205) e)
 
 pub scaled-in : (j : ℕ) {x y z : Float} {a b c d e f : ℕ} → In x a b → In y c d → In z e f → magnitude y ≤ j * magnitude z → T (scaledable j a b c d e)
     → In (x ⊗ y ⊘ z) (limit - (reach a b * j + 11)) (limit + (reach a b * j + 11))
 scaled-in j {x} {y} {z} {a} {b} {c} {d} {e} {f} u v w below t =
-    let t1 : Bool = leb (reach a b) 5600000 in
-    let t2 : Bool = leb (reach a b * j) 33000000 in
-    let t3 : Bool = leb (reach c d) 2097152 in
-    let t4 : Bool = leb (at 205) e in
-    let s2 = and-r t1 (t2 && (t3 && t4)) t in
-    let s3 = and-r t2 (t3 && t4) s2 in
-    let k = leb→le (reach a b * j) 33000000 (and-l t2 (t3 && t4) s2) in
+    let s = and-four (leb (reach a b) maxCorner) (leb (reach a b * j) (limit - 11)) (leb (reach c d) maxArea) (leb (at 205) e) t in
+    let k = leb→le (reach a b * j) (limit - 11) (s .1) in
     most-in
-    (scaled-most j z (in-reach u) (leb→le (reach a b) 5600000 (and-l t1 (t2 && (t3 && t4)) t)) k (most-more (in-reach v) 2097152 (and-l t3 t4 s3)) (w .whole) below
-    (large (posPart z) (negPart z) (magnitude z) eps e (2 ^ 149) (mul-le-mul-left eps (leb→le (at 205) e (and-r t3 t4 s3))) (w .lo) (size-is z) unit))
+    (scaled-most j z (in-reach u) (leb→le (reach a b) maxCorner (s .0)) k (most-more (in-reach v) maxArea (s .2)) (w .whole) below
+    (large (posPart z) (negPart z) (magnitude z) eps e (2 ^ 149) (mul-le-mul-left eps (leb→le (at 205) e (s .3))) (w .lo) (size-is z) unit))
     (le→leb (reach a b * j + 11) limit (omega arith))
   where
     large : (p n m e c l : ℕ) → e * at 205 ≤ e * c → e * c + n ≤ p + e * limit → p + n ≡ m → l ≡ e * 256 → 205 * l ≤ m

@@ -1,25 +1,27 @@
 -- Ranges of formulas: a rule for each operation, so that a proof has the formula's own shape. A side condition is a closed test, answered by `tt`.
 -- Each operation widens a range by 1/256 at most; `in-more` rounds one off.
-use mathlib.Core.Path.{_≡_, sym, ap, _∙_, subst}
-use Prim.Native.Nat.{ℕ, zero, suc, _+_, _-_, _*_, _/_, _^_, _≤_, _<_, min, max}
-use native.Mathlib.Nat.{min-eq-left, min-eq-right, min-le-left, min-le-right, max-eq-left, max-eq-right, le-max-left, le-max-right, le-of-lt, mul-zero, mul-add, sub-add-cancel, le-trans, le-of-eq, mul-le-mul-left, mul-le-mul-right, le-of-mul-le-mul-right}
-use native.Mathlib.Omega.{arith}
+use mathlib.Core.Path.{_≡_, refl, sym, ap, _∙_, subst}
+use Prim.Native.Nat.{ℕ, zero, _+_, _-_, _*_, _/_, _^_, _≤_, _<_, min, max}
+use native.Mathlib.Nat.{min-le-left, min-le-right, le-max-left, le-max-right, mul-add, sub-add-cancel, le-trans, le-of-eq, mul-le-mul-left, mul-le-mul-right, le-of-mul-le-mul-right}
+use native.Mathlib.Omega.{arith, min-cases, max-cases}
 use mathlib.Core.Bool.{Bool, true, false, not, _&&_, cond}
 use mathlib.Core.Logic.{_⊎_, inl, inr}
-use lib.Dec.{T, T-not, leb, ltb, leb→le, nleb→lt}
-use lib.Ieee.{Float, nan, inf, fin, binary32, prec, emax, low, up, down, unlike, odd, units, round, neg, mul, lt, le, fits, isNan}
-use lib.Ieee.Order.{drop, kept}
-use lib.Ieee.Fits.{and-l, and-r, mul-fits, round-is}
+use lib.Dec.{T, leb, ltb, leb→le}
+use lib.IntN.{ℤ}
+use lib.Ieee.{Float, nan, inf, fin, binary32, up, down, unlike, ofBits, neg, mul, lt, le, fits, isNan}
+use lib.Ieee.Fits.{and-l, and-r, mul-fits}
 use lib.Ieee.Scale.{finite}
 use Rattle.float.specs.Float.{_⊕_, _⊖_, _⊗_, _⊘_, k0}
 use Rattle.geometry.specs.declared.Rect.{Rect}
 use Rattle.geometry.specs.Rect.{newOf}
 use Rattle.float.specs.MinMax.{minOf, maxOf, clampOf}
-use Rattle.numerics.specs.Value.{magnitude, Whole, posPart, negPart, eps, top, limit, AtMost, Fraction, P, N, Le}
+use Rattle.numerics.specs.Value.{magnitude, sign, Whole, posPart, negPart, eps, limit, AtMost, Fraction, P, N, Le}
 use Rattle.numerics.specs.Rects.{maxCorner, maxSide, Element, maxArea, Placed}
 use Rattle.numerics.specs.Range.{In, at, minus, reach}
-use Rattle.numerics.specs.Operations.{Near, fits-whole, neg-whole, neg-swaps, one-zero, add-near, sub-near, mul-near, div-near, mul-flip}
-use Rattle.numerics.specs.Bounds.{room, room-mul, lt-not, le-law, min-ind, max-ind, zero-most, most-more}
+use Rattle.geometry.specs.Choice.{either, by-test}
+use Rattle.numerics.specs.Rounding.{round-ind}
+use Rattle.numerics.specs.Operations.{Near, fits-whole, neg-whole, neg-swaps, one-zero, mul-flip}
+use Rattle.numerics.specs.Bounds.{add-bounded, sub-bounded, mul-bounded, div-bounded, lt-not, le-law, min-ind, max-ind, zero-most, most-more}
 
 pub in-most : (x : Float) (a b n : ℕ) → In x a b → limit ≤ a + n → b ≤ limit + n → AtMost x n
 in-most x a b n i h k = record { whole = i .whole; size = go (one-zero x) (mul-le-mul-left eps h) (mul-le-mul-left eps k) }
@@ -53,6 +55,12 @@ most-in {x} {n} f t =
     let l : eps * (limit - n) + eps * n ≤ eps * limit = le-trans (le-of-eq (sym (mul-add eps (limit - n) n))) (mul-le-mul-left eps (le-of-eq (sub-add-cancel (leb→le n limit t)))) in
     record { whole = f .whole; lo = omega arith; hi = omega arith }
 
+pub and-three : (a b c : Bool) → T (a && (b && c)) → T a × T b × T c
+and-three a b c t = (and-l a (b && c) t, and-l b c (and-r a (b && c) t), and-r b c (and-r a (b && c) t))
+
+pub and-four : (a b c d : Bool) → T ((a && b) && (c && d)) → T a × T b × T c × T d
+and-four a b c d t = let s = and-l (a && b) (c && d) t in (and-l a b s, and-r a b s, and-l c d (and-r (a && b) (c && d) t), and-r c d (and-r (a && b) (c && d) t))
+
 -- ---- the sum and the difference
 times-sub : (e c k : ℕ) → k ≤ c → e * (c - k) + e * k ≡ e * c
 times-sub e c k h = sym (mul-add e (c - k) k) ∙ ap (λ (z : ℕ). e * z) (sub-add-cancel h)
@@ -62,12 +70,10 @@ addable a b a' b' = ltb (reach a b + reach a' b') limit && (leb (limit + 1) (a +
 
 pub add-in : {x y : Float} {a b a' b' : ℕ} → In x a b → In y a' b' → T (addable a b a' b') → In (x ⊕ y) (a + a' - (limit + 1)) (b + b' + 1 - limit)
 add-in {x} {y} {a} {b} {a'} {b'} i j t =
-    let r1 : Bool = ltb (reach a b + reach a' b') limit in
-    let r2 : Bool = leb (limit + 1) (a + a') in
-    let r3 : Bool = leb limit (b + b' + 1) in
-    let n = add-near x y (i .whole) (j .whole) (room x y (reach a b) (reach a' b') (in-reach i) (in-reach j) (and-l r1 (r2 && r3) t)) in
-    let k = times-sub eps (a + a') (limit + 1) (leb→le (limit + 1) (a + a') (and-l r2 r3 (and-r r1 (r2 && r3) t))) in
-    let l = times-sub eps (b + b' + 1) limit (leb→le limit (b + b' + 1) (and-r r2 r3 (and-r r1 (r2 && r3) t))) in
+    let r = and-three (ltb (reach a b + reach a' b') limit) (leb (limit + 1) (a + a')) (leb limit (b + b' + 1)) t in
+    let n = add-bounded (in-reach i) (in-reach j) (r .0) in
+    let k = times-sub eps (a + a') (limit + 1) (leb→le (limit + 1) (a + a') (r .1)) in
+    let l = times-sub eps (b + b' + 1) limit (leb→le limit (b + b' + 1) (r .2)) in
     record { whole = n .whole; lo = omega (arith, n .under, i .lo, j .lo, k); hi = omega (arith, n .over, i .hi, j .hi, l) }
 
 abbrev pub subable : ℕ → ℕ → ℕ → ℕ → Bool
@@ -75,18 +81,16 @@ subable a b a' b' = ltb (reach a b + reach a' b') limit && (leb (b' + 1) (a + li
 
 pub sub-in : {x y : Float} {a b a' b' : ℕ} → In x a b → In y a' b' → T (subable a b a' b') → In (x ⊖ y) (a + limit - (b' + 1)) (b + limit + 1 - a')
 sub-in {x} {y} {a} {b} {a'} {b'} i j t =
-    let r1 : Bool = ltb (reach a b + reach a' b') limit in
-    let r2 : Bool = leb (b' + 1) (a + limit) in
-    let r3 : Bool = leb a' (b + limit + 1) in
-    let n = sub-near x y (i .whole) (j .whole) (room x y (reach a b) (reach a' b') (in-reach i) (in-reach j) (and-l r1 (r2 && r3) t)) in
-    let k = times-sub eps (a + limit) (b' + 1) (leb→le (b' + 1) (a + limit) (and-l r2 r3 (and-r r1 (r2 && r3) t))) in
-    let l = times-sub eps (b + limit + 1) a' (leb→le a' (b + limit + 1) (and-r r2 r3 (and-r r1 (r2 && r3) t))) in
+    let r = and-three (ltb (reach a b + reach a' b') limit) (leb (b' + 1) (a + limit)) (leb a' (b + limit + 1)) t in
+    let n = sub-bounded (in-reach i) (in-reach j) (r .0) in
+    let k = times-sub eps (a + limit) (b' + 1) (leb→le (b' + 1) (a + limit) (r .1)) in
+    let l = times-sub eps (b + limit + 1) a' (leb→le a' (b + limit + 1) (r .2)) in
     record { whole = n .whole; lo = omega (arith, n .under, i .lo, j .hi, k); hi = omega (arith, n .over, i .hi, j .lo, l) }
 
 -- the lower end of a difference gives one to its first number
 pub sub-back : {x y : Float} {a b c d e f : ℕ} (k : ℕ) → In x a b → In y c d → In (x ⊖ y) e f → T (ltb (reach a b + reach c d) limit) → T (leb (k + (limit + 1)) (e + c)) → In x k b
 sub-back {x} {y} {a} {b} {c} {d} {e} k i j r s t =
-    let n = sub-near x y (i .whole) (j .whole) (room x y (reach a b) (reach c d) (in-reach i) (in-reach j) s) in
+    let n = sub-bounded (in-reach i) (in-reach j) s in
     let m = mul-le-mul-left eps (leb→le (k + (limit + 1)) (e + c) t) in
     record { whole = i .whole; lo = omega (arith, n .over, j .lo, r .lo, m); hi = i .hi }
 
@@ -103,14 +107,12 @@ into a b A B a' b' = ltb (reach a b * A) (limit * B) && (leb (a' * B + limit * A
 abbrev pub scalable : ℕ → ℕ → ℕ → ℕ → Bool
 scalable a b A B = into a b A B (lowBy a A B) (highBy b A B)
 
-ratio-in : (r x : Float) (a b A B a' b' : ℕ) → 0 < B → In x a b → (magnitude x * A < top * B → Near r (posPart x * A) (negPart x * A) B eps) → T (into a b A B a' b') → In r a' b'
-ratio-in r x a b A B a' b' D i m t =
-    let r1 : Bool = ltb (reach a b * A) (limit * B) in
-    let r2 : Bool = leb (a' * B + limit * A + B) (a * A + limit * B) in
-    let r3 : Bool = leb (b * A + limit * B + B) (b' * B + limit * A) in
-    let n = m (room-mul x (reach a b) A B (in-reach i) (and-l r1 (r2 && r3) t)) in
-    let k = mul-le-mul-left eps (leb→le (a' * B + limit * A + B) (a * A + limit * B) (and-l r2 r3 (and-r r1 (r2 && r3) t))) in
-    let l = mul-le-mul-left eps (leb→le (b * A + limit * B + B) (b' * B + limit * A) (and-r r2 r3 (and-r r1 (r2 && r3) t))) in
+ratio-in : {r x : Float} {a b B : ℕ} (A a' b' : ℕ) → 0 < B → In x a b → (T (ltb (reach a b * A) (limit * B)) → Near r (posPart x * A) (negPart x * A) B eps) → T (into a b A B a' b') → In r a' b'
+ratio-in {r} {x} {a} {b} {B} A a' b' D i m t =
+    let s = and-three (ltb (reach a b * A) (limit * B)) (leb (a' * B + limit * A + B) (a * A + limit * B)) (leb (b * A + limit * B + B) (b' * B + limit * A)) t in
+    let n = m (s .0) in
+    let k = mul-le-mul-left eps (leb→le (a' * B + limit * A + B) (a * A + limit * B) (s .1)) in
+    let l = mul-le-mul-left eps (leb→le (b * A + limit * B + B) (b' * B + limit * A) (s .2)) in
     let u = mul-le-mul-right A (i .lo) in
     let v = mul-le-mul-right A (i .hi) in
     let y : (eps * a' + negPart r) * B ≤ (posPart r + eps * limit) * B = omega (arith, n .under, k, u) in
@@ -118,10 +120,10 @@ ratio-in r x a b A B a' b' D i m t =
     record { whole = n .whole; lo = le-of-mul-le-mul-right y D; hi = le-of-mul-le-mul-right z D }
 
 pub mul-in : {x y : Float} {a b A B : ℕ} → In x a b → Fraction y A B → T (scalable a b A B) → In (x ⊗ y) (lowBy a A B) (highBy b A B)
-mul-in {x} {y} {a} {b} {A} {B} i f t = ratio-in (x ⊗ y) x a b A B (lowBy a A B) (highBy b A B) (f .below) i (mul-near x y A B (i .whole) f) t
+mul-in {a = a} {b = b} {A = A} {B = B} i f t = ratio-in A (lowBy a A B) (highBy b A B) (f .below) i (mul-bounded (in-reach i) f) t
 
 pub div-in : {x y : Float} {a b A B : ℕ} → In x a b → Fraction y A B → T (scalable a b B A) → In (x ⊘ y) (lowBy a B A) (highBy b B A)
-div-in {x} {y} {a} {b} {A} {B} i f t = ratio-in (x ⊘ y) x a b B A (lowBy a B A) (highBy b B A) (f .above) i (div-near x y A B (i .whole) f) t
+div-in {a = a} {b = b} {A = A} {B = B} i f t = ratio-in B (lowBy a B A) (highBy b B A) (f .above) i (div-bounded (in-reach i) f) t
 
 -- a constant on the left
 pub times-in : {x y : Float} {a b A B : ℕ} → Fraction y A B → In x a b → T (scalable a b A B) → In (y ⊗ x) (lowBy a A B) (highBy b A B)
@@ -129,18 +131,10 @@ times-in {x} {y} f i t = rw (mul-flip y x (f .whole) (i .whole)) (mul-in i f t)
 
 -- ---- the lesser, the greater
 nat-min-ind : (a b : ℕ) (C : ℕ → Type 0) → C a → C b → C (min a b)
-nat-min-ind a b C p q = go (leb a b) (leb→le a b) (nleb→lt a b)
-  where
-    go : (t : Bool) → (T t → a ≤ b) → (T (not t) → b < a) → C (min a b)
-    go true h k = subst C (sym (min-eq-left (h tt))) p
-    go false h k = subst C (sym (min-eq-right (le-of-lt (k tt)))) q
+nat-min-ind a b C p q = min-cases a b (C (min a b)) (λ h e. subst C (sym e) p) (λ h e. subst C (sym e) q)
 
 nat-max-ind : (a b : ℕ) (C : ℕ → Type 0) → C a → C b → C (max a b)
-nat-max-ind a b C p q = go (leb a b) (leb→le a b) (nleb→lt a b)
-  where
-    go : (t : Bool) → (T t → a ≤ b) → (T (not t) → b < a) → C (max a b)
-    go true h k = subst C (sym (max-eq-right (h tt))) q
-    go false h k = subst C (sym (max-eq-left (le-of-lt (k tt)))) p
+nat-max-ind a b C p q = max-cases a b (C (max a b)) (λ h e. subst C (sym e) q) (λ h e. subst C (sym e) p)
 
 raw : (x y : Float) → Le 1 x y → posPart x + negPart y ≤ posPart y + negPart x
 unfolding P N
@@ -170,50 +164,37 @@ pub lower : {x h : Float} {a b a' b' : ℕ} → In x a b → In h a' b' → Le 1
 lower {x} {h} i j k = record { whole = i .whole; lo = i .lo; hi = omega (arith, j .hi, raw x h k) }
 
 -- ---- between two others
+whole-ind : (C : Float → Type 0) → ((s : Bool) (m : ℕ) (e : ℤ) → C (fin s m e)) → (x : Float) → Whole x → C x
+whole-ind C f nan p = absurd p
+whole-ind C f (inf s) p = absurd p
+whole-ind C f (fin s m e) p = f s m e
+
 pub between : {x l h : Float} {a b a' b' : ℕ} → Whole x → In l a b → In h a' b' → T (not (lt x l)) → T (not (lt h x)) → In x a b'
 between {x} {l} {h} p i j s t =
     record { whole = p; lo = omega (arith, i .lo, raw l x (lt-not 1 x l p (i .whole) s)); hi = omega (arith, j .hi, raw x h (lt-not 1 h x (j .whole) p t)) }
 
-inf-low : (l : Float) → Whole l → T (lt (inf true) l)
-unfolding lt
-inf-low nan p = absurd p
-inf-low (inf s) p = absurd p
-inf-low (fin s m e) p = tt
-
-inf-high : (h : Float) → Whole h → T (lt h (inf false))
-unfolding lt
-inf-high nan p = absurd p
-inf-high (inf s) p = absurd p
-inf-high (fin s m e) p = tt
-
 pub clamp-ind : (x l h : Float) (C : Float → Type 0) → C l → C h → (T (not (lt x l)) → T (not (lt h x)) → C x) → C (clampOf x l h)
 unfolding clampOf
-clamp-ind x l h C p q r = go (lt x l) r
-  where
-    end : (b : Bool) (y : Float) → (T (not b) → C y) → C (cond b h y)
-    end true y k = q
-    end false y k = k tt
+clamp-ind x l h C p q r = by-test (λ y. C (cond (lt h y) h y)) (lt x l) (λ s. either C (lt h l) q p) (λ s. by-test C (lt h x) (λ t. q) (r s))
 
-    go : (s : Bool) → (T (not s) → T (not (lt h x)) → C x) → C (cond (lt h (cond s l x)) h (cond s l x))
-    go true k = end (lt h l) l (λ t. p)
-    go false k = end (lt h x) x (k tt)
+clamped : (x : Float) {l h : Float} {a b a' b' : ℕ} → In l a b → In h a' b' → (T (not (lt x l)) → T (not (lt h x)) → Whole x) → In (clampOf x l h) (min a a') (max b b')
+clamped x {l} {h} {a} {b} {a'} {b'} i j p =
+    clamp-ind x l h (λ z. In z (min a a') (max b b')) (in-le _ _ i (min-le-left a a') (le-max-left b b')) (in-le _ _ j (min-le-right a a') (le-max-right b b'))
+    (λ s t. in-le _ _ (between (p s t) i j s t) (min-le-left a a') (le-max-right b b'))
 
 -- a value that is no NaN, finite or not, is brought into the range; a b of the lower end, a' b' of the upper
 pub clamp-any-in : (x : Float) {l h : Float} {a b a' b' : ℕ} → T (not (isNan x)) → T (fits binary32 x) → In l a b → In h a' b' → In (clampOf x l h) (min a a') (max b b')
-clamp-any-in x {l} {h} {a} {b} {a'} {b'} n f i j =
-    clamp-ind x l h (λ z. In z (min a a') (max b b')) (in-le _ _ i (min-le-left a a') (le-max-left b b')) (in-le _ _ j (min-le-right a a') (le-max-right b b')) (own x n f)
+clamp-any-in x {l} {h} n f i j = clamped x i j (λ s t. fits-whole x (own x n s t) f)
   where
-    own : (x : Float) → T (not (isNan x)) → T (fits binary32 x) → T (not (lt x l)) → T (not (lt h x)) → In x (min a a') (max b b')
-    own nan n f s t = absurd (unfold isNan in n)
-    own (inf true) n f s t = absurd (T-not (lt (inf true) l) s (inf-low l (i .whole)))
-    own (inf false) n f s t = absurd (T-not (lt h (inf false)) t (inf-high h (j .whole)))
-    own (fin g m e) n f s t = in-le _ _ (between {x = fin g m e} (fits-whole (fin g m e) tt f) i j s t) (min-le-left a a') (le-max-right b b')
+    own : (x : Float) → T (not (isNan x)) → T (not (lt x l)) → T (not (lt h x)) → T (finite x)
+    own nan n s t = unfold isNan in n
+    own (inf true) n s t = whole-ind (λ l. T (not (lt (inf true) l)) → ⊥) (λ g m e u. unfold lt in u) l (i .whole) s
+    own (inf false) n s t = whole-ind (λ h. T (not (lt h (inf false))) → ⊥) (λ g m e u. unfold lt in u) h (j .whole) t
+    own (fin g m e) n s t = tt
 
 -- a finite value
 pub clamp-whole-in : (x : Float) {l h : Float} {a b a' b' : ℕ} → Whole x → In l a b → In h a' b' → In (clampOf x l h) (min a a') (max b b')
-clamp-whole-in x {l} {h} {a} {b} {a'} {b'} p i j =
-    clamp-ind x l h (λ z. In z (min a a') (max b b')) (in-le _ _ i (min-le-left a a') (le-max-left b b')) (in-le _ _ j (min-le-right a a') (le-max-right b b'))
-    (λ s t. in-le _ _ (between p i j s t) (min-le-left a a') (le-max-right b b'))
+clamp-whole-in x p i j = clamped x i j (λ s t. p)
 
 pub clamp-in : {x l h : Float} {c e a b a' b' : ℕ} → In x c e → In l a b → In h a' b' → In (clampOf x l h) (min a a') (max b b')
 clamp-in {x} u i j = clamp-whole-in x (u .whole) i j
@@ -221,6 +202,10 @@ clamp-in {x} u i j = clamp-whole-in x (u .whole) i j
 -- a literal, by computation
 pub literal : {x : Float} {a b : ℕ} → Whole x → T (leb (eps * a + negPart x) (posPart x + eps * limit)) → T (leb (posPart x + eps * limit) (negPart x + eps * b)) → In x a b
 literal {x} {a} {b} p s t = record { whole = p; lo = leb→le (eps * a + negPart x) (posPart x + eps * limit) s; hi = leb→le (posPart x + eps * limit) (negPart x + eps * b) t }
+
+-- the same for a fraction
+pub fraction : {y : Float} {Y W : ℕ} → Whole y → sign y ≡ false → magnitude y * W ≡ Y * 2 ^ 149 → T (leb 1 Y) → T (leb 1 W) → Fraction y Y W
+fraction {Y = Y} {W = W} p q e s t = record { whole = p; plus = q; is = e; above = leb→le 1 Y s; below = leb→le 1 W t }
 
 -- a choice
 pub cond-in : {x y : Float} {a b a' b' : ℕ} (t : Bool) → In x a b → In y a' b' → In (cond t x y) (min a a') (max b b')
@@ -238,57 +223,25 @@ range-most n {x} {a} {b} i t =
     in-most x a b n i (leb→le limit (a + n) (and-l t1 t2 t)) (leb→le b (limit + n) (and-r t1 t2 t))
 
 -- ---- a number that passed the tests of an order
-nan-le : (x : Float) → T (not (le x nan))
-unfolding le
-nan-le nan = tt
-nan-le (inf s) = tt
-nan-le (fin s m e) = tt
-
-high-le : (h : Float) → Whole h → T (not (le (inf false) h))
-unfolding le
-high-le nan p = tt
-high-le (inf s) p = absurd p
-high-le (fin s m e) p = tt
-
-low-le : (l : Float) → Whole l → T (not (le l (inf true)))
-unfolding le
-low-le nan p = tt
-low-le (inf s) p = absurd p
-low-le (fin s m e) p = tt
-
 pub tested : (x : Float) {l h : Float} {a b a' b' : ℕ} → T (fits binary32 x) → In l a b → In h a' b' → T (le l x) → T (le x h) → In x a b'
-tested nan {l} f i j s t = absurd (T-not (le l nan) (nan-le l) s)
-tested (inf true) {l} f i j s t = absurd (T-not (le l (inf true)) (low-le l (i .whole)) s)
-tested (inf false) {h = h} f i j s t = absurd (T-not (le (inf false) h) (high-le h (j .whole)) t)
-tested (fin g m e) {l} {h} f i j s t =
-    let x = fin g m e in
-    let p = fits-whole x tt f in
+tested x {l} {h} f i j s t =
+    let p = fits-whole x (own x s t) f in
     record { whole = p; lo = omega (arith, i .lo, raw l x (le-law 1 l x (i .whole) p s)); hi = omega (arith, j .hi, raw x h (le-law 1 x h p (j .whole) t)) }
+  where
+    own : (x : Float) → T (le l x) → T (le x h) → T (finite x)
+    own nan s t = whole-ind (λ l. T (le l nan) → ⊥) (λ g m e u. unfold le in u) l (i .whole) s
+    own (inf true) s t = whole-ind (λ l. T (le l (inf true)) → ⊥) (λ g m e u. unfold le in u) l (i .whole) s
+    own (inf false) s t = whole-ind (λ h. T (le (inf false) h) → ⊥) (λ g m e u. unfold le in u) h (j .whole) t
+    own (fin g m e) s t = tt
 
 -- ---- a product of two finite numbers is no NaN
-odd-not-nan : (d : ℕ) (s : Bool) (q k l : ℕ) → T (not (isNan (odd d s q k l)))
-unfolding odd isNan
-odd-not-nan d s zero k l = tt
-odd-not-nan d s (suc q) k l = tt
-
-units-not-nan : (s : Bool) (q k : ℕ) → T (not (isNan (units binary32 s q k)))
-unfolding units
-units-not-nan s q k = go (ltb (q * 2 ^ k) (2 ^ (low binary32 + suc (emax binary32))))
-  where
-    go : (b : Bool) → T (not (isNan (cond b (odd (suc (prec binary32)) s q k (low binary32)) (inf s))))
-    go true = odd-not-nan (suc (prec binary32)) s q k (low binary32)
-    go false = unfold isNan in tt
-
-round-not-nan : (s : Bool) (a c : ℕ) → T (not (isNan (round binary32 s a c)))
-round-not-nan s a c = subst (λ (z : Float). T (not (isNan z))) (sym (round-is binary32 s a c)) (units-not-nan s (kept 24 (a * 2 ^ 149) c) (drop 24 (a * 2 ^ 149) c))
-
 pub mul-not-nan : (x y : Float) → T (finite x) → T (finite y) → T (not (isNan (x ⊗ y)))
-unfolding mul
+unfolding mul isNan
 mul-not-nan nan y p q = absurd p
 mul-not-nan (inf s) y p q = absurd p
 mul-not-nan (fin s m e) nan p q = absurd q
 mul-not-nan (fin s m e) (inf t) p q = absurd q
-mul-not-nan (fin s m e) (fin t n d) p q = round-not-nan (unlike s t) (m * up e * (n * up d)) (down e * down d)
+mul-not-nan (fin s m e) (fin t n d) p q = round-ind (λ z. T (not (isNan z))) binary32 (unlike s t) (m * up e * (n * up d)) (down e * down d) tt (λ k g. tt)
 
 -- a saved number: any finite x times w, brought between l and h
 pub saved-in : (x w : Float) {l h : Float} {a b a' b' : ℕ} → T (finite x) → T (finite w) → In l a b → In h a' b' → In (clampOf (x ⊗ w) l h) (min a a') (max b b')
@@ -297,7 +250,7 @@ saved-in x w p q i j = clamp-any-in (x ⊗ w) (mul-not-nan x w p q) (mul-fits bi
 -- ---- a rectangle that was moved: its edge is at least 0, and its far edge at most w
 pub moved-in : {x r w : Float} {n a b c e : ℕ} → AtMost x n → In r a b → In w c e → T (ltb (n + reach a b) limit) → T (leb a (e + (limit + 1))) → T (le k0 x) → T (le (x ⊕ r) w) → In x limit (e + (limit + 1) - a)
 moved-in {x} {r} {w} {n} {a} {b} {c} {e} f i j t u s v =
-    let k = add-near x r (f .whole) (i .whole) (room x r n (reach a b) f (in-reach i) t) in
+    let k = add-bounded f (in-reach i) t in
     let l = raw (x ⊕ r) w (le-law 1 (x ⊕ r) w (k .whole) (j .whole) v) in
     let z = raw k0 x (le-law 1 k0 x (zero-most .whole) (f .whole) s) in
     let o = times-sub eps (e + (limit + 1)) a (leb→le a (e + (limit + 1)) u) in
@@ -305,7 +258,7 @@ moved-in {x} {r} {w} {n} {a} {b} {c} {e} f i j t u s v =
     record { whole = f .whole; lo = omega (arith, z, y); hi = omega (arith, k .under, l, i .lo, j .hi, o) }
   where
     zero-raw : (posPart k0 ≡ 0) × (negPart k0 ≡ 0)
-    zero-raw = let k = zero-most .size in let m : eps * 0 ≡ 0 = mul-zero eps in omega arith
+    zero-raw = unfold ofBits magnitude posPart negPart in (refl, refl)
 
 -- ---- the sign turned
 pub neg-in : {x : Float} {a b : ℕ} → In x a b → T (leb a (limit + limit) && leb b (limit + limit)) → In (neg x) ((limit + limit) - b) ((limit + limit) - a)
@@ -319,13 +272,8 @@ neg-in {x} {a} {b} i t =
 pub element-in : {x y w h : Float} {a b a' b' c d c' d' : ℕ} → In x a b → In y a' b' → In w c d → In h c' d'
     → T ((small maxCorner a b && small maxCorner a' b') && (small maxSide c d && small maxSide c' d')) → Element (newOf x y w h)
 element-in {a = a} {b = b} {a' = a'} {b' = b'} {c = c} {d = d} {c' = c'} {d' = d'} i j k l t =
-    let t1 : Bool = small maxCorner a b in
-    let t2 : Bool = small maxCorner a' b' in
-    let t3 : Bool = small maxSide c d in
-    let t4 : Bool = small maxSide c' d' in
-    let s = and-l (t1 && t2) (t3 && t4) t in
-    let u = and-r (t1 && t2) (t3 && t4) t in
-    record { x = range-most maxCorner i (and-l t1 t2 s); y = range-most maxCorner j (and-r t1 t2 s); w = range-most maxSide k (and-l t3 t4 u); h = range-most maxSide l (and-r t3 t4 u) }
+    let s = and-four (small maxCorner a b) (small maxCorner a' b') (small maxSide c d) (small maxSide c' d') t in
+    record { x = range-most maxCorner i (s .0); y = range-most maxCorner j (s .1); w = range-most maxSide k (s .2); h = range-most maxSide l (s .3) }
 
 abbrev pub inside : ℕ → ℕ → ℕ → ℕ → Bool
 inside a' b' a b = leb a' a && leb b b'
@@ -337,13 +285,8 @@ in-wide {a = a} {b = b} {a' = a'} {b' = b'} i t = in-more a' b' i (and-l (leb a'
 pub placed-in : {above m : ℕ} {x y w h : Float} {a b a' b' c d c' d' : ℕ} → In x a b → In y a' b' → In w c d → In h c' d'
     → T ((inside (minus m) (at (8192 + m)) a b && inside (minus (above + m)) (at (8192 + m)) a' b') && (small (maxArea + m) c d && small (maxArea + m) c' d')) → Placed above m (newOf x y w h)
 placed-in {above} {m} {a = a} {b = b} {a' = a'} {b' = b'} {c = c} {d = d} {c' = c'} {d' = d'} i j k l t =
-    let t1 : Bool = inside (minus m) (at (8192 + m)) a b in
-    let t2 : Bool = inside (minus (above + m)) (at (8192 + m)) a' b' in
-    let t3 : Bool = small (maxArea + m) c d in
-    let t4 : Bool = small (maxArea + m) c' d' in
-    let s = and-l (t1 && t2) (t3 && t4) t in
-    let u = and-r (t1 && t2) (t3 && t4) t in
-    record { x = in-wide i (and-l t1 t2 s); y = in-wide j (and-r t1 t2 s); w = range-most (maxArea + m) k (and-l t3 t4 u); h = range-most (maxArea + m) l (and-r t3 t4 u) }
+    let s = and-four (inside (minus m) (at (8192 + m)) a b) (inside (minus (above + m)) (at (8192 + m)) a' b') (small (maxArea + m) c d) (small (maxArea + m) c' d') t in
+    record { x = in-wide i (s .0); y = in-wide j (s .1); w = range-most (maxArea + m) k (s .2); h = range-most (maxArea + m) l (s .3) }
 
 pub placed-element : {above m : ℕ} {e : Rect} → Placed above m e → T ((small maxCorner (minus m) (at (8192 + m)) && small maxCorner (minus (above + m)) (at (8192 + m))) && leb (maxArea + m) maxSide) → Element e
 placed-element {above} {m} P t =

@@ -3,55 +3,49 @@ use mathlib.Core.Path.{_≡_, sym, subst}
 use Prim.Native.Nat.{ℕ, zero, suc, _+_, _-_, _*_, _/_, _%_, _^_, _≤_, _<_, compare, Ordering, Ordering·lt, Ordering·eq, Ordering·gt}
 use native.Mathlib.Nat.{le-trans, le-of-lt, lt-of-lt-of-le, lt-of-mul-lt-mul-right, mul-le-mul-right, mul-pos, div-add-mod', mod-lt, div-lt-iff-lt-mul}
 use native.Mathlib.Omega.{arith}
-use mathlib.Core.Bool.{Bool, not}
-use lib.Dec.{T, isLe, isEq, eqb, leb→le, nleb→lt, eqb→eq, eqb-refl}
-use lib.Arith.{lt-of-le-ne}
+use mathlib.Core.Bool.{Bool}
+use lib.Dec.{ltb}
+use lib.IntN.{ℤ}
 use lib.Pow.{pow-pos, pow-mono}
-use lib.Ieee.{Float, Format, prec, low, size, nearest, round}
+use lib.Ieee.{Float, inf, fin, Format, prec, emax, low, size, nearest, odd, units, round}
 use lib.Ieee.Digits.{size-le}
 use lib.Ieee.Fits.{round-is}
 use lib.Ieee.Exact.{HasValue, units-val}
 use lib.Ieee.Nearest.{closest}
 use lib.Ieee.Order.{drop, kept}
 use lib.Ieee.Scale.{grid, overflow}
+use Rattle.float.specs.Compare.{Cmp, cmp}
+use Rattle.geometry.specs.Choice.{either}
 
--- what `compare` says
-abbrev Compared : Ordering → ℕ → ℕ → Type 0
-Compared Ordering·lt a b = a < b
-Compared Ordering·eq a b = a ≡ b
-Compared Ordering·gt a b = b < a
+-- what holds of any rounded number: it is finite with the sign s, or the infinity
+odd-ind : (C : Float → Type 0) (d : ℕ) (s : Bool) (q k l : ℕ) → ((m : ℕ) (e : ℤ) → C (fin s m e)) → C (odd d s q k l)
+unfolding odd
+odd-ind C d s zero k l f = f _ _
+odd-ind C d s (suc q) k l f = f _ _
 
-compared : (a b : ℕ) → Compared (compare a b) a b
-compared a b = go (compare a b) (leb→le a b) (nleb→lt a b) (eqb→eq a b) (λ (e : a ≡ b). subst (λ (x : ℕ). T (eqb a x)) e (eqb-refl a))
+pub round-ind : (C : Float → Type 0) (f : Format) (s : Bool) (a c : ℕ) → C (inf s) → ((m : ℕ) (e : ℤ) → C (fin s m e)) → C (round f s a c)
+round-ind C f s a c i g = rw (round-is f s a c) (go (kept (prec f) (a * 2 ^ low f) c) (drop (prec f) (a * 2 ^ low f) c))
   where
-    go : (o : Ordering) → (T (isLe o) → a ≤ b) → (T (not (isLe o)) → b < a) → (T (isEq o) → a ≡ b) → (a ≡ b → T (isEq o)) → Compared o a b
-    go Ordering·lt h k e n = lt-of-le-ne (h tt) n
-    go Ordering·eq h k e n = e tt
-    go Ordering·gt h k e n = k tt
+    go : (q k : ℕ) → C (units f s q k)
+    go q k = unfold units in (either C (ltb (q * 2 ^ k) (2 ^ (low f + suc (emax f)))) (odd-ind C (suc (prec f)) s q k (low f) g) i)
 
 -- twice the distance from a / b to the nearest whole number c is at most 1
 record Half (c a b : ℕ) : Type 0 where
   pub over : c * b * 2 ≤ a * 2 + b
   pub under : a * 2 ≤ c * b * 2 + b
 
-half-go : (q r b a : ℕ) (o : Ordering) → Compared o (r * 2) b → r < b → q * b + r ≡ a → Half (nearest q o) a b
+half-go : (q r b a : ℕ) (o : Ordering) → Cmp o (r * 2) b → r < b → q * b + r ≡ a → Half (nearest q o) a b
 half-go q r b a Ordering·lt x l e = record { over = omega arith; under = omega arith }
-half-go q r b a Ordering·eq x l e = tie (q % 2) (small q)
+half-go q r b a Ordering·eq x l e = tie (q % 2) (omega arith)
   where
-    small : (q : ℕ) → q % 2 ≤ 1
-    small q = omega arith
-
     tie : (t : ℕ) → t ≤ 1 → Half (q + t) a b
     tie zero h = record { over = omega arith; under = omega arith }
     tie (suc zero) h = record { over = omega arith; under = omega arith }
-    tie (suc (suc t)) h = absurd (big t h)
-      where
-        big : (t : ℕ) → suc (suc t) ≤ 1 → ⊥
-        big t h = omega arith
+    tie (suc (suc t)) h = absurd (let z : ⊥ = omega arith in z)
 half-go q r b a Ordering·gt x l e = record { over = omega arith; under = omega arith }
 
 closest-half : (a b : ℕ) → 0 < b → Half (closest a b) a b
-closest-half a b B = half-go (a / b) (a % b) b a (compare (a % b * 2) b) (compared (a % b * 2) b) (mod-lt a B) (div-add-mod' a b)
+closest-half a b B = half-go (a / b) (a % b) b a (compare (a % b * 2) b) (cmp (a % b * 2) b) (mod-lt a B) (div-add-mod' a b)
 
 -- g is n / den but for e
 pub record Close (g n den e : ℕ) : Type 0 where

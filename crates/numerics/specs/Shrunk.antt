@@ -1,59 +1,37 @@
 -- A number scaled, x * y / z with y and z above 0, keeps its sign. So scaled down, as `analog_default` does on a small surface, it keeps its range but for 11/256.
 use mathlib.Core.Path.{_≡_, refl, ap, _∙_}
-use mathlib.Core.Bool.{Bool, true, false, cond, _&&_}
-use Prim.Native.Nat.{ℕ, zero, suc, _+_, _-_, _*_, _≤_, _<_, _^_}
+use mathlib.Core.Bool.{Bool, true, false, _&&_}
+use Prim.Native.Nat.{ℕ, suc, _+_, _-_, _*_, _≤_, _<_}
 use native.Mathlib.Nat.{mul-le-mul-left}
 use native.Mathlib.Omega.{arith}
 use lib.Dec.{T, leb, ltb, ltb→lt}
-use lib.Ieee.{Float, nan, inf, fin, binary32, prec, emax, low, up, down, unlike, odd, units, round, mul, div}
-use lib.Ieee.Fits.{and-l, and-r, round-is}
-use lib.Ieee.Order.{drop, kept}
+use lib.Ieee.{Float, nan, inf, fin, binary32, unlike, round, mul, div}
+use lib.Ieee.Fits.{mul-fits}
+use lib.Ieee.Scale.{finite}
 use Rattle.float.specs.Float.{_⊗_, _⊘_}
 use Rattle.geometry.specs.declared.Rect.{Rect}
 use Rattle.geometry.specs.Rect.{newOf}
 use Rattle.numerics.specs.Value.{magnitude, sign, Whole, posIf, negIf, posPart, negPart, eps, limit, Le}
 use Rattle.numerics.specs.Range.{In, at, minus, reach}
 use Rattle.numerics.specs.Rects.{maxArea, Placed, margin}
-use Rattle.numerics.specs.Operations.{div-open, magnitude-pos}
+use Rattle.numerics.specs.Rounding.{round-ind}
+use Rattle.numerics.specs.Operations.{Rounded, fits-whole, mul-rounded, div-rounded}
 use Rattle.numerics.specs.Bounds.{eps-pos, most-more}
-use Rattle.numerics.specs.Ranges.{in-more, most-in, range-most}
+use Rattle.numerics.specs.Ranges.{and-four, in-more, most-in, range-most}
 use Rattle.numerics.specs.Products.{scaledable, scaled-in, le-magnitude}
 
 -- ---- signs
-odd-sign : (d : ℕ) (s : Bool) (q k l : ℕ) → sign (odd d s q k l) ≡ s
-unfolding odd
-odd-sign d s zero k l = refl
-odd-sign d s (suc q) k l = refl
+rounded-sign : {r : Float} {s : Bool} {Z W : ℕ} → Rounded r s Z W → sign r ≡ s
+rounded-sign {s = s} h = rw (h .is) (round-ind (λ z. sign z ≡ s) binary32 s (h .a) (h .c) refl (λ m e. refl))
 
-units-sign : (s : Bool) (q k : ℕ) → sign (units binary32 s q k) ≡ s
-unfolding units
-units-sign s q k = go (ltb (q * 2 ^ k) (2 ^ (low binary32 + suc (emax binary32))))
-  where
-    go : (b : Bool) → sign (cond b (odd (suc (prec binary32)) s q k (low binary32)) (inf s)) ≡ s
-    go true = odd-sign (suc (prec binary32)) s q k (low binary32)
-    go false = refl
-
-round-sign : (s : Bool) (a c : ℕ) → sign (round binary32 s a c) ≡ s
-round-sign s a c = ap sign (round-is binary32 s a c) ∙ units-sign s (kept 24 (a * 2 ^ 149) c) (drop 24 (a * 2 ^ 149) c)
-
-mul-sign : (x y : Float) → Whole x → Whole y → sign (x ⊗ y) ≡ unlike (sign x) (sign y)
-unfolding mul
-mul-sign nan y p q = absurd p
-mul-sign (inf s) y p q = absurd p
-mul-sign (fin s m e) nan p q = absurd q
-mul-sign (fin s m e) (inf t) p q = absurd q
-mul-sign (fin s m e) (fin t n d) p q = round-sign (unlike s t) (m * up e * (n * up d)) (down e * down d)
-
-div-sign : (x z : Float) → Whole (x ⊘ z) → Whole z → 0 < magnitude z → sign (x ⊘ z) ≡ unlike (sign x) (sign z)
-div-sign nan nan p q g = absurd q
-div-sign nan (inf t) p q g = absurd q
-div-sign nan (fin t n d) p q g = absurd (unfold div in p)
-div-sign (inf s) nan p q g = absurd q
-div-sign (inf s) (inf t) p q g = absurd q
-div-sign (inf s) (fin t n d) p q g = absurd (unfold div in p)
-div-sign (fin s m e) nan p q g = absurd q
-div-sign (fin s m e) (inf t) p q g = absurd q
-div-sign (fin s m e) (fin t n d) p q g = ap sign (div-open s t m e n d (magnitude-pos t n d q g)) ∙ round-sign (unlike s t) (m * up e * down d) (n * up d * down e)
+-- a finite quotient is one of a finite number
+dividend : (x z : Float) → Whole z → Whole (x ⊘ z) → T (finite x)
+unfolding div
+dividend nan z q r = r
+dividend (inf s) nan q r = q
+dividend (inf s) (inf t) q r = q
+dividend (inf s) (fin t n d) q r = r
+dividend (fin s m e) z q r = tt
 
 -- the parts of a number by its sign
 record Parts (s : Bool) (x : Float) : Type 0 where
@@ -81,7 +59,8 @@ module _ (j : ℕ) {y z : Float} {c d e f : ℕ} (Y : In y c d) (Z : In z e f) (
   scaled-sign x p r =
       let u = positive Y y0 in
       let v = positive Z z0 in
-      rw (div-sign (x ⊗ y) z r (Z .whole) (v .size), mul-sign x y p (Y .whole), u .plus, v .plus) (like (sign x))
+      let m = fits-whole (x ⊗ y) (dividend (x ⊗ y) z (Z .whole) r) (mul-fits binary32 x y) in
+      rw (rounded-sign (div-rounded (x ⊗ y) z m (Z .whole) (v .size)), rounded-sign (mul-rounded x y p (Y .whole)), u .plus, v .plus) (like (sign x))
     where
       like : (s : Bool) → unlike (unlike s false) false ≡ s
       like false = refl
@@ -136,13 +115,8 @@ shrinksInto a b a' b' = (shrinkable a limit && shrinkable limit b) && (leb a' (l
 
 shrunk-into : {x y z : Float} {a b : ℕ} (a' b' : ℕ) → Shrinks y z → In x a b → T (shrinksInto a b a' b') → In (x ⊗ y ⊘ z) a' b'
 shrunk-into {a = a} {b = b} a' b' S i t =
-    let t1 : Bool = shrinkable a limit in
-    let t2 : Bool = shrinkable limit b in
-    let t3 : Bool = leb a' (limit - (reach a limit * 1 + 11)) in
-    let t4 : Bool = leb (limit + (reach limit b * 1 + 11)) b' in
-    let s = and-l (t1 && t2) (t3 && t4) t in
-    let u = and-r (t1 && t2) (t3 && t4) t in
-    in-more a' b' (shrunk-in S i (and-l t1 t2 s) (and-r t1 t2 s)) (and-l t3 t4 u) (and-r t3 t4 u)
+    let s = and-four (shrinkable a limit) (shrinkable limit b) (leb a' (limit - (reach a limit * 1 + 11))) (leb (limit + (reach limit b * 1 + 11)) b') t in
+    in-more a' b' (shrunk-in S i (s .0) (s .1)) (s .2) (s .3)
 
 pub shrunk-placed : {above : ℕ} {r : Rect} {w h w' h' : Float} → Shrinks w w' → Shrinks h h' → Placed above margin r → T (shrinksInto (minus (above + margin)) (at (8192 + margin)) (minus (above + shrunkMargin)) (at (8192 + shrunkMargin)))
     → Placed above shrunkMargin (newOf (r .x ⊗ w ⊘ w') (r .y ⊗ h ⊘ h') (r .w ⊗ w ⊘ w') (r .h ⊗ h ⊘ h'))

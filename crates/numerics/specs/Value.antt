@@ -63,7 +63,7 @@ top = 2 ^ 166
 
 -- 2^17 in 256ths
 abbrev pub limit : ℕ
-limit = 33554432
+limit = 0x2000000
 
 -- x is finite, and n / 256 at most in size
 pub record AtMost (x : Float) (n : ℕ) : Type 0 where

@@ -3,7 +3,7 @@ use mathlib.Core.Path.{_≡_}
 use mathlib.Core.Logic.{inl, inr}
 use mathlib.Core.List.{List, map, foldl}
 use mathlib.Core.Bool.{Bool, not}
-use Prim.Native.Nat.{ℕ, _+_, _*_, _≤_, _<_}
+use Prim.Native.Nat.{ℕ, _+_, _-_, _*_, _/_, _≤_, _<_}
 use native.Mathlib.Omega.{arith}
 use lib.Dec.{T}
 use lib.Ieee.{Float, le}
@@ -18,14 +18,14 @@ use Rattle.numerics.specs.Lists.{each-imp, each-both, each-unmap, fold-ind, fol
 use Rattle.numerics.specs.Bounds.{Muls, sub-law, sub-most, mul-law, mul-most, div-law, div-most, most-more, le-law, max-ind, max-law, max-most, zero-most, zero-parts}
 use Rattle.numerics.specs.Literals.{f2}
 use Rattle.search.specs.Search.{bottomOf, bottoms, withinOf, narrowOf, widthAt, tryAt, centeredOf}
-use Rattle.search.proofs.Shapes.{corner, way, width, Shape, times-most, over-most, falls, stays}
+use Rattle.search.proofs.Shapes.{corner, way, width, left-end, Shape, times-most, over-most, falls, stays}
 use Rattle.search.proofs.Candidates.{Edge, Good, Under, within-low, within-high, zero-within, find-last}
 use Rattle.search.proofs.Widths.{Wide, first-most, first-wide, first-low, under-first, above-end, cut, Cuts, narrow-most, narrow-less, narrow-cuts, narrow-wide, Turn, turn, turn-ind}
 use Rattle.search.proofs.Clearance.{Obstacle, Misses, isLeft, isRight, isAbove, isBelow, Apart, left, right, narrow, flat, Found, none-found, bottoms-most, passed-below, thin-below, drop-most, drop-grows, drop-above}
 
 -- the middle of the area, and the way from it to an obstacle
 abbrev mid : ℕ
-mid = 1048577
+mid = maxArea / 2 + 1
 
 abbrev aside : ℕ
 aside = mid + corner + 1 + maxSide + 1
@@ -35,7 +35,7 @@ module _ (d : ℕ) (D : 0 < d) {a : Float} {p q : ℕ} (S : Shape a p q) {w h : 
   c = w ⊘ k2
 
   c-most : AtMost c mid
-  c-most = div-most 1048576 wm f2 tt tt
+  c-most = div-most (maxArea / 2) wm f2 tt tt
 
   c-law : Muls d c w 1 2
   c-law = div-law d wm f2 tt
@@ -216,7 +216,7 @@ module _ (d : ℕ) (D : 0 < d) {a : Float} {p q : ℕ} (S : Shape a p q) {w h : 
         let low : Wide d 0 z = narrow-wide d (skip y) (limit y) 0 os _ f (first-low d S hm ym wide-room) (lows ym) in
         record {
           inside = record {
-            xm = div-most 16698577 (sub-most wm zm tt) f2 tt tt;
+            xm = div-most (left-end - 1) (sub-most wm zm tt) f2 tt tt;
             ym = ym;
             wm = zm;
             hm = over-most S zm;

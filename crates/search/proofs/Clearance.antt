@@ -92,39 +92,43 @@ bottoms-most os e = (most-more zero-most edge tt, each-map Edge bottomOf os (eac
 pub rights-most : (os : List Rect) → Each Obstacle os → Each Edge (rights os)
 rights-most os e = (most-more zero-most edge tt, each-map Edge rightOf os (each-imp Obstacle (λ r. Edge (rightOf r)) (λ r o. right-most o) os e))
 
+-- on one axis: an obstacle from u on, s long, and a place y
+module _ (d : ℕ) {u s : Float} (um : AtMost u corner) (sm : AtMost s maxSide) where
+  passed : {y : Float} → Edge y → T (le (u ⊕ s) (y ⊕ k0·01)) → P d u + P d s + N d y ≤ P d y + N d u + N d s + E d * 5
+  passed {y} ym t =
+      omega (arith, le-law d (u ⊕ s) (y ⊕ k0·01) (add-most um sm tt .whole) (add-most ym hundredth-most tt .whole) t, add-law d um sm tt, add-law d ym hundredth-most tt, hundredth d)
+
+  -- an exact rectangle from Y0 on, H long, that lies past it
+  short : {h y : Float} → 0 < d → (H Y0 : ℕ) → AtMost h maxArea → Edge y → Y0 + H + N d h ≤ P d h → Le d k0 y → Under d Y0 h y (u ⊕ s)
+      → P d u + P d s + 0 ≤ Y0 + N d u + N d s + E d * 1 → T (not (le (u ⊕ s) (y ⊕ k0·01))) → H ≤ E d * 2
+  short D H Y0 hm ym tall low v l n =
+      let g : Good d Y0 (u ⊕ s) = omega (arith, add-law d um sm tt) in
+      omega (arith, escape d D hm Y0 ym (add-most um sm tt) low g v n)
+
 module _ (d : ℕ) (D : 0 < d) {a : Float} {p q : ℕ} (S : Shape a p q) {r : Rect} (o : Obstacle r) where
   -- ---- an obstacle that is passed over
   pub passed-below : {x y : Float} (w h : Float) → Edge y → T (le (bottomOf r) (y ⊕ k0·01)) → Apart d 5 (newOf x y w h) r
-  passed-below {x} {y} w h ym t =
-      below (omega (arith, le-law d (bottomOf r) (y ⊕ k0·01) (bottom-most o .whole) (add-most ym hundredth-most tt .whole) t, add-law d (o .y) (o .h) tt, add-law d ym hundredth-most tt, hundredth d))
+  passed-below w h ym t = below (passed d (o .y) (o .h) ym t)
 
   pub passed-right : {x y : Float} (w h : Float) → Edge x → T (le (rightOf r) (x ⊕ k0·01)) → Apart d 5 (newOf x y w h) r
-  passed-right {x} {y} w h xm t =
-      right (omega (arith, le-law d (rightOf r) (x ⊕ k0·01) (right-most o .whole) (add-most xm hundredth-most tt .whole) t, add-law d (o .x) (o .w) tt, add-law d xm hundredth-most tt, hundredth d))
+  passed-right w h xm t = right (passed d (o .x) (o .w) xm t)
 
   -- one that the exact rectangle is below, or right of, is passed over, unless the rectangle is thin
   pub thin-below : {h y : Float} (W H Y0 : ℕ) → AtMost h maxArea → Edge y → W * q ≡ H * p → Y0 + H + N d h ≤ P d h → Le d k0 y → Under d Y0 h y (bottomOf r)
       → P d (r .y) + P d (r .h) + 0 ≤ Y0 + N d (r .y) + N d (r .h) + E d * 1 → T (not (le (bottomOf r) (y ⊕ k0·01))) → W ≤ E d * 4
-  thin-below W H Y0 hm ym shape tall low u l n =
-      let g : Good d Y0 (bottomOf r) = omega (arith, add-law d (o .y) (o .h) tt) in
-      thin S W H (E d) shape (omega (arith, escape d D hm Y0 ym (bottom-most o) low g u n))
+  thin-below W H Y0 hm ym shape tall low u l n = thin S W H (E d) shape (short d (o .y) (o .h) D H Y0 hm ym tall low u l n)
 
   pub thin-right : {w x : Float} (W X0 : ℕ) → AtMost w maxArea → Edge x → X0 + W + N d w ≤ P d w → Le d k0 x → Under d X0 w x (rightOf r)
       → P d (r .x) + P d (r .w) + 0 ≤ X0 + N d (r .x) + N d (r .w) + E d * 1 → T (not (le (rightOf r) (x ⊕ k0·01))) → W ≤ E d * 4
-  thin-right W X0 wm xm broad low u l n =
-      let g : Good d X0 (rightOf r) = omega (arith, add-law d (o .x) (o .w) tt) in
-      omega (arith, escape d D wm X0 xm (right-most o) low g u n)
+  thin-right W X0 wm xm broad low u l n = omega (arith, short d (o .x) (o .w) D W X0 wm xm broad low u l n)
 
   -- ---- the height above an obstacle
   module _ {y : Float} (ym : Edge y) where
     pub drop-most : AtMost (r .y ⊖ y) way
     drop-most = sub-most (o .y) ym tt
 
-    pub drop-law : P d (r .y ⊖ y) + (N d (r .y) + P d y) ≤ N d (r .y ⊖ y) + (P d (r .y) + N d y) + E d
-    drop-law = sub-law d (o .y) ym tt .over
-
     pub drop-grows : (W H Y0 : ℕ) {t : Float} → AtMost t way → Le d (r .y ⊖ y) t → W * q ≡ H * p → Good d Y0 y → Y0 + H + N d (r .y) ≤ P d (r .y) + 0 + E d * 1 → W + N d (t ⊗ a) ≤ P d (t ⊗ a) + E d * 9
     drop-grows W H Y0 tm l shape good h = grows S d W H tm shape (omega (arith, sub-law d (o .y) ym tt))
 
     pub drop-above : {x z : Float} → AtMost z width → Le d z ((r .y ⊖ y) ⊗ a) → Apart d 5 (newOf x y z (z ⊘ a)) r
-    drop-above zm l = above (omega (arith, stays S d drop-most zm l, drop-law))
+    drop-above zm l = above (omega (arith, stays S d drop-most zm l, sub-law d (o .y) ym tt))

@@ -2,7 +2,7 @@
 use mathlib.Core.Path.{_≡_, refl, sym, ap, _∙_}
 use mathlib.Core.Logic.{_⊎_, inl, inr}
 use mathlib.Core.List.{List}
-use mathlib.Core.Bool.{Bool, true, false, not, _&&_, _||_, cond}
+use mathlib.Core.Bool.{Bool, true, not, _||_}
 use Prim.Native.Nat.{ℕ, _+_, _-_, _*_, _≤_, _<_}
 use native.Mathlib.Nat.{zero-lt-suc, le-refl, sub-add-cancel}
 use native.Mathlib.Omega.{arith}
@@ -10,9 +10,9 @@ use lib.Dec.{T, not-T}
 use lib.IntN.{ℤ, pos, negsuc, negℤ, _+ℤ_, _-ℤ_, _*ℤ_}
 use lib.Signed.{leZ, ltZ}
 use lib.Ieee.{Float, lt}
-use lib.Ieee.Fits.{and-l, and-r}
 use Rattle.float.specs.Float.{k0, k1}
 use Rattle.geometry.specs.declared.Rect.{Rect}
+use Rattle.geometry.specs.Choice.{by-test}
 use Rattle.numerics.specs.Value.{Whole, posPart, negPart, value, above, below, eps, P, N, E}
 use Rattle.numerics.specs.Rects.{WholeRect, Element, Area}
 use Rattle.numerics.specs.Each.{Each}
@@ -26,7 +26,17 @@ use Rattle.search.specs.Widest.{Exact, over, rightEdge, lowerEdge, meets
 use Rattle.search.proofs.Shapes.{Shape}
 use Rattle.search.proofs.Clearance as O
 use Rattle.search.proofs.Clearance.{Misses, isLeft, isRight, isAbove, isBelow, Apart, narrow, flat}
-use Rattle.search.proofs.Placement.{one-fails, obstacles-fair, centred-width, the-game, game-apart, game-wide}
+use Rattle.search.proofs.Placement.{all-four, one-fails, obstacles-fair, centred-width, the-game, game-apart, game-wide}
+
+-- ---- the numbers of a rectangle over d
+abbrev Scaled : ℕ → Float → Type 0
+Scaled d x = (above (value x *ℤ pos d) ≡ P d x) × (below (value x *ℤ pos d) ≡ N d x)
+
+scaled-rect : (d : ℕ) (r : Rect) → WholeRect r → Scaled d (r .x) × Scaled d (r .y) × Scaled d (r .w) × Scaled d (r .h)
+scaled-rect d r n = (scaled-parts d (r .x) (n .x), scaled-parts d (r .y) (n .y), scaled-parts d (r .w) (n .w), scaled-parts d (r .h) (n .h))
+
+element-whole : {e : Rect} → Element e → WholeRect e
+element-whole f = record { x = f .x .whole; y = f .y .whole; w = f .w .whole; h = f .h .whole }
 
 -- ---- a rectangle that does not meet an element misses it
 above-zero : (a : ℤ) → T (ltZ (pos 0) a) → below a ≡ 0
@@ -36,46 +46,27 @@ above-zero (negsuc a) t = absurd t
 missed : (d : ℕ) (r : Exact) (e : Rect) → Element e → below (r .w) ≡ 0 → below (r .h) ≡ 0 → T (not (meets r (over d e))) → Misses d 0 (above (r .x)) (below (r .x)) (above (r .y)) (below (r .y)) (above (r .w)) (above (r .h)) e
 missed d r e f w0 h0 t =
     let o = over d e in
-    let x = scaled-parts d (e .x) (f .x .whole) in
-    let y = scaled-parts d (e .y) (f .y .whole) in
-    let w = scaled-parts d (e .w) (f .w .whole) in
-    let h = scaled-parts d (e .h) (f .h .whole) in
+    let s = scaled-rect d e (element-whole f) in
     one-fails (ltZ (r .x) (rightEdge o)) (ltZ (o .x) (rightEdge r)) (ltZ (r .y) (lowerEdge o)) (ltZ (o .y) (lowerEdge r))
-    (λ k. isRight (omega (arith, nlt-parts (r .x) (rightEdge o) k, add-parts (o .x) (o .w), x, w)))
-    (λ k. isLeft (omega (arith, nlt-parts (o .x) (rightEdge r) k, add-parts (r .x) (r .w), x, w0)))
-    (λ k. isBelow (omega (arith, nlt-parts (r .y) (lowerEdge o) k, add-parts (o .y) (o .h), y, h)))
-    (λ k. isAbove (omega (arith, nlt-parts (o .y) (lowerEdge r) k, add-parts (r .y) (r .h), y, h0)))
+    (λ k. isRight (omega (arith, nlt-parts (r .x) (rightEdge o) k, add-parts (o .x) (o .w), s)))
+    (λ k. isLeft (omega (arith, nlt-parts (o .x) (rightEdge r) k, add-parts (r .x) (r .w), s, w0)))
+    (λ k. isBelow (omega (arith, nlt-parts (r .y) (lowerEdge o) k, add-parts (o .y) (o .h), s)))
+    (λ k. isAbove (omega (arith, nlt-parts (o .y) (lowerEdge r) k, add-parts (r .y) (r .h), s, h0)))
     t
 
 -- ---- how far two rectangles meet, on one axis: from c to a, and from d to b
 module _ (a b : ℤ) where
   lesser-first : above (lesser a b) + below a ≤ above a + below (lesser a b)
-  lesser-first = go (leZ a b) (nle-parts a b)
-    where
-      go : (t : Bool) → (T (not t) → above b + below a ≤ above a + below b) → above (cond t a b) + below a ≤ above a + below (cond t a b)
-      go true h = le-refl (above a + below a)
-      go false h = h tt
+  lesser-first = by-test (λ z. above z + below a ≤ above a + below z) (leZ a b) (λ t. le-refl (above a + below a)) (nle-parts a b)
 
   lesser-second : above (lesser a b) + below b ≤ above b + below (lesser a b)
-  lesser-second = go (leZ a b) (le-parts a b)
-    where
-      go : (t : Bool) → (T t → above a + below b ≤ above b + below a) → above (cond t a b) + below b ≤ above b + below (cond t a b)
-      go true h = h tt
-      go false h = le-refl (above b + below b)
+  lesser-second = by-test (λ z. above z + below b ≤ above b + below z) (leZ a b) (le-parts a b) (λ t. le-refl (above b + below b))
 
   greater-first : above a + below (greater a b) ≤ above (greater a b) + below a
-  greater-first = go (leZ a b) (le-parts a b)
-    where
-      go : (t : Bool) → (T t → above a + below b ≤ above b + below a) → above a + below (cond t b a) ≤ above (cond t b a) + below a
-      go true h = h tt
-      go false h = le-refl (above a + below a)
+  greater-first = by-test (λ z. above a + below z ≤ above z + below a) (leZ a b) (le-parts a b) (λ t. le-refl (above a + below a))
 
   greater-second : above b + below (greater a b) ≤ above (greater a b) + below b
-  greater-second = go (leZ a b) (nle-parts a b)
-    where
-      go : (t : Bool) → (T (not t) → above b + below a ≤ above a + below b) → above b + below (cond t b a) ≤ above (cond t b a) + below b
-      go true h = le-refl (above b + below b)
-      go false h = h tt
+  greater-second = by-test (λ z. above b + below z ≤ above z + below b) (leZ a b) (λ t. le-refl (above b + below b)) (nle-parts a b)
 
 module _ (a b c d : ℤ) (s : ℕ) where
   meet-by : above (lesser a b) + below (greater c d) ≤ above (greater c d) + below (lesser a b) + s → T (leZ (lesser a b -ℤ greater c d) (pos s))
@@ -110,31 +101,19 @@ module _ {e g : Rect} (f : Element e) (n : WholeRect g) where
   abbrev down : Bool
   down = leZ (meetDown og oe) (pos sixteenth)
 
-  sx : (above (og .x) ≡ P 1 (g .x)) × (below (og .x) ≡ N 1 (g .x))
-  sx = scaled-parts 1 (g .x) (n .x)
+  here : Scaled 1 (g .x) × Scaled 1 (g .y) × Scaled 1 (g .w) × Scaled 1 (g .h)
+  here = scaled-rect 1 g n
 
-  sy : (above (og .y) ≡ P 1 (g .y)) × (below (og .y) ≡ N 1 (g .y))
-  sy = scaled-parts 1 (g .y) (n .y)
-
-  sw : (above (og .w) ≡ P 1 (g .w)) × (below (og .w) ≡ N 1 (g .w))
-  sw = scaled-parts 1 (g .w) (n .w)
-
-  sh : (above (og .h) ≡ P 1 (g .h)) × (below (og .h) ≡ N 1 (g .h))
-  sh = scaled-parts 1 (g .h) (n .h)
+  there : Scaled 1 (e .x) × Scaled 1 (e .y) × Scaled 1 (e .w) × Scaled 1 (e .h)
+  there = scaled-rect 1 e (element-whole f)
 
   apart-meets : Apart 1 16 g e → T (across || down)
-  apart-meets (O.left l) =
-      or-l across down (meet-before (rightEdge og) (rightEdge oe) (og .x) (oe .x) sixteenth (omega (arith, add-parts (og .x) (og .w), sx, sw, scaled-parts 1 (e .x) (f .x .whole), sixteen)))
-  apart-meets (O.right l) =
-      or-l across down (meet-after (rightEdge og) (rightEdge oe) (og .x) (oe .x) sixteenth (omega (arith, add-parts (oe .x) (oe .w), sx, scaled-parts 1 (e .w) (f .w .whole), scaled-parts 1 (e .x) (f .x .whole), sixteen)))
-  apart-meets (O.narrow l) =
-      or-l across down (meet-thin (rightEdge og) (rightEdge oe) (og .x) (oe .x) sixteenth (omega (arith, add-parts (og .x) (og .w), sw, sixteen)))
-  apart-meets (O.above l) =
-      or-r across down (meet-before (lowerEdge og) (lowerEdge oe) (og .y) (oe .y) sixteenth (omega (arith, add-parts (og .y) (og .h), sy, sh, scaled-parts 1 (e .y) (f .y .whole), sixteen)))
-  apart-meets (O.below l) =
-      or-r across down (meet-after (lowerEdge og) (lowerEdge oe) (og .y) (oe .y) sixteenth (omega (arith, add-parts (oe .y) (oe .h), sy, scaled-parts 1 (e .h) (f .h .whole), scaled-parts 1 (e .y) (f .y .whole), sixteen)))
-  apart-meets (O.flat l) =
-      or-r across down (meet-thin (lowerEdge og) (lowerEdge oe) (og .y) (oe .y) sixteenth (omega (arith, add-parts (og .y) (og .h), sh, sixteen)))
+  apart-meets (O.left l) = or-l across down (meet-before (rightEdge og) (rightEdge oe) (og .x) (oe .x) sixteenth (omega (arith, add-parts (og .x) (og .w), here, there, sixteen)))
+  apart-meets (O.right l) = or-l across down (meet-after (rightEdge og) (rightEdge oe) (og .x) (oe .x) sixteenth (omega (arith, add-parts (oe .x) (oe .w), here, there, sixteen)))
+  apart-meets (O.narrow l) = or-l across down (meet-thin (rightEdge og) (rightEdge oe) (og .x) (oe .x) sixteenth (omega (arith, add-parts (og .x) (og .w), here, sixteen)))
+  apart-meets (O.above l) = or-r across down (meet-before (lowerEdge og) (lowerEdge oe) (og .y) (oe .y) sixteenth (omega (arith, add-parts (og .y) (og .h), here, there, sixteen)))
+  apart-meets (O.below l) = or-r across down (meet-after (lowerEdge og) (lowerEdge oe) (og .y) (oe .y) sixteenth (omega (arith, add-parts (oe .y) (oe .h), here, there, sixteen)))
+  apart-meets (O.flat l) = or-r across down (meet-thin (lowerEdge og) (lowerEdge oe) (og .y) (oe .y) sixteenth (omega (arith, add-parts (og .y) (og .h), here, sixteen)))
 
 -- ---- the width's bound, back in whole numbers
 bound-go : (W za na zv nv s ε d : ℕ) → za + nv + 0 ≡ na + zv + s → ε * 16 ≡ s → W + nv * d ≤ zv * d + ε * d * 10 → W + na * d ≤ za * d + 0
@@ -178,17 +157,8 @@ module _ {b : Rect} (B : Area b) {a : Float} {p q : ℕ} (S : Shape a p q) (es :
     abbrev o : Exact
     o = over d b
 
-    ax : (above (o .x) ≡ P d (b .x)) × (below (o .x) ≡ N d (b .x))
-    ax = scaled-parts d (b .x) (B .x .whole)
-
-    ay : (above (o .y) ≡ P d (b .y)) × (below (o .y) ≡ N d (b .y))
-    ay = scaled-parts d (b .y) (B .y .whole)
-
-    aw : (above (o .w) ≡ P d (b .w)) × (below (o .w) ≡ N d (b .w))
-    aw = scaled-parts d (b .w) (B .w .whole)
-
-    ah : (above (o .h) ≡ P d (b .h)) × (below (o .h) ≡ N d (b .h))
-    ah = scaled-parts d (b .h) (B .h .whole)
+    area : Scaled d (b .x) × Scaled d (b .y) × Scaled d (b .w) × Scaled d (b .h)
+    area = scaled-rect d b (record { x = B .x .whole; y = B .y .whole; w = B .w .whole; h = B .h .whole })
 
     w0 : below (r .w) ≡ 0
     w0 = above-zero (r .w) (R .wide)
@@ -196,35 +166,26 @@ module _ {b : Rect} (B : Area b) {a : Float} {p q : ℕ} (S : Shape a p q) (es :
     h0 : below (r .h) ≡ 0
     h0 = above-zero (r .h) (R .high)
 
-    abbrev t1 : Bool
-    t1 = leZ (o .x) (r .x)
-
-    abbrev t2 : Bool
-    t2 = leZ (rightEdge r) (rightEdge o)
-
-    abbrev t3 : Bool
-    t3 = leZ (o .y) (r .y)
-
-    abbrev t4 : Bool
-    t4 = leZ (lowerEdge r) (lowerEdge o)
+    sides : T (leZ (o .x) (r .x)) × T (leZ (rightEdge r) (rightEdge o)) × T (leZ (o .y) (r .y)) × T (leZ (lowerEdge r) (lowerEdge o))
+    sides = all-four (leZ (o .x) (r .x)) (leZ (rightEdge r) (rightEdge o)) (leZ (o .y) (r .y)) (leZ (lowerEdge r) (lowerEdge o)) (R .within)
 
     in-left : above (o .x) + below (r .x) ≤ above (r .x) + below (o .x)
-    in-left = le-parts (o .x) (r .x) (and-l t1 (t2 && (t3 && t4)) (R .within))
+    in-left = le-parts (o .x) (r .x) (sides .0)
 
     in-right : above (rightEdge r) + below (rightEdge o) ≤ above (rightEdge o) + below (rightEdge r)
-    in-right = le-parts (rightEdge r) (rightEdge o) (and-l t2 (t3 && t4) (and-r t1 (t2 && (t3 && t4)) (R .within)))
+    in-right = le-parts (rightEdge r) (rightEdge o) (sides .1)
 
     in-top : above (o .y) + below (r .y) ≤ above (r .y) + below (o .y)
-    in-top = le-parts (o .y) (r .y) (and-l t3 t4 (and-r t2 (t3 && t4) (and-r t1 (t2 && (t3 && t4)) (R .within))))
+    in-top = le-parts (o .y) (r .y) (sides .2)
 
     in-bottom : above (lowerEdge r) + below (lowerEdge o) ≤ above (lowerEdge o) + below (lowerEdge r)
-    in-bottom = le-parts (lowerEdge r) (lowerEdge o) (and-r t3 t4 (and-r t2 (t3 && t4) (and-r t1 (t2 && (t3 && t4)) (R .within))))
+    in-bottom = le-parts (lowerEdge r) (lowerEdge o) (sides .3)
 
     -- X0 and Y0 are the rival's corner in the area's frame
     module _ (X0 Y0 : ℕ) (ex : X0 + (below (r .x) + P d (b .x)) ≡ above (r .x) + N d (b .x)) (ey : Y0 + (below (r .y) + P d (b .y)) ≡ above (r .y) + N d (b .y)) where
       placing : (middle r ≡ middle o) ⊎ (value found ≡ pos 0) → (X0 + X0 + above (r .w) + N d (b .w) ≡ P d (b .w)) ⊎ T (not (lt k0 found))
       placing (inl e) =
-          inl (omega (arith, eq-parts (middle r) (middle o) e, add-parts (r .x) (r .x), add-parts (r .x +ℤ r .x) (r .w), add-parts (o .x) (o .x), add-parts (o .x +ℤ o .x) (o .w), ax, aw, w0))
+          inl (omega (arith, eq-parts (middle r) (middle o) e, add-parts (r .x) (r .x), add-parts (r .x +ℤ r .x) (r .w), add-parts (o .x) (o .x), add-parts (o .x +ℤ o .x) (o .w), area, w0))
       placing (inr e) = inr (no-width found found-whole e)
 
       shape : above (r .w) * q ≡ above (r .h) * p
@@ -235,15 +196,15 @@ module _ {b : Rect} (B : Area b) {a : Float} {p q : ℕ} (S : Shape a p q) (es :
           bound d (game .w) (r .w) (the-game B S es F offset ox oy d D .finite .w) w0
           (game-wide B S es F offset ox oy d D X0 Y0 (above (r .x)) (below (r .x)) (above (r .y)) (below (r .y)) (above (r .w)) (above (r .h))
           (omega arith) (omega arith) shape
-          (omega (arith, in-right, add-parts (r .x) (r .w), add-parts (o .x) (o .w), ax, aw, w0))
-          (omega (arith, in-bottom, add-parts (r .y) (r .h), add-parts (o .y) (o .h), ay, ah, h0))
+          (omega (arith, in-right, add-parts (r .x) (r .w), add-parts (o .x) (o .w), area, w0))
+          (omega (arith, in-bottom, add-parts (r .y) (r .h), add-parts (o .y) (o .h), area, h0))
           (each-imp _ _ (λ e k. (k .0, missed d r e (k .0) w0 h0 (k .1))) es (each-both _ _ es F (R .clear)))
           (placing (R .centred)))
 
     rival : T (leZ (r .w) ((value (game .w) +ℤ pos sixteenth) *ℤ pos d))
     rival =
         rival-at (above (r .x) + N d (b .x) - (below (r .x) + P d (b .x))) (above (r .y) + N d (b .y) - (below (r .y) + P d (b .y)))
-        (sub-add-cancel (omega (arith, in-left, ax))) (sub-add-cancel (omega (arith, in-top, ay)))
+        (sub-add-cancel (omega (arith, in-left, area))) (sub-add-cancel (omega (arith, in-top, area)))
 
   pub game-widest : Widest p q es b found game
   game-widest =

@@ -1,5 +1,5 @@
 -- The game over elements and area as they stand on the screen: the obstacles moved into the area's frame, the picture found, and the game placed in it. Bounds in 256ths.
-use mathlib.Core.Path.{_≡_, refl, subst}
+use mathlib.Core.Path.{_≡_, refl, sym, ap}
 use mathlib.Core.Logic.{_⊎_, inl, inr}
 use mathlib.Core.List.{List, [], _∷_}
 use mathlib.Core.Bool.{Bool, true, false, not, _&&_, cond}
@@ -7,17 +7,19 @@ use Prim.Native.Nat.{ℕ, _+_, _*_, _≤_, _<_}
 use native.Mathlib.Omega.{arith}
 use lib.Dec.{T, lit≤}
 use lib.Ieee.{Float, lt, eq, sub, ofBits}
+use lib.Ieee.Fits.{and-l, and-r}
 use Rattle.float.specs.Float.{_⊕_, _⊖_, _⊗_, _⊘_, k0, k0·01, k0·25, k1, k3, k4}
 use Rattle.float.specs.MinMax.{clampOf}
 use Rattle.geometry.specs.declared.Rect.{Rect}
 use Rattle.geometry.specs.Rect.{newOf, overlapsOf}
+use Rattle.geometry.specs.Choice.{either, by-test}
 use Rattle.layout.specs.Lists.{filterMap}
 use Rattle.numerics.specs.Value.{Whole, magnitude, posPart, negPart, eps, AtMost, P, N, E}
 use Rattle.numerics.specs.Rects.{WholeRect, Element, Area}
 use Rattle.numerics.specs.Each.{Each}
 use Rattle.numerics.specs.Operations.{zero-times, times-zero}
 use Rattle.numerics.specs.Bounds.{add-law, add-most, sub-law, sub-most, mul-law, mul-most, most-size, lt-not}
-use Rattle.numerics.specs.Ranges.{range-most, clamp-whole-in}
+use Rattle.numerics.specs.Ranges.{and-three, range-most, clamp-whole-in}
 use Rattle.numerics.specs.Literals.{i0, i1, f1, hundredth-most, hundredth}
 use Rattle.search.specs.declared.Offset.{Offset}
 use Rattle.search.specs.Search.{centeredOf, sideOf, clearPictureAspectOf, obstaclesOf, gameOf}
@@ -31,11 +33,7 @@ use Rattle.search.proofs.SideSearch.{side-widest, side-found}
 module _ {A B : Type 0} (p : A → Bool) (f : A → B) (C : A → Type 0) where
   pub each-filter : (D : B → Type 0) → ((x : A) → C x → D (f x)) → (xs : List A) → Each C xs → Each D (filterMap p f xs)
   each-filter D g [] e = tt
-  each-filter D g (x ∷ xs) e = go (p x) (each-filter D g xs (e .1))
-    where
-      go : (b : Bool) → Each D (filterMap p f xs) → Each D (cond b (f x ∷ filterMap p f xs) (filterMap p f xs))
-      go true k = (g x (e .0), k)
-      go false k = k
+  each-filter D g (x ∷ xs) e = let k = each-filter D g xs (e .1) in either (Each D) (p x) (g x (e .0), k) k
 
   each-unfilter : (D : B → Type 0) (Q : A → Type 0) → ((x : A) → C x → D (f x) → Q x) → ((x : A) → C x → T (not (p x)) → Q x) → (xs : List A) → Each C xs → Each D (filterMap p f xs) → Each Q xs
   each-unfilter D Q g n [] e k = tt
@@ -94,11 +92,7 @@ module _ {b : Rect} (B : Area b) where
 
     pub picture-found : Found d (b .w) (b .h) os picture
     unfolding clearPictureAspectOf
-    picture-found = go (lt k0 (centered .w))
-      where
-        go : (t : Bool) → Found d (b .w) (b .h) os (cond t centered side)
-        go true = centred-found d D S (B .w) (B .h) (B .w0) (B .h0) os F
-        go false = side-found d D S (B .w) (B .h) (B .w0) (B .h0) os F
+    picture-found = either (Found d (b .w) (b .h) os) (lt k0 (centered .w)) (centred-found d D S (B .w) (B .h) (B .w0) (B .h0) os F) (side-found d D S (B .w) (B .h) (B .w0) (B .h0) os F)
 
 -- ---- the game in the picture g, for a scale s and offsets ox, oy
 abbrev placed : Rect → Rect → Float → Float → Float → Rect
@@ -108,17 +102,13 @@ pub game-is : {a : Float} {p q : ℕ} → Shape a p q → (es : List Rect) (b : 
     → gameOf es b factor offset a
     ≡ placed b (clearPictureAspectOf (b .w) (b .h) (obstaclesOf b es) a) (clampOf factor k0·25 k1) (clampOf (offset .x) k0 k1) (clampOf (offset .y) k0 k1)
 unfolding gameOf
-game-is {a} S es b factor offset = go (eq a (k4 ⊘ k3)) (S .same)
+game-is {a} S es b factor offset = by-test (λ g. put g ≡ put (clear a)) (eq a (k4 ⊘ k3)) (λ t. ap (λ z. put (clear z)) (sym (S .same t))) (λ t. refl)
   where
     clear : Float → Rect
     clear = clearPictureAspectOf (b .w) (b .h) (obstaclesOf b es)
 
     put : Rect → Rect
     put g = placed b g (clampOf factor k0·25 k1) (clampOf (offset .x) k0 k1) (clampOf (offset .y) k0 k1)
-
-    go : (t : Bool) → (T t → a ≡ k4 ⊘ k3) → put (cond t (clear (k4 ⊘ k3)) (clear a)) ≡ put (clear a)
-    go true e = subst (λ (z : Float). put (clear z) ≡ put (clear a)) (e tt) refl
-    go false e = refl
 
 offset-in : (x : Float) → Whole x → AtMost (clampOf x k0 k1) 256
 offset-in x p = range-most 256 (clamp-whole-in x p i0 i1) tt
@@ -164,6 +154,9 @@ game-law d {b} {g} ox oy B I p q =
     }
 
 -- ---- an element that the search saw, and one that it did not
+pub all-four : (s t u v : Bool) → T (s && (t && (u && v))) → T s × T t × T u × T v
+all-four s t u v h = let k = and-three s t (u && v) h in (k .0, k .1, and-l u v (k .2), and-r u v (k .2))
+
 -- of four tests that do not all pass, one fails
 pub one-fails : (s t u v : Bool) {C : Type 0} → (T (not s) → C) → (T (not t) → C) → (T (not u) → C) → (T (not v) → C) → T (not (s && (t && (u && v)))) → C
 one-fails true true true true i j k l h = absurd h

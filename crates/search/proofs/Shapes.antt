@@ -1,6 +1,6 @@
 -- The two shapes of a picture, the sizes of all numbers in the search, in 256ths, and what a product or quotient by the f32 of a shape does.
 use mathlib.Core.Path.{_≡_, refl, ap}
-use Prim.Native.Nat.{ℕ, _+_, _*_, _≤_, _<_}
+use Prim.Native.Nat.{ℕ, _+_, _-_, _*_, _/_, _≤_, _<_}
 use native.Mathlib.Nat.{mul-le-mul-left, mul-le-mul-right, le-of-mul-le-mul-right, mul-pos}
 use native.Mathlib.Omega.{arith}
 use lib.Dec.{T, ltb, le→leb, lt→ltb, lit≤}
@@ -26,7 +26,7 @@ width = 31300000
 
 -- the left end of a centred picture
 abbrev pub left-end : ℕ
-left-end = 16698578
+left-end = (maxArea + width) / 2 + 2
 
 -- p to q is the exact shape, and a the f32 that stands for it: a fraction from 1 to 2, and p / q at least
 pub record Shape (a : Float) (p q : ℕ) : Type 0 where
@@ -42,10 +42,10 @@ pub record Shape (a : Float) (p q : ℕ) : Type 0 where
   pub same : T (eq a (k4 ⊘ k3)) → a ≡ k4 ⊘ k3
 
 pub standard-shape : Shape (k4 ⊘ k3) 4 3
-standard-shape = record { num = 11184811; den = 8388608; is = f4/3; least = lit≤ tt; half = lit≤ tt; some = lit≤ tt; one = lit≤ tt; two = lit≤ tt; room = lit≤ tt; same = λ t. refl }
+standard-shape = record { num = 0xaaaaab; den = 0x800000; is = f4/3; least = lit≤ tt; half = lit≤ tt; some = lit≤ tt; one = lit≤ tt; two = lit≤ tt; room = lit≤ tt; same = λ t. refl }
 
 pub psp-shape : Shape (k480 ⊘ k272) 480 272
-psp-shape = record { num = 7401713; den = 4194304; is = f480/272; least = lit≤ tt; half = lit≤ tt; some = lit≤ tt; one = lit≤ tt; two = lit≤ tt; room = lit≤ tt; same = λ t. absurd (unfold eq div ofBits in t) }
+psp-shape = record { num = 0x70f0f1; den = 0x400000; is = f480/272; least = lit≤ tt; half = lit≤ tt; some = lit≤ tt; one = lit≤ tt; two = lit≤ tt; room = lit≤ tt; same = λ t. absurd (unfold eq div ofBits in t) }
 
 -- ---- the laws over variables; x, r, w, g are values, e is 1/256
 thin-go : (W H e p q : ℕ) → 0 < q → p ≤ q * 2 → W * q ≡ H * p → H ≤ e * 2 → W ≤ e * 4
@@ -99,7 +99,7 @@ module _ {a : Float} {p q : ℕ} (S : Shape a p q) where
   div-room = lt→ltb (width * B) (limit * A) (let k = S .one in let l = S .is .above in omega arith)
 
   pub times-most : {x : Float} → AtMost x way → AtMost (x ⊗ a) width
-  times-most f = mul-most 31299999 f (S .is) mul-room (le→leb (way * A) (31299999 * B) (let k = S .room in omega arith))
+  times-most f = mul-most (width - 1) f (S .is) mul-room (le→leb (way * A) ((width - 1) * B) (let k = S .room in omega arith))
 
   pub over-most : {w : Float} → AtMost w width → AtMost (w ⊘ a) (width + 1)
   over-most f = div-most width f (S .is) div-room (le→leb (width * B) (width * A) (let k = S .one in omega arith))

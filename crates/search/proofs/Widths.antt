@@ -13,6 +13,7 @@ use Rattle.float.specs.Float.{_⊖_, _⊗_, _⊘_, k0}
 use Rattle.float.specs.MinMax.{minOf, maxOf}
 use Rattle.geometry.specs.declared.Rect.{Rect}
 use Rattle.geometry.specs.Rect.{newOf}
+use Rattle.geometry.specs.Choice.{either, by-test}
 use Rattle.numerics.specs.Value.{AtMost, P, N, E, Le}
 use Rattle.numerics.specs.Rects.{maxArea}
 use Rattle.numerics.specs.Each.{Each}
@@ -82,11 +83,9 @@ module _ (d : ℕ) (skip : Rect → Bool) (limit : Rect → Float) where
     pub cuts : Cuts z r
 
   cut-law : (v : Float) (r : Rect) → AtMost v width → Limited r → Cut v (cut v r) r
-  cut-law v r f g = go (skip r) (λ t. t)
-    where
-      go : (b : Bool) → (T b → T (skip r)) → Cut v (cond b v (minOf v (limit r))) r
-      go true t = record { most = f; less = le-refl (P d v + N d v); cuts = inl (t tt) }
-      go false t = let m = min-law d v (limit r) (f .whole) (g .whole) in record { most = min-most f g; less = m .first; cuts = inr (m .second) }
+  cut-law v r f g =
+      let m = min-law d v (limit r) (f .whole) (g .whole) in
+      by-test (λ z. Cut v z r) (skip r) (λ t. record { most = f; less = le-refl (P d v + N d v); cuts = inl t }) (λ t. record { most = min-most f g; less = m .first; cuts = inr (m .second) })
 
   cuts-less : (v z : Float) (r : Rect) → Le d z v → Cuts v r → Cuts z r
   cuts-less v z r l (inl t) = inl t
@@ -110,11 +109,7 @@ module _ (d : ℕ) (skip : Rect → Bool) (limit : Rect → Float) where
       fold-ind (λ z. AtMost z width × Wide d W z) (λ r. Limited r × (T (not (skip r)) → Wide d W (limit r))) cut (λ z r f g. (cut-law z r (f .0) (g .0) .most, one z r f g)) os v (vm, vw) e .1
     where
       one : (z : Float) (r : Rect) → AtMost z width × Wide d W z → Limited r × (T (not (skip r)) → Wide d W (limit r)) → Wide d W (cut z r)
-      one z r f g = go (skip r) (g .1)
-        where
-          go : (b : Bool) → (T (not b) → Wide d W (limit r)) → Wide d W (cond b z (minOf z (limit r)))
-          go true k = f .1
-          go false k = min-ind d z (limit r) (f .0 .whole) (g .0 .whole) (Wide d W) (λ l. f .1) (λ l. k tt)
+      one z r f g = by-test (Wide d W) (skip r) (λ t. f .1) (λ t. min-ind d z (limit r) (f .0 .whole) (g .0 .whole) (Wide d W) (λ l. f .1) (λ l. g .1 t))
 
 -- ---- the choice of the wider picture, at a place that is a candidate if ok
 pub record Turn (d : ℕ) (best next : Rect) (ok : Bool) (v : Float) : Type 0 where
@@ -142,9 +137,4 @@ turn d best x y v a ok bm vm = go ok (lt (best .w) v || (eq v (best .w) && lt y 
 -- what holds of both pictures holds of the one chosen
 pub turn-ind : (C : Rect → Type 0) (best : Rect) (x y v a : Float) (ok : Bool) → C best → (T ok → C (newOf x y v (v ⊘ a))) → C (cond ok (betterOf best x y v a) best)
 unfolding betterOf
-turn-ind C best x y v a ok c n = go ok (lt (best .w) v || (eq v (best .w) && lt y (best .y))) n
-  where
-    go : (ok b : Bool) → (T ok → C (newOf x y v (v ⊘ a))) → C (cond ok (cond b (newOf x y v (v ⊘ a)) best) best)
-    go true true n = n tt
-    go true false n = c
-    go false b n = c
+turn-ind C best x y v a ok c n = by-test C ok (λ t. either C (lt (best .w) v || (eq v (best .w) && lt y (best .y))) (n t) c) (λ t. c)

@@ -1,14 +1,15 @@
 -- The toolbar's keys are in range: `anchor_toolbar` keeps a layout in range.
 use mathlib.Core.Path.{_≡_, refl}
 use mathlib.Core.Bool.{Bool, true, false, cond, not, _&&_}
-use mathlib.Core.List.{List, [], _∷_, _++_, map}
+use mathlib.Core.List.{List, [], _∷_, map}
 use Prim.Native.Nat.{ℕ, zero, suc, _+_, _≤_}
 use lib.Dec.{T}
 use lib.Ieee.{Float, lt, le, ofBits}
-use lib.Ieee.Fits.{and-l, and-r}
+use lib.Ieee.Fits.{and-l}
 use lib.ListN.{length}
 use Rattle.float.specs.Float.{_⊕_, _⊖_, _⊘_, k0, k0·01, k2, k8, k320}
 use Rattle.geometry.specs.declared.Rect.{Rect}
+use Rattle.geometry.specs.Choice.{either, by-test}
 use Rattle.geometry.specs.Rect.{overlapsOf}
 use Rattle.layout.specs.declared.Layout.{Layout}
 use Rattle.layout.specs.Layout.{elementOf, stickList, boundsOf}
@@ -20,10 +21,11 @@ use Rattle.numerics.specs.Range.{In, at, minus}
 use Rattle.numerics.specs.Each.{Each, _&_}
 use Rattle.numerics.specs.Lists.{each-take, each-append}
 use Rattle.numerics.specs.Bounds.{lt-law}
-use Rattle.numerics.specs.Ranges.{in-reach, in-more, most-in, add-in, sub-in, sub-back, times-in, mul-in, div-in, min-in, max-in, clamp-in, cond-in, neg-in, raise, moved-in, placed-in}
+use Rattle.numerics.specs.Ranges.{and-three, in-reach, in-more, most-in, add-in, sub-in, sub-back, times-in, mul-in, div-in, min-in, max-in, clamp-in, cond-in, neg-in, raise, moved-in, placed-in}
 use Rattle.numerics.specs.Products.{product-most}
 use Rattle.numerics.specs.Literals.{i0, i0·01, i1, i1·4, i8, i18, i28, i40, f0·01, f0·055, f2, f3, f4}
 use Rattle.search.specs.Bounded.{Every, Bounded}
+use Rattle.search.proofs.Placement.{all-four}
 use Rattle.search.proofs.Layouts.{bounds-in}
 use Rattle.toolbar.specs.Toolbar.{besideOf, roomOf, belowOf, moved, pass, pairOf, avoidedOf, anchorToolbarOf}
 
@@ -31,11 +33,7 @@ use Rattle.toolbar.specs.Toolbar.{besideOf, roomOf, belowOf, moved, pass
 module _ {A B : Type 0} (C : B → Type 0) (D : A → Type 0) (p : A → Bool) (hit : A → B) (none : B) (found : (x : A) → D x → T (p x) → C (hit x)) (otherwise : C none) where
   find-ind : (xs : List A) → Each D xs → C (find p hit none xs)
   find-ind [] e = otherwise
-  find-ind (x ∷ xs) e = go (p x) (found x (e .0)) (find-ind xs (e .1))
-    where
-      go : (b : Bool) → (T b → C (hit x)) → C (find p hit none xs) → C (cond b (hit x) (find p hit none xs))
-      go true f k = f tt
-      go false f k = k
+  find-ind (x ∷ xs) e = by-test C (p x) (found x (e .0)) (λ t. find-ind xs (e .1))
 
 -- ---- the bar of a pair of keys
 record BarIn (bar : Rect) : Type 0 where
@@ -51,20 +49,15 @@ module _ (left : Bool) {w h : Float} (W : In w (at 0) (at 8192)) (H : In h (at 0
   beside-in bar c B E t =
       let x = most-in (E .x) tt in
       let s : Float = cond left (c .x ⊕ c .w ⊕ k8) (c .x ⊖ bar .w ⊖ k8) in
-      let t2 : Bool = le (s ⊕ bar .w) w in
-      let t3 : Bool = cond left (le (s ⊕ bar .w) (w ⊘ k2)) (le (w ⊘ k2) s) in
+      let r = and-three (le k0 s) (le (s ⊕ bar .w) w) (cond left (le (s ⊕ bar .w) (w ⊘ k2)) (le (w ⊘ k2) s)) t in
       let shifted = in-reach (cond-in left (add-in (add-in x (most-in (E .w) tt) tt) i8 tt) (sub-in (sub-in x (B .w) tt) i8 tt)) in
-      record { x = in-more (minus 128) (at 8320) (moved-in shifted (B .w) W tt tt (and-l (le k0 s) (t2 && t3) t) (and-l t2 t3 (and-r (le k0 s) (t2 && t3) t))) tt tt; y = B .y; w = B .w; h = B .h }
+      record { x = in-more (minus 128) (at 8320) (moved-in shifted (B .w) W tt tt (r .0) (r .1)) tt tt; y = B .y; w = B .w; h = B .h }
 
   -- the bar overlaps c, and so the lower edge of c is no higher than the bar
   below-in : (bar c : Rect) → BarIn bar → Element c → T (overlapsOf bar c) → BarIn (belowOf bar h c)
   unfolding belowOf overlapsOf
   below-in bar c B E t =
-      let t1 : Bool = lt (bar .x) (c .x ⊕ c .w ⊖ k0·01) in
-      let t2 : Bool = lt (c .x ⊕ k0·01) (bar .x ⊕ bar .w) in
-      let t3 : Bool = lt (bar .y) (c .y ⊕ c .h ⊖ k0·01) in
-      let t4 : Bool = lt (c .y ⊕ k0·01) (bar .y ⊕ bar .h) in
-      let over = and-l t3 t4 (and-r t2 (t3 && t4) (and-r t1 (t2 && (t3 && t4)) t)) in
+      let over = all-four (lt (bar .x) (c .x ⊕ c .w ⊖ k0·01)) (lt (c .x ⊕ k0·01) (bar .x ⊕ bar .w)) (lt (bar .y) (c .y ⊕ c .h ⊖ k0·01)) (lt (c .y ⊕ k0·01) (bar .y ⊕ bar .h)) t .2 in
       let bottom = add-in (most-in (E .y) tt) (most-in (E .h) tt) tt in
       let less = sub-in bottom i0·01 tt in
       let lower = sub-back (minus 8193) bottom i0·01 (raise less (B .y) (lt-law 1 (bar .y) (c .y ⊕ c .h ⊖ k0·01) (B .y .whole) (less .whole) over)) tt tt in
@@ -75,11 +68,7 @@ module _ (left : Bool) {w h : Float} (W : In w (at 0) (at 8192)) (H : In h (at 0
   moved-bar bar c B E t =
       let r : Bool = roomOf (besideOf bar left c) left w in
       let f : Bool = not (anyOf (overlapsOf (besideOf bar left c)) obstacles) in
-      go (r && f) (λ s. beside-in bar c B E (and-l r f s)) (below-in bar c B E t)
-    where
-      go : (b : Bool) → (T b → BarIn (besideOf bar left c)) → BarIn (belowOf bar h c) → BarIn (cond b (besideOf bar left c) (belowOf bar h c))
-      go true f k = f tt
-      go false f k = k
+      by-test BarIn (r && f) (λ s. beside-in bar c B E (and-l r f s)) (λ s. below-in bar c B E t)
 
   pass-in : Each Element obstacles → (turns : ℕ) (bar : Rect) → BarIn bar → BarIn (pass left w h obstacles turns bar)
   unfolding pass
@@ -91,16 +80,12 @@ module _ (left : Bool) {w h : Float} (W : In w (at 0) (at 8192)) (H : In h (at 0
 module _ (l : Layout) (coveredTop : Float) (cutouts : List Rect) where
   pub avoided-in : l .count ≤ length (l .controls) → l .stickcount ≤ length (l .sticks) → Bounded l → Each Element cutouts → Each Element (avoidedOf l coveredTop cutouts)
   unfolding avoidedOf
-  avoided-in cs ss L O = go (lt k0 coveredTop)
+  avoided-in cs ss L O = either (Each Element) (lt k0 coveredTop) (each-append Element cutouts (map (elementOf l) (controllerElementsOf l)) O controls) O
     where
       controls : Each Element (map (elementOf l) (controllerElementsOf l))
       controls =
           rw (controller-elements l cs ss)
           (L .dpad & each-append Element (boundsOf l) (stickList l) (bounds-in l L) (each-take Element (l .stickcount) (l .sticks) (L .sticks)))
-
-      go : (b : Bool) → Each Element (cond b (cutouts ++ map (elementOf l) (controllerElementsOf l)) cutouts)
-      go true = each-append Element cutouts (map (elementOf l) (controllerElementsOf l)) O controls
-      go false = O
 
 -- where no decoration shows, only the cutouts
 pub uncovered : (l : Layout) (cutouts : List Rect) → avoidedOf l k0 cutouts ≡ cutouts

@@ -1,16 +1,12 @@
-use Rattle.geometry.specs.declared.Rect.{Rect}
-use Prim.Native.Nat.{ℕ, _+_, _-_, _<_, _≤_}
-use mathlib.Core.List.{List, [], _∷_, foldl}
-use Rattle.cutouts.proofs.Groups.{missed, range-whole, below-one, range-at, below-range, fold-more}
-use Rattle.layout.proofs.Filters.{one-more, no-more}
-use Rattle.layout.specs.Elements.{range}
+use Prim.Native.Nat.{_-_, _<_, _≤_}
+use mathlib.Core.List.{[], _∷_, foldl}
+use Rattle.cutouts.proofs.Groups.{missed, outside, outside-more, outside-same, outside-all, below-one, fold-more}
 use mathlib.Core.Path.{refl, sym, ap, ap₂, _∙_, _≡_}
 use lib.ListN.{length, take}
 use lib.Seq.{length-take-le}
-use Rattle.cutouts.specs.Cutouts.{inGroupOf, settleOf, groupList}
+use Rattle.cutouts.specs.Cutouts.{settleOf, groupList}
 use Rattle.layout.proofs.Loops.{sized}
 use Rattle.layout.specs.Layout.{elementList, cutoutList}
-use Rattle.layout.specs.Lists.{filterMap}
 use mathlib.Core.Bool.{not}
 use borrow.Author.Tests.{not-true}
 use borrow.Author.Needs.{needs}
@@ -19,7 +15,7 @@ use Rattle.cutouts.proofs.avoid.Statement.{statement}
 use Rattle.cutouts.proofs.avoid.Tie as tie
 
 abbrev Inv-loop : tie.InvT-loop
-Inv-loop w h holes faces count out₀ i₀ out i = ((i ≤ count) × (out .count ≡ count)) × (elementList out ≡ foldl (settleOf w h (cutoutList holes)) (elementList out₀) (filterMap (λ i. not (inGroupOf (groupList faces) i)) (λ i. i ∷ []) (take i (range 0 count))))
+Inv-loop w h holes faces count out₀ i₀ out i = ((i ≤ count) × (out .count ≡ count)) × (elementList out ≡ foldl (settleOf w h (cutoutList holes)) (elementList out₀) (outside (groupList faces) (λ i. i ∷ []) count i))
 
 abbrev μ-loop : tie.MeasureT-loop
 μ-loop w h holes faces count out₀ i₀ out i = count - i
@@ -29,20 +25,16 @@ loop-holds c = ((omega arith, c .settle .ensures .1), refl)
 
 loop-again : tie.Need-loop-again Inv-loop μ-loop
 loop-again c =
-    let s = c .before .before .before .before .before in
     let l = c .before .before .before .loop in
-    let h : l .i < s .args .elements .count = c .before .before .loop-test .taken in
-    ((omega arith, l .inv .0 .1), l .inv .1 ∙ ap (foldl (settleOf (s .args .w) (s .args .h) (cutoutList (s .args .holes))) (elementList (c .before .before .before .before .settle .result))) (sym (no-more (λ i. not (inGroupOf (groupList (s .args .faces)) i)) (λ (i : ℕ). i ∷ []) (range 0 (s .args .elements .count)) (l .i) 0 (below-range (s .args .elements .count) (l .i) h) {flag = not (c .before .in-group .result)} (rw (range-at (s .args .elements .count) (l .i) h, c .before .in-group .ensures)) (rw (c .if1 .taken)))))
+    ((omega arith, l .inv .0 .1), l .inv .1 ∙ ap (foldl _ _) (sym (outside-same _ (λ i. i ∷ []) _ (l .i) (c .before .before .loop-test .taken) (c .before .in-group .ensures) (c .if1 .taken))))
 
 loop-again-2 : tie.Need-loop-again-2 Inv-loop μ-loop
 loop-again-2 c =
     let s = c .before .before .before .before .before .before .before .before in
     let l = c .before .before .before .before .before .before .loop in
-    let h : l .i < s .args .elements .count = c .before .before .before .before .before .loop-test .taken in
     let n : l .i < l .out .count = omega arith in (
       (omega arith, l .inv .0 .1),
-      fold-more (settleOf (s .args .w) (s .args .h) (cutoutList (s .args .holes))) (elementList (c .before .before .before .before .before .before .before .settle .result)) (elementList (l .out)) (elementList (l .out)) (filterMap (λ i. not (inGroupOf (groupList (s .args .faces)) i)) (λ (i : ℕ). i ∷ []) (take (l .i) (range 0 (s .args .elements .count)))) (filterMap (λ i. not (inGroupOf (groupList (s .args .faces)) i)) (λ (i : ℕ). i ∷ []) (take (l .i + 1) (range 0 (s .args .elements .count)))) (l .i ∷ []) (l .inv .1)
-          (one-more (λ i. not (inGroupOf (groupList (s .args .faces)) i)) (λ (i : ℕ). i ∷ []) (range 0 (s .args .elements .count)) (l .i) 0 (below-range (s .args .elements .count) (l .i) h) {flag = not (c .before .before .before .before .in-group .result)} (rw (range-at (s .args .elements .count) (l .i) h, c .before .before .before .before .in-group .ensures)) (rw (c .before .before .before .if1 .left)) ∙ rw (range-at (s .args .elements .count) (l .i) h))
+      fold-more _ _ _ _ (outside (groupList (s .args .faces)) (λ i. i ∷ []) (s .args .elements .count) (l .i)) _ (l .i ∷ []) (l .inv .1) (outside-more _ (λ i. i ∷ []) _ (l .i) (c .before .before .before .before .before .loop-test .taken) (c .before .before .before .before .in-group .ensures) (c .before .before .before .if1 .left))
           (sym (missed (s .args .w) (s .args .h) (cutoutList (s .args .holes)) (l .out .at) (l .out .count) (l .i) n (sym (c .before .overlap .ensures) ∙ not-true _ (c .if2 .taken)))),
     )
 
@@ -56,11 +48,9 @@ settle-requires-2 c κs =
 loop-again-3 : tie.Need-loop-again-3 Inv-loop μ-loop
 loop-again-3 c =
     let s = c .before .before .before .before .before .before .before .before .before .before in
-    let l = c .before .before .before .before .before .before .before .before .loop in
-    let h : l .i < s .args .elements .count = c .before .before .before .before .before .before .before .loop-test .taken in (
+    let l = c .before .before .before .before .before .before .before .before .loop in (
       (omega arith, c .settle2 .ensures .1 ∙ l .inv .0 .1),
-      fold-more (settleOf (s .args .w) (s .args .h) (cutoutList (s .args .holes))) (elementList (c .before .before .before .before .before .before .before .before .before .settle .result)) (elementList (l .out)) (elementList (c .settle2 .result)) (filterMap (λ i. not (inGroupOf (groupList (s .args .faces)) i)) (λ (i : ℕ). i ∷ []) (take (l .i) (range 0 (s .args .elements .count)))) (filterMap (λ i. not (inGroupOf (groupList (s .args .faces)) i)) (λ (i : ℕ). i ∷ []) (take (l .i + 1) (range 0 (s .args .elements .count)))) (l .i ∷ []) (l .inv .1)
-          (one-more (λ i. not (inGroupOf (groupList (s .args .faces)) i)) (λ (i : ℕ). i ∷ []) (range 0 (s .args .elements .count)) (l .i) 0 (below-range (s .args .elements .count) (l .i) h) {flag = not (c .before .before .before .before .before .before .in-group .result)} (rw (range-at (s .args .elements .count) (l .i) h, c .before .before .before .before .before .before .in-group .ensures)) (rw (c .before .before .before .before .before .if1 .left)) ∙ rw (range-at (s .args .elements .count) (l .i) h))
+      fold-more _ _ _ _ (outside (groupList (s .args .faces)) (λ i. i ∷ []) (s .args .elements .count) (l .i)) _ (l .i ∷ []) (l .inv .1) (outside-more _ (λ i. i ∷ []) _ (l .i) (c .before .before .before .before .before .before .before .loop-test .taken) (c .before .before .before .before .before .before .in-group .ensures) (c .before .before .before .before .before .if1 .left))
           (rw (c .before .single .ensures .0) at (c .settle2 .ensures .0)),
     )
 
@@ -68,10 +58,9 @@ returns : tie.Need-returns Inv-loop μ-loop
 returns c =
     let s = c .before .before .before in
     let l = c .before .loop in
-    let e : l .i ≡ s .args .elements .count = omega arith in
     let a : length (s .args .elements .at) ≡ 19 = search sized in
-    let k : length (take (s .args .elements .count) (s .args .elements .at)) ≡ s .args .elements .count = length-take-le (s .args .elements .count) (s .args .elements .at) (omega arith) in
-    (l .inv .1 ∙ ap₂ (λ (z : List Rect) (gs : List (List ℕ)). foldl (settleOf (s .args .w) (s .args .h) (cutoutList (s .args .holes))) z gs) (c .before .before .settle .ensures .0) (ap (filterMap (λ i. not (inGroupOf (groupList (s .args .faces)) i)) (λ (i : ℕ). i ∷ [])) (range-whole (s .args .elements .count) (l .i) (length (take (s .args .elements .count) (s .args .elements .at))) e k)), l .inv .0 .1)
+    let k : length (elementList (s .args .elements)) ≡ s .args .elements .count = length-take-le (s .args .elements .count) (s .args .elements .at) (omega arith) in
+    (l .inv .1 ∙ ap₂ (foldl _) (c .before .before .settle .ensures .0) (outside-all (groupList (s .args .faces)) (λ i. i ∷ []) _ (l .i) (omega arith) (elementList (s .args .elements)) k), l .inv .0 .1)
 
 pub avoid-spec : {M : Type 1} → statement M
 avoid-spec =

@@ -1,15 +1,13 @@
-use lib.Seq.{take-all}
-use Prim.Native.Nat.{ℕ, _+_, _-_, _<_, _≤_}
+use Prim.Native.Nat.{ℕ, _+_, _-_, _≤_}
 use borrow.Author.Tests.{not-true, not-false}
-use Rattle.cutouts.proofs.Groups.{length-faces, face-at, faces-below, room}
+use Rattle.cutouts.proofs.Groups.{face-more, face-same, faces-all, faces-few, faces-below, put-more, room}
 use Rattle.layout.specs.Actions.{actionElementsOf}
 use Rattle.layout.specs.Label.{isFaceOf}
 use Rattle.layout.specs.declared.Control.{Control}
-use mathlib.Core.Path.{refl, ap, _∙_, _≡_}
+use mathlib.Core.Path.{refl, sym, _∙_, _≡_}
 use lib.ListN.{length, take, length-set}
 use Rattle.cutouts.specs.Cutouts.{groupList}
-use Rattle.layout.proofs.Loops.{filterMap-put, filterMap-skip, sized}
-use Rattle.layout.specs.Layout.{anyControl}
+use Rattle.layout.proofs.Loops.{sized}
 use Rattle.layout.specs.Lists.{filterMap, enumerateFrom}
 use borrow.Author.Needs.{needs}
 use native.Mathlib.Omega.{arith}
@@ -30,43 +28,32 @@ loop-again c =
     let s = c .before .before .before .before .before .before in
     let l = c .before .before .before .before .loop in
     let a = l .inv .1 .0 in
-    let k : s .args .l .count ≤ length (s .args .l .controls) = omega arith in
-    let h : l .i < s .args .l .count = c .before .before .before .loop-test .taken in
-    let j : l .i < length (enumerateFrom 1 (take (s .args .l .count) (s .args .l .controls))) = omega (arith, length-faces (s .args .l .controls) (s .args .l .count) k) in
-    ((omega arith, omega arith), (l .inv .1 .0, filterMap-skip (λ (e : ℕ × Control). isFaceOf (e .1 .label)) (λ (e : ℕ × Control). e .0) (enumerateFrom 1 (take (s .args .l .count) (s .args .l .controls))) (l .i) (0, anyControl) (l .at) (l .count) j (l .inv .1 .1) (c .before .is-face .ensures ∙ rw (face-at (s .args .l .controls) (s .args .l .count) k (l .i) h)) (not-true _ (c .if1 .taken))))
+    ((omega arith, omega arith), (a, l .inv .1 .1 ∙ sym (face-same (s .args .l) (omega arith) (l .i) (c .before .before .before .loop-test .taken) (c .before .is-face .ensures) (not-true _ (c .if1 .taken)))))
 
 array-write-at : tie.Need-array-write-at Inv-loop μ-loop
-unfolding actionElementsOf
 array-write-at c =
     let s = c .before .before .before .before .before .before in
     let l = c .before .before .before .before .loop in
     let a = l .inv .1 .0 in
-    let k : s .args .l .count ≤ length (s .args .l .controls) = omega arith in
-    let h : l .i < s .args .l .count = c .before .before .before .loop-test .taken in
-    let j : l .i < length (enumerateFrom 1 (take (s .args .l .count) (s .args .l .controls))) = omega (arith, length-faces (s .args .l .controls) (s .args .l .count) k) in
-    omega (arith, room (λ (e : ℕ × Control). isFaceOf (e .1 .label)) (λ (e : ℕ × Control). e .0) (enumerateFrom 1 (take (s .args .l .count) (s .args .l .controls))) (l .i) (0, anyControl) (l .at) (l .count) 4 j (c .before .is-face .ensures ∙ rw (face-at (s .args .l .controls) (s .args .l .count) k (l .i) h)) (not-false _ (c .if1 .left)) (omega arith) (l .inv .1 .1) (s .pre .1))
+    let more = face-more (s .args .l) (omega arith) (l .i) (c .before .before .before .loop-test .taken) (c .before .is-face .ensures) (not-false _ (c .if1 .left)) in
+    omega (arith, room (l .at) (l .count) 4 _ (omega arith) (l .inv .1 .1) more (omega (arith, faces-few (s .args .l) (omega arith) (l .i + 1), s .pre .1)))
 
 loop-again-2 : tie.Need-loop-again-2 Inv-loop μ-loop
-unfolding actionElementsOf
 loop-again-2 c =
     let s = c .before .before .before .before .before .before in
     let l = c .before .before .before .before .loop in
     let a = l .inv .1 .0 in
-    let k : s .args .l .count ≤ length (s .args .l .controls) = omega arith in
-    let h : l .i < s .args .l .count = c .before .before .before .loop-test .taken in
-    let j : l .i < length (enumerateFrom 1 (take (s .args .l .count) (s .args .l .controls))) = omega (arith, length-faces (s .args .l .controls) (s .args .l .count) k) in
-    let b : l .count < 4 = room (λ (e : ℕ × Control). isFaceOf (e .1 .label)) (λ (e : ℕ × Control). e .0) (enumerateFrom 1 (take (s .args .l .count) (s .args .l .controls))) (l .i) (0, anyControl) (l .at) (l .count) 4 j (c .before .is-face .ensures ∙ rw (face-at (s .args .l .controls) (s .args .l .count) k (l .i) h)) (not-false _ (c .if1 .left)) (omega arith) (l .inv .1 .1) (s .pre .1) in
-    ((omega arith, omega arith), ((l .inv .1 .0 .0, length-set (l .at) (l .count) (l .i + 1) ∙ l .inv .1 .0 .1), filterMap-put (λ (e : ℕ × Control). isFaceOf (e .1 .label)) (λ (e : ℕ × Control). e .0) (enumerateFrom 1 (take (s .args .l .count) (s .args .l .controls))) (l .i) (0, anyControl) (l .at) (l .count) j (omega arith) (l .inv .1 .1) (c .before .is-face .ensures ∙ rw (face-at (s .args .l .controls) (s .args .l .count) k (l .i) h)) (not-false _ (c .if1 .left)) (rw (face-at (s .args .l .controls) (s .args .l .count) k (l .i) h))))
+    let more = face-more (s .args .l) (omega arith) (l .i) (c .before .before .before .loop-test .taken) (c .before .is-face .ensures) (not-false _ (c .if1 .left)) in
+    let b = room (l .at) (l .count) 4 _ (omega arith) (l .inv .1 .1) more (omega (arith, faces-few (s .args .l) (omega arith) (l .i + 1), s .pre .1)) in
+    ((omega arith, omega arith), ((a .0, length-set (l .at) (l .count) (l .i + 1) ∙ a .1), put-more (l .at) (l .count) (l .i + 1) (omega arith) (l .inv .1 .1) more))
 
 returns : tie.Need-returns Inv-loop μ-loop
-unfolding actionElementsOf
 returns c =
     let s = c .before .before .before in
     let l = c .before .loop in
     let a = l .inv .1 .0 in
-    let k : s .args .l .count ≤ length (s .args .l .controls) = omega arith in
-    let p : groupList (record { at = l .at; count = l .count }) ≡ actionElementsOf (s .args .l) = l .inv .1 .1 ∙ ap (filterMap (λ (e : ℕ × Control). isFaceOf (e .1 .label)) (λ (e : ℕ × Control). e .0)) (take-all (l .i) (enumerateFrom 1 (take (s .args .l .count) (s .args .l .controls))) (omega (arith, length-faces (s .args .l .controls) (s .args .l .count) k))) in
-    (p, (omega arith, rw p (faces-below (s .args .l) _ (omega arith) k)))
+    let p : groupList (record { at = l .at; count = l .count }) ≡ actionElementsOf (s .args .l) = l .inv .1 .1 ∙ faces-all (s .args .l) (omega arith) (l .i) (omega arith) in
+    (p, (omega arith, rw p (faces-below (s .args .l) _ (omega arith) (omega arith))))
 
 pub faces-spec : {M : Type 1} → statement M
 faces-spec =

@@ -1,4 +1,4 @@
-use Prim.Native.Nat.{_-_, _<_, _≤_}
+use Prim.Native.Nat.{ℕ, _-_, _<_, _≤_}
 use mathlib.Core.List.{[], map}
 use Rattle.cutouts.proofs.Groups.{members-first, below-index}
 use Rattle.layout.proofs.Stores.{map-put}
@@ -20,21 +20,15 @@ abbrev μ-loop : tie.MeasureT-loop
 loop-holds : tie.Need-loop-holds Inv-loop μ-loop
 loop-holds c = ((omega arith, (search sized, refl)), refl)
 
+-- the index at k is one of an element
+index : (s : tie.Start Inv-loop μ-loop) (k : ℕ) → length (s .args .group .at) ≡ 4 → k < s .args .group .count → getD (s .args .group .at) k 0 < s .args .elements .count
+index s k e h = below-index (s .args .elements .count) (s .args .group .at) (s .args .group .count) k (s .pre .1) (omega arith) h
+
 mul-out : tie.Need-mul-out Inv-loop μ-loop
-mul-out c =
-    let s = c .before .before .before .before .before in
-    let l = c .before .loop in
-    let g = l .inv .0 in
-    let b : getD (s .args .group .at) (l .k) 0 < s .args .elements .count = below-index (s .args .elements .count) (s .args .group .at) (s .args .group .count) (l .k) (s .pre .1) (omega arith) (c .loop-test .taken) in
-    omega arith
+mul-out c = let l = c .before .loop in omega (arith, index (c .before .before .before .before .before) (l .k) (l .inv .0 .1 .0) (c .loop-test .taken))
 
 array-copy-out-out-2 : tie.Need-array-copy-out-out-2 Inv-loop μ-loop
-array-copy-out-out-2 c =
-    let s = c .before .before .before .before .before in
-    let l = c .before .loop in
-    let g = l .inv .0 in
-    let b : getD (s .args .group .at) (l .k) 0 < s .args .elements .count = below-index (s .args .elements .count) (s .args .group .at) (s .args .group .count) (l .k) (s .pre .1) (omega arith) (c .loop-test .taken) in
-    omega arith
+array-copy-out-out-2 c = let l = c .before .loop in omega (arith, index (c .before .before .before .before .before) (l .k) (l .inv .0 .1 .0) (c .loop-test .taken))
 
 loop-again : tie.Need-loop-again Inv-loop μ-loop
 loop-again c =

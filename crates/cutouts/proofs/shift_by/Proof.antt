@@ -23,44 +23,28 @@ abbrev μ-loop : tie.MeasureT-loop
 loop-holds : tie.Need-loop-holds Inv-loop μ-loop
 loop-holds c = ((omega arith, (search sized, search sized)), refl)
 
+-- the index at k is one of an element
+index : (s : tie.Start Inv-loop μ-loop) (k : ℕ) → length (s .args .group .at) ≡ 4 → k < s .args .group .count → getD (s .args .group .at) k 0 < s .args .elements .count
+index s k e h = below-index (s .args .elements .count) (s .args .group .at) (s .args .group .count) k (s .pre .1) (omega arith) h
+
 mul-moved : tie.Need-mul-moved Inv-loop μ-loop
-mul-moved c =
-    let s = c .before .before .before .before in
-    let l = c .before .loop in
-    let g = l .inv .0 in
-    let b : getD (s .args .group .at) (l .k) 0 < s .args .elements .count = below-index (s .args .elements .count) (s .args .group .at) (s .args .group .count) (l .k) (s .pre .1) (omega arith) (c .loop-test .taken) in
-    omega arith
+mul-moved c = let l = c .before .loop in omega (arith, index (c .before .before .before .before) (l .k) (l .inv .0 .1 .0) (c .loop-test .taken))
 
 array-copy-out-moved : tie.Need-array-copy-out-moved Inv-loop μ-loop
-array-copy-out-moved c =
-    let s = c .before .before .before .before in
-    let l = c .before .loop in
-    let g = l .inv .0 in
-    let b : getD (s .args .group .at) (l .k) 0 < s .args .elements .count = below-index (s .args .elements .count) (s .args .group .at) (s .args .group .count) (l .k) (s .pre .1) (omega arith) (c .loop-test .taken) in
-    omega arith
+array-copy-out-moved c = let l = c .before .loop in omega (arith, index (c .before .before .before .before) (l .k) (l .inv .0 .1 .0) (c .loop-test .taken))
 
 mul-el : tie.Need-mul-el Inv-loop μ-loop
-mul-el c =
-    let s = c .before .before .before .before .before .before in
-    let l = c .before .before .before .loop in
-    let g = l .inv .0 in
-    let b : getD (s .args .group .at) (l .k) 0 < s .args .elements .count = below-index (s .args .elements .count) (s .args .group .at) (s .args .group .count) (l .k) (s .pre .1) (omega arith) (c .before .before .loop-test .taken) in
-    omega arith
+mul-el c = let l = c .before .before .before .loop in omega (arith, index (c .before .before .before .before .before .before) (l .k) (l .inv .0 .1 .0) (c .before .before .loop-test .taken))
 
 array-set-from-el : tie.Need-array-set-from-el Inv-loop μ-loop
-array-set-from-el c =
-    let s = c .before .before .before .before .before .before in
-    let l = c .before .before .before .loop in
-    let g = l .inv .0 in
-    let b : getD (s .args .group .at) (l .k) 0 < s .args .elements .count = below-index (s .args .elements .count) (s .args .group .at) (s .args .group .count) (l .k) (s .pre .1) (omega arith) (c .before .before .loop-test .taken) in
-    omega arith
+array-set-from-el c = let l = c .before .before .before .loop in omega (arith, index (c .before .before .before .before .before .before) (l .k) (l .inv .0 .1 .0) (c .before .before .loop-test .taken), l .inv .0)
 
 loop-again : tie.Need-loop-again Inv-loop μ-loop
 loop-again c =
     let s = c .before .before .before .before .before .before in
     let l = c .before .before .before .loop in
     let g = l .inv .0 in
-    let b : getD (s .args .group .at) (l .k) 0 < s .args .elements .count = below-index (s .args .elements .count) (s .args .group .at) (s .args .group .count) (l .k) (s .pre .1) (omega arith) (c .before .before .loop-test .taken) in (
+    let b = index s (l .k) (l .inv .0 .1 .0) (c .before .before .loop-test .taken) in (
       (omega arith, (l .inv .0 .1 .0, length-set (l .el) (getD (s .args .group .at) (l .k) 0) (c .moved .result) ∙ l .inv .0 .1 .1)),
       fold-next (λ (es : List Rect) (i : ℕ). set es i (movedOf (Go (s .args .dx) (s .args .dy)) (getD (take (s .args .elements .count) (s .args .elements .at)) i anyRect))) (take (s .args .elements .count) (s .args .elements .at)) (s .args .group .at) (l .k) 0 (omega arith) (l .inv .1) refl
           (put-first (movedOf (Go (s .args .dx) (s .args .dy))) (s .args .elements .at) (l .el) (s .args .elements .count) (getD (s .args .group .at) (l .k) 0) (c .moved .result) b (c .moved .ensures)),

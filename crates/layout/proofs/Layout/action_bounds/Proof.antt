@@ -13,7 +13,8 @@ use Rattle.layout.specs.Layout.{anyControl}
 use Rattle.layout.specs.Lists.{filterMap, reduce}
 use Rattle.layout.specs.Actions.{joinOf}
 use Rattle.layout.specs.ActionLaws.{action-bounds}
-use Rattle.layout.proofs.Filters.{one-more, no-more, nonempty, nonempty-more, reduce-more}
+use Rattle.layout.proofs.Loops.{one-more, no-more}
+use Rattle.layout.proofs.Filters.{nonempty, nonempty-more, reduce-more}
 use Rattle.layout.proofs.Layout.action_bounds.Statement.{statement}
 use Rattle.layout.proofs.Layout.action_bounds.Tie as tie
 
