@@ -22,7 +22,7 @@ pub record Minus (z : ℤ) : Type 0 where
   pub fits : SFits w32 (pos 0 -ℤ back z)
   pub size : back (pos 0 -ℤ back z) ≡ pos (natAbs z)
   pub text : numberText z ≡ 45 ∷ digitsOf (natAbs z)
-  pub most : natAbs z < 4294967296
+  pub most : natAbs z < 0x1_0000_0000
 
 pub minus : (z : ℤ) → mag z < mostTenths → ltZ (back z) (pos 0) ≡ true → Minus z
 unfolding numberText
@@ -32,7 +32,7 @@ minus (negsuc n) h t = record { fits = minus-fits (negsuc n) (omega arith); size
 pub record Plus (z : ℤ) : Type 0 where
   pub size : back z ≡ pos (natAbs z)
   pub text : numberText z ≡ digitsOf (natAbs z)
-  pub most : natAbs z < 4294967296
+  pub most : natAbs z < 0x1_0000_0000
 
 pub plus : (z : ℤ) → mag z < mostTenths → ltZ (back z) (pos 0) ≡ false → Plus z
 unfolding numberText

@@ -1,17 +1,19 @@
 -- Ten times an f32, rounded, is a sum and a shift of the parts of its bit pattern.
 use mathlib.Core.Path.{_≡_, refl, sym, ap, _∙_}
+use mathlib.Core.Logic.{inl, inr}
 use mathlib.Core.Bool.{Bool, true, false, not, cond}
 use Prim.Native.Nat.{ℕ, zero, suc, _+_, _-_, _*_, _/_, _%_, _^_, _<_, _≤_}
-use native.Mathlib.Nat.{sub-zero, div-eq-of-lt, mul-assoc, add-mul, one-mul, mul-le-mul, lt-of-lt-of-le}
+use native.Mathlib.Nat.{sub-zero, div-eq-of-lt, mul-assoc, add-mul, one-mul, mul-le-mul, lt-of-lt-of-le, lt-of-not-le, eq-or-lt-of-le}
 use native.Mathlib.Omega.{arith}
-use borrow.Author.Tests.{ne-eqb, lt-leb, le-leb, leb-true, leb-false, ltb-true, ltb-false}
+use borrow.Author.Tests.{lt-leb, le-leb, leb-true, leb-false}
 use lib.Arith.{mul-pred, digits-div}
-use lib.Dec.{T, lit≤, lit<, leb, ltb, eqb}
+use lib.Dec.{T, lit≤, lit<, leb, eqb}
 use lib.IntN.{pos, negℤ}
 use lib.Ieee.{Float, nan, inf, fin, binary32, ofBits, toBits, ofFields, odd, fits, isNan}
 use lib.Ieee.Bits.{ofBits-toBits}
 use lib.Ieee.Exact.{HasValue, odd-sign}
 use lib.Pow.{pow-pos, pow-mono, pow-add, shl-lt, shl-exact, shl-shr, shr-shr, ones-lt}
+use Rattle.float.proofs.Patterns.{ofBits-is, fields-normal}
 use Rattle.numerics.specs.Bounds.{eps-pos, most-magnitude}
 use Rattle.numerics.specs.Operations.{value-is}
 use Rattle.numerics.specs.Value.{sign, Whole, eps, AtMost}
@@ -31,7 +33,7 @@ scaled a k j less h l = sym (shr-shr (a * 2 ^ k - less) k j) ∙ ap (λ (x : ℕ
 pub power : (e : ℕ) → 110 ≤ e → 1 * 2 ^ (150 - e) % 2 ^ 64 ≡ 2 ^ (150 - e)
 power e h = shl-exact {a = 1} 1 (150 - e) 64 (lit< tt) (omega arith) ∙ one-mul (2 ^ (150 - e))
 
-pub room : (q e : ℕ) → q < 16777216 → 110 ≤ e → 20 * q + 1 * 2 ^ (150 - e) % 2 ^ 64 < 2 ^ 64
+pub room : (q e : ℕ) → q < 0x100_0000 → 110 ≤ e → 20 * q + 1 * 2 ^ (150 - e) % 2 ^ 64 < 2 ^ 64
 room q e h k = let b : 2 ^ (150 - e) ≤ 2 ^ 40 = pow-mono {i = 150 - e} {j = 40} (omega arith) in rw (power e k) (omega arith)
 
 -- q * 2 ^ x units, rounded; the code shifts by j
@@ -55,48 +57,40 @@ sized : (x : Float) (s : Bool) (g : ℕ) → HasValue x s g (2 ^ 149) → tenths
 unfolding tenthsSizeOf
 sized x s g v = let m = value-is x s g v in rw (m .1, m .2)
 
-fields : (n : ℕ) → ofBits binary32 n ≡ ofFields binary32 (leb 2147483648 n) (n % 2147483648 / 8388608) (n % 8388608)
-unfolding ofBits
-fields n = refl
-
-normal : (s : Bool) (x t : ℕ) → suc x < 255 → HasValue (ofFields binary32 s (suc x) t) s ((8388608 + t) * 2 ^ x) (2 ^ 149)
-unfolding ofFields
-normal s x t h = rw (ne-eqb (suc x) 255 (λ e. omega arith)) (odd-sign 24 s (8388608 + t) x 149)
-
 -- a number below 2^-17 is rounded to 0
-low-fields : (s : Bool) (e t : ℕ) → e < 110 → t < 8388608 → tenthsSizeOf (ofFields binary32 s e t) ≡ 0
+low-fields : (s : Bool) (e t : ℕ) → e < 110 → t < 0x80_0000 → tenthsSizeOf (ofFields binary32 s e t) ≡ 0
 unfolding ofFields
 low-fields s zero t h k =
     let b : t * 2 ^ 0 < 2 ^ 24 = omega arith in
     sized (odd 24 s t 0 149) s (t * 2 ^ 0) (odd-sign 24 s t 0 149) ∙ tiny (t * 2 ^ 0) (cond s 1 0) (lt-of-lt-of-le b (lit≤ tt))
 low-fields s (suc x) t h k =
-    let q : 8388608 + t < 2 ^ 24 = omega arith in
+    let q : 0x80_0000 + t < 2 ^ 24 = omega arith in
     let b : 2 ^ (24 + x) ≤ 2 ^ 133 = pow-mono {i = 24 + x} {j = 133} (omega arith) in
-    sized (ofFields binary32 s (suc x) t) s ((8388608 + t) * 2 ^ x) (normal s x t (omega arith))
-    ∙ tiny ((8388608 + t) * 2 ^ x) (cond s 1 0) (lt-of-lt-of-le (shl-lt 24 x q) b)
+    sized (ofFields binary32 s (suc x) t) s ((0x80_0000 + t) * 2 ^ x) (fields-normal binary32 s x t (omega arith))
+    ∙ tiny ((0x80_0000 + t) * 2 ^ x) (cond s 1 0) (lt-of-lt-of-le (shl-lt 24 x q) b)
 
-sign-is : (n : ℕ) (b : Bool) → n < 4294967296 → leb 2147483648 n ≡ b → cond b 1 0 ≡ n / 2147483648
-sign-is n true h e = let k = leb-true 2147483648 n e in omega arith
-sign-is n false h e = let k = leb-false 2147483648 n e in omega arith
+sign-is : (n : ℕ) (b : Bool) → n < 0x1_0000_0000 → leb 0x8000_0000 n ≡ b → cond b 1 0 ≡ n / 0x8000_0000
+sign-is n true h e = let k = leb-true 0x8000_0000 n e in omega arith
+sign-is n false h e = let k = leb-false 0x8000_0000 n e in omega arith
 
 -- ---- what `tenths_size` returns
-pub size-low : (n : ℕ) → n % 2147483648 / 8388608 < 110 → 0 ≡ tenthsSizeOf (ofBits binary32 n)
-size-low n h = rw (fields n) (sym (low-fields (leb 2147483648 n) (n % 2147483648 / 8388608) (n % 8388608) h (omega arith)))
+pub size-low : (n : ℕ) → n % 0x8000_0000 / 0x80_0000 < 110 → 0 ≡ tenthsSizeOf (ofBits binary32 n)
+size-low n h = rw (ofBits-is binary32 n) (sym (low-fields (leb 0x8000_0000 n) (n % 0x8000_0000 / 0x80_0000) (n % 0x80_0000) h (omega arith)))
 
-pub size-shifted : (n : ℕ) → n < 4294967296 → 110 ≤ n % 2147483648 / 8388608 → n % 2147483648 / 8388608 < 150
-    → (20 * (8388608 + n % 8388608) + 2 ^ (150 - n % 2147483648 / 8388608) - n / 2147483648) / 2 ^ (150 - n % 2147483648 / 8388608 + 1) ≡ tenthsSizeOf (ofBits binary32 n)
+pub size-shifted : (n : ℕ) → n < 0x1_0000_0000 → 110 ≤ n % 0x8000_0000 / 0x80_0000 → n % 0x8000_0000 / 0x80_0000 < 150
+    → (20 * (0x80_0000 + n % 0x80_0000) + 2 ^ (150 - n % 0x8000_0000 / 0x80_0000) - n / 0x8000_0000) / 2 ^ (150 - n % 0x8000_0000 / 0x80_0000 + 1) ≡ tenthsSizeOf (ofBits binary32 n)
 size-shifted n b lo hi =
-    let s = leb 2147483648 n in
-    let e = n % 2147483648 / 8388608 in
-    let t = n % 8388608 in
+    let s = leb 0x8000_0000 n in
+    let e = n % 0x8000_0000 / 0x80_0000 in
+    let t = n % 0x80_0000 in
     let x = e - 1 in
     let p : e ≡ suc x = omega arith in
     let j : x + (150 - e) ≡ 149 = omega arith in
-    let l : n / 2147483648 ≤ 1 = omega arith in
-    sym (ap tenthsSizeOf (fields n) ∙ ap (λ (y : ℕ). tenthsSizeOf (ofFields binary32 s y t)) p
-    ∙ sized (ofFields binary32 s (suc x) t) s ((8388608 + t) * 2 ^ x) (normal s x t (omega arith))
-    ∙ ap (λ (y : ℕ). (20 * ((8388608 + t) * 2 ^ x) + 2 ^ 149 - y) / 2 ^ 150) (sign-is n s b refl)
-    ∙ shifted (8388608 + t) x (150 - e) (n / 2147483648) j l)
+    let l : n / 0x8000_0000 ≤ 1 = omega arith in
+    sym (ap tenthsSizeOf (ofBits-is binary32 n) ∙ ap (λ (y : ℕ). tenthsSizeOf (ofFields binary32 s y t)) p
+    ∙ sized (ofFields binary32 s (suc x) t) s ((0x80_0000 + t) * 2 ^ x) (fields-normal binary32 s x t (omega arith))
+    ∙ ap (λ (y : ℕ). (20 * ((0x80_0000 + t) * 2 ^ x) + 2 ^ 149 - y) / 2 ^ 150) (sign-is n s b refl)
+    ∙ shifted (0x80_0000 + t) x (150 - e) (n / 0x8000_0000) j l)
 
 -- ---- a number in range has a small exponent
 no-number : (b s : Bool) → Whole (cond b (inf s) nan) → ⊥
@@ -107,36 +101,32 @@ no-finite : (s : Bool) (t : ℕ) → Whole (ofFields binary32 s 255 t) → ⊥
 unfolding ofFields
 no-finite s t w = no-number (eqb t 0) s w
 
-too-large : (g unit p : ℕ) → 0 < unit → p ≡ 2147483648 * unit → p ≤ g → g ≤ unit * most → ⊥
+too-large : (g unit p : ℕ) → 0 < unit → p ≡ 0x8000_0000 * unit → p ≤ g → g ≤ unit * most → ⊥
 too-large g unit p u e h k = omega arith
 
-large : 8388608 * 2 ^ 149 ≡ 2147483648 * eps
+large : 0x80_0000 * 2 ^ 149 ≡ 0x8000_0000 * eps
 unfolding eps
 large = refl
 
 high-fields : (s : Bool) (e t : ℕ) → 150 ≤ e → e ≤ 255 → AtMost (ofFields binary32 s e t) most → ⊥
 high-fields s zero t h k a = absurd (let z : ⊥ = omega arith in z)
-high-fields s (suc x) t h k a = go (ltb (suc x) 255) refl
-  where
-    go : (b : Bool) → ltb (suc x) 255 ≡ b → ⊥
-    go true e =
-        let m = value-is (ofFields binary32 s (suc x) t) s ((8388608 + t) * 2 ^ x) (normal s x t (ltb-true (suc x) 255 e)) in
-        let b : 8388608 * 2 ^ 149 ≤ (8388608 + t) * 2 ^ x = mul-le-mul {n₁ = 8388608} {m₁ = 2 ^ 149} {n₂ = 8388608 + t} {m₂ = 2 ^ x} (omega arith) (pow-mono {i = 149} {j = x} (omega arith)) in
-        too-large ((8388608 + t) * 2 ^ x) eps (8388608 * 2 ^ 149) eps-pos large b (rw (m .1) at (most-magnitude a))
-    go false e = let p : x ≡ 254 = omega (arith, ltb-false (suc x) 255 e) in no-finite s t (rw p at (a .whole))
+high-fields s (suc x) t h k a = elim (eq-or-lt-of-le k) [
+  | inl e ↦ no-finite s t (rw e at (a .whole))
+  | inr g ↦
+      let m = value-is (ofFields binary32 s (suc x) t) s ((0x80_0000 + t) * 2 ^ x) (fields-normal binary32 s x t g) in
+      let b : 0x80_0000 * 2 ^ 149 ≤ (0x80_0000 + t) * 2 ^ x = mul-le-mul {n₁ = 0x80_0000} {m₁ = 2 ^ 149} {n₂ = 0x80_0000 + t} {m₂ = 2 ^ x} (omega arith) (pow-mono {i = 149} {j = x} (omega arith)) in
+      too-large ((0x80_0000 + t) * 2 ^ x) eps (0x80_0000 * 2 ^ 149) eps-pos large b (rw (m .1) at (most-magnitude a))
+]
 
-pub exponent-small : (n : ℕ) → AtMost (ofBits binary32 n) most → n % 2147483648 / 8388608 < 150
-exponent-small n a = go (ltb (n % 2147483648 / 8388608) 150) refl
-  where
-    go : (b : Bool) → ltb (n % 2147483648 / 8388608) 150 ≡ b → n % 2147483648 / 8388608 < 150
-    go true e = ltb-true (n % 2147483648 / 8388608) 150 e
-    go false e = absurd (high-fields (leb 2147483648 n) (n % 2147483648 / 8388608) (n % 8388608) (ltb-false (n % 2147483648 / 8388608) 150 e) (omega arith) (rw (fields n) at a))
+pub exponent-small : (n : ℕ) → AtMost (ofBits binary32 n) most → n % 0x8000_0000 / 0x80_0000 < 150
+exponent-small n a =
+    lt-of-not-le (λ (g : 150 ≤ n % 0x8000_0000 / 0x80_0000). high-fields (leb 0x8000_0000 n) (n % 0x8000_0000 / 0x80_0000) (n % 0x80_0000) g (omega arith) (rw (ofBits-is binary32 n) at a))
 
 -- ---- what `tenths` returns
 sign-fields : (s : Bool) (e t : ℕ) → e < 150 → sign (ofFields binary32 s e t) ≡ s
 unfolding ofFields
 sign-fields s zero t h = value-is (odd 24 s t 0 149) s (t * 2 ^ 0) (odd-sign 24 s t 0 149) .2
-sign-fields s (suc x) t h = value-is (ofFields binary32 s (suc x) t) s ((8388608 + t) * 2 ^ x) (normal s x t (omega arith)) .2
+sign-fields s (suc x) t h = value-is (ofFields binary32 s (suc x) t) s ((0x80_0000 + t) * 2 ^ x) (fields-normal binary32 s x t (omega arith)) .2
 
 pub not-nan : (x : Float) → Whole x → T (not (isNan x))
 unfolding isNan
@@ -151,17 +141,17 @@ module _ (x : Float) (held : T (fits binary32 x)) (a : AtMost x most) where
   back : ofBits binary32 n ≡ x
   back = ofBits-toBits binary32 x held
 
-  pub exponent : n % 2147483648 / 8388608 < 150
+  pub exponent : n % 0x8000_0000 / 0x80_0000 < 150
   exponent = exponent-small n (rw back a)
 
-  pub size-is : {r : ℕ} → r ≡ tenthsSizeOf (ofBits binary32 n) → (r ≡ tenthsSizeOf x) × (r < 2147483648)
+  pub size-is : {r : ℕ} → r ≡ tenthsSizeOf (ofBits binary32 n) → (r ≡ tenthsSizeOf x) × (r < 0x8000_0000)
   size-is p = let e = p ∙ ap tenthsSizeOf back in (e, omega (arith, size-most x a))
 
-  sign-is-bit : sign x ≡ leb 2147483648 n
-  sign-is-bit = ap sign (sym back ∙ fields n) ∙ sign-fields (leb 2147483648 n) (n % 2147483648 / 8388608) (n % 8388608) exponent
+  sign-is-bit : sign x ≡ leb 0x8000_0000 n
+  sign-is-bit = ap sign (sym back ∙ ofBits-is binary32 n) ∙ sign-fields (leb 0x8000_0000 n) (n % 0x8000_0000 / 0x80_0000) (n % 0x80_0000) exponent
 
-  pub tenths-plus : n < 2147483648 → tenthsOf x ≡ pos (tenthsSizeOf x)
-  tenths-plus h = tenths-is x (a .whole) ∙ rw (sign-is-bit, lt-leb 2147483648 n h)
+  pub tenths-plus : n < 0x8000_0000 → tenthsOf x ≡ pos (tenthsSizeOf x)
+  tenths-plus h = tenths-is x (a .whole) ∙ rw (sign-is-bit, lt-leb 0x8000_0000 n h)
 
-  pub tenths-minus : 2147483648 ≤ n → tenthsOf x ≡ negℤ (pos (tenthsSizeOf x))
-  tenths-minus h = tenths-is x (a .whole) ∙ rw (sign-is-bit, le-leb 2147483648 n h)
+  pub tenths-minus : 0x8000_0000 ≤ n → tenthsOf x ≡ negℤ (pos (tenthsSizeOf x))
+  tenths-minus h = tenths-is x (a .whole) ∙ rw (sign-is-bit, le-leb 0x8000_0000 n h)

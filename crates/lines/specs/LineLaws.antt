@@ -5,14 +5,15 @@ use mathlib.Core.List.{List, [], _∷_, _++_}
 use Prim.Native.Nat.{ℕ, zero, suc, _+_, _-_, _*_, _/_, _%_, _^_, _≤_, _<_, zero-le}
 use native.Mathlib.Nat.{pow-suc, sub-zero, div-eq-of-lt, add-div-right, div-lt-iff-lt-mul, le-trans}
 use native.Mathlib.Omega.{arith}
-use borrow.Author.Tests.{lt-ltb, le-ltb, ltb-true, ltb-false}
-use lib.Dec.{ltb, lit≤}
+use borrow.Author.Tests.{lt-ltb, le-ltb, ltb-false}
+use lib.Dec.{ltb, lit≤, ltb→lt, nltb→le}
 use lib.Ieee.{Float, nan, inf, fin}
 use lib.IntN.{ℤ, pos, negsuc, negℤ, _+ℤ_, _*ℤ_}
 use lib.ListN.{length, length-append}
 use lib.Pow.{pow-pos}
 use lib.Signed.{shrZ, mag}
 use Rattle.geometry.specs.declared.Rect.{Rect}
+use Rattle.geometry.specs.Choice.{by-test}
 use Rattle.numerics.specs.Bounds.{eps-pos, most-magnitude}
 use Rattle.numerics.specs.Value.{magnitude, sign, Whole, eps, AtMost}
 use Rattle.lines.specs.Line.{tenthsOf, tenthsSizeOf, lineOf, digitsIn, digitsOf, numberText, fieldText, lineText, headText, most, mostTenths, Printable}
@@ -60,17 +61,15 @@ length-digits k n h = length-digitsIn (suc n) k n h
 -- ---- tenths
 -- n units below zero, and a half more, where a half is p units
 rounded-below : (n p : ℕ) → 0 < p → shrZ (negsuc n +ℤ pos p) (2 * p) ≡ negℤ (pos ((suc n + p - 1) / (2 * p)))
-rounded-below n p h = go (ltb p (suc n)) refl
-  where
-    go : (b : Bool) → ltb p (suc n) ≡ b → shrZ (cond b (negsuc (suc n - suc p)) (pos (p - suc n))) (2 * p) ≡ negℤ (pos ((suc n + p - 1) / (2 * p)))
-    go true e =
-        let l = ltb-true p (suc n) e in
-        let q : suc n + p - 1 ≡ (suc n - suc p) + 2 * p = omega arith in
-        let s : (suc n - suc p) / (2 * p) + 1 ≡ suc ((suc n - suc p) / (2 * p)) = omega arith in
-        rw (q, add-div-right (suc n - suc p) {k = 2 * p} (omega arith), s)
-    go false e =
-        let l = ltb-false p (suc n) e in
-        rw (div-eq-of-lt {n = p - suc n} {m = 2 * p} (omega arith), div-eq-of-lt {n = suc n + p - 1} {m = 2 * p} (omega arith))
+rounded-below n p h = by-test (λ z. shrZ z (2 * p) ≡ negℤ (pos ((suc n + p - 1) / (2 * p)))) (ltb p (suc n))
+    (λ t.
+    let l = ltb→lt p (suc n) t in
+    let q : suc n + p - 1 ≡ (suc n - suc p) + 2 * p = omega arith in
+    let s : (suc n - suc p) / (2 * p) + 1 ≡ suc ((suc n - suc p) / (2 * p)) = omega arith in
+    rw (q, add-div-right (suc n - suc p) {k = 2 * p} (omega arith), s))
+    (λ t.
+    let l = nltb→le p (suc n) t in
+    rw (div-eq-of-lt {n = p - suc n} {m = 2 * p} (omega arith), div-eq-of-lt {n = suc n + p - 1} {m = 2 * p} (omega arith)))
 
 rounded-minus : (g p : ℕ) → 0 < p → shrZ (pos 20 *ℤ negℤ (pos g) +ℤ pos p) (2 * p) ≡ negℤ (pos ((20 * g + p - 1) / (2 * p)))
 rounded-minus zero p h = rw (div-eq-of-lt {n = 0 + p} {m = 2 * p} (omega arith), div-eq-of-lt {n = 0 + p - 1} {m = 2 * p} (omega arith))

@@ -11,12 +11,12 @@ returns c = size-low _ (c .if1 .taken)
 add-result : tie.Need-add-result
 add-result c =
     let a = c .before in
-    record { fits = room (8388608 + a .args .n % 8388608) (a .args .n % 2147483648 / 8388608) (omega arith) (c .if1 .left) }
+    record { fits = room (0x80_0000 + a .args .n % 0x80_0000) (a .args .n % 0x8000_0000 / 0x80_0000) (omega arith) (c .if1 .left) }
 
 returns-2 : tie.Need-returns-2
 returns-2 c =
     let a = c .before in
-    rw (power (a .args .n % 2147483648 / 8388608) (c .if1 .left)) (size-shifted (a .args .n) (a .fits .n .fits) (c .if1 .left) (a .pre))
+    rw (power (a .args .n % 0x8000_0000 / 0x80_0000) (c .if1 .left)) (size-shifted (a .args .n) (a .fits .n .fits) (c .if1 .left) (a .pre))
 
 pub tenths-size-spec : {M : Type 1} → statement M
 tenths-size-spec =
