@@ -36,10 +36,6 @@ length-items f w each (x ∷ l) = length-append (f x) (flatMap f l) ∙ rw (each
 abbrev pub lengthFor : ℕ → ℕ → ℕ
 lengthFor count sticks = 25 + 16 * (count + 5 + sticks) + 2 * count
 
--- standard, analog, psp
-pub lengths : (lengthFor 10 0 ≡ 285) × (lengthFor 12 2 ≡ 353) × (lengthFor 8 1 ≡ 265)
-lengths = (refl, refl, refl)
-
 module _ (l : Layout) (cs : l .count ≤ length (l .controls)) (ss : l .stickcount ≤ length (l .sticks)) where
   pub length-rects : length (flatMap rectBytes (elementsOf l)) ≡ 16 * elementCountOf l
   length-rects = length-items rectBytes 16 length-rect (elementsOf l) ∙ ap (λ (n : ℕ). 16 * n) (length-elements l cs ss)

@@ -1,21 +1,21 @@
 -- What is written reads back: a layout's game and elements, with plus zeros for negative ones.
 use mathlib.Core.Path.{_≡_, refl, ap, sym, _∙_}
-use mathlib.Core.Bool.{Bool, true, false, cond}
+use mathlib.Core.Bool.{Bool, true, false}
 use mathlib.Core.List.{List, [], _∷_, _++_, map, append-nil, append-assoc}
 use Prim.Native.Nat.{ℕ, zero, suc, _+_, _*_, _/_, _%_, _^_}
 use native.Mathlib.Nat.{add-assoc, zero-div}
 use native.Mathlib.Omega.{arith}
 use borrow.Author.Tests.{eqb-true, eq-eqb}
-use lib.Dec.{T, eqb}
+use lib.Dec.{T, eqb, eqb→eq}
 use lib.IntN.{ℤ, pos, negℤ}
 use lib.Ieee.{Float, nan, inf, fin, binary32, up, down, ofBits, toBits, fits, eq}
 use lib.Ieee.Back.{whole-unique}
-use lib.Ieee.Bits.{ofBits-toBits}
+use lib.Ieee.Bits.{ofBits-toBits, is-true, is-false}
 use lib.ListN.{length, getD}
 use lib.Seq.{getD-append-add, take-at, drop-at}
 use Rattle.float.specs.Float.{k0}
 use Rattle.geometry.specs.declared.Rect.{Rect}
-use Rattle.geometry.specs.Choice.{both}
+use Rattle.geometry.specs.Choice.{by-test, both}
 use Rattle.layout.specs.declared.Layout.{Layout}
 use Rattle.layout.specs.Layout.{elementsOf}
 use Rattle.layout.specs.Lists.{flatMap}
@@ -32,11 +32,7 @@ use Rattle.written.specs.Written.{fieldValue, writtenGame, writtenElemen
 module _ (C : Float → Type 0) (x : Float) where
   plus-zero-ind : (eq x k0 ≡ true → C k0) → (eq x k0 ≡ false → C x) → C (plusZero x)
   unfolding plusZero
-  plus-zero-ind f g = go (eq x k0) f g
-    where
-      go : (b : Bool) → (b ≡ true → C k0) → (b ≡ false → C x) → C (cond b k0 x)
-      go true f g = f refl
-      go false f g = g refl
+  plus-zero-ind f g = by-test C (eq x k0) (λ t. f (is-true (eq x k0) t)) (λ t. g (is-false (eq x k0) t))
 
 zero-size : (s : Bool) (m : ℕ) (g : ℤ) → eq (fin s m g) k0 ≡ true → m * up g ≡ 0
 unfolding eq ofBits
@@ -75,14 +71,13 @@ minus-zero = refl
 
 other-pattern : (x : Float) → T (fits binary32 x) → eq x k0 ≡ false → ofBits binary32 (patternOf x) ≡ x
 unfolding patternOf
-other-pattern x f e = go (eqb (toBits binary32 x) 0x8000_0000) refl
-  where
-    go : (b : Bool) → eqb (toBits binary32 x) 0x8000_0000 ≡ b → ofBits binary32 (cond b 0 (toBits binary32 x)) ≡ x
-    go false p = ofBits-toBits binary32 x f
-    go true p =
-        let z : x ≡ ofBits binary32 0x8000_0000 = sym (ofBits-toBits binary32 x f) ∙ ap (ofBits binary32) (eqb-true _ _ p) in
-        let h : eq x k0 ≡ true = rw z minus-zero in
-        cc
+other-pattern x f e =
+    by-test (λ n. ofBits binary32 n ≡ x) (eqb (toBits binary32 x) 0x8000_0000)
+    (λ t.
+    let z : x ≡ ofBits binary32 0x8000_0000 = sym (ofBits-toBits binary32 x f) ∙ ap (ofBits binary32) (eqb→eq _ _ t) in
+    let h : eq x k0 ≡ true = rw z minus-zero in
+    cc)
+    (λ t. ofBits-toBits binary32 x f)
 
 number-back : (x : Float) → fits binary32 x ≡ true → ofBits binary32 (patternOf x) ≡ plusZero x
 number-back x f =
