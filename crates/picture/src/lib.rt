@@ -269,48 +269,20 @@ fn fitted(
     ensures { λ r. ⌜ (maybe r ≡ fittedOf base w h game analog psp (cutoutList holes)) × (r .layout .count ≤ 12) × (r .layout .stickcount ≤ 2) ⌝ }
 {
     let bottom = clamp(game.y + game.h, 0.0, h);
-    let high = h - bottom;
-    let half = w / 2.0;
-    let band = Rect {
-        x: 0.0,
-        y: bottom,
-        w,
-        h: high,
-    };
+    let band = Rect::new(0.0, bottom, w, h - bottom);
     let row = horizontal(base, w, band, analog, psp);
     if fitting(row, w, h, game, holes) {
         return row;
     }
-    let left = Rect {
-        x: 0.0,
-        y: bottom,
-        w: half,
-        h: high,
-    };
-    let right = Rect {
-        x: half,
-        y: bottom,
-        w: half,
-        h: high,
-    };
+    let left = Rect::new(0.0, bottom, w / 2.0, h - bottom);
+    let right = Rect::new(w / 2.0, bottom, w / 2.0, h - bottom);
     let below = vertical(base, left, right, analog);
     if fitting(below, w, h, game, holes) {
         return below;
     }
-    let left_w = clamp(game.x, 0.0, w);
     let right_x = clamp(game.x + game.w, 0.0, w);
-    let left = Rect {
-        x: 0.0,
-        y: 0.0,
-        w: left_w,
-        h,
-    };
-    let right = Rect {
-        x: right_x,
-        y: 0.0,
-        w: w - right_x,
-        h,
-    };
+    let left = Rect::new(0.0, 0.0, clamp(game.x, 0.0, w), h);
+    let right = Rect::new(right_x, 0.0, w - right_x, h);
     let beside = vertical(base, left, right, analog);
     if fitting(beside, w, h, game, holes) {
         return beside;
