@@ -11,15 +11,15 @@ use layout::Cutouts;
 use layout::Layout;
 
 // A controller element, and whether it is a face cap.
-pub struct Input {
-    pub bounds: Rect,
-    pub face: bool,
+struct Input {
+    bounds: Rect,
+    face: bool,
 }
 
 // The first `count` of the array: the d-pad, the controls, the sticks.
-pub struct InputList {
-    pub at: [Input; 15],
-    pub count: usize,
+struct InputList {
+    at: [Input; 15],
+    count: usize,
 }
 
 fn inputs(l: Layout) -> InputList

@@ -13,15 +13,15 @@ use search::place_game_in_aspect;
 use toolbar::TOOLBAR_HEIGHT;
 
 // The sizes of the digital wells, the sticks and the shoulders, and where they and the row lie.
-pub struct Row {
-    pub w: f32,
-    pub face: f32,
-    pub stick: f32,
-    pub shoulder: f32,
-    pub rowy: f32,
-    pub sticky: f32,
-    pub facey: f32,
-    pub shouldery: f32,
+struct Row {
+    w: f32,
+    face: f32,
+    stick: f32,
+    shoulder: f32,
+    rowy: f32,
+    sticky: f32,
+    facey: f32,
+    shouldery: f32,
 }
 
 fn measure_row(w: f32, h: f32, face: f32, stick: f32) -> Row
