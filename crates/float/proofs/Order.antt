@@ -1,57 +1,87 @@
--- The order of floats: `<` is transitive and excludes itself turned round and `==`; what lies below a value stays below it under `min`.
-use mathlib.Core.Path.{_≡_, refl, subst}
-use mathlib.Core.Bool.{Bool, true, false, cond, _||_, Bool·beq}
-use Prim.Native.Nat.{ℕ, zero, suc, _+_, _*_, _<_}
-use native.Mathlib.Nat.{mul-lt-mul-of-pos-right, lt-of-mul-lt-mul-right, mul-pos}
+-- The order of floats: `<` goes on over `<=` and excludes itself turned round and `==`; what lies below a value stays below it under `min`.
+use mathlib.Core.Path.{_≡_, refl, sym, subst}
+use mathlib.Core.Logic.{_⊎_, inl, inr}
+use mathlib.Core.Bool.{Bool, true, false, cond, _&&_, _||_, Bool·beq}
+use Prim.Native.Nat.{ℕ, zero, suc, _+_, _*_, _≤_, _<_}
+use native.Mathlib.Nat.{le-of-lt, le-of-eq, lt-of-lt-of-le, eq-zero-or-pos, mul-le-mul-right, mul-lt-mul-of-pos-right, lt-of-mul-lt-mul-right, mul-pos}
 use native.Mathlib.Omega.{arith}
-use lib.Dec.{T, eqb, ltb→lt, lt→ltb, eqb→eq}
-use lib.Ieee.{Float, nan, inf, fin, up, down, below, lt, eq, ne}
+use lib.Dec.{T, eqb, ltb, ltb→lt, lt→ltb, eqb→eq}
+use lib.Ieee.{Float, nan, inf, fin, up, down, below, level, lt, le, eq, ne}
 use lib.Ieee.Compare.{differs-from-itself}
 use lib.Ieee.Fits.{down-pos, and-l, and-r}
+use lib.Ieee.Bits.{is-true}
 use Rattle.float.specs.MinMax.{minOf}
-
--- x / e < y / d < z / g
-chain : (x y z e d g : ℕ) → 0 < e → 0 < g → x * d < y * e → y * g < z * d → x * g < z * e
-chain x y z e d g E G p q = lt-of-mul-lt-mul-right d (omega (arith, mul-lt-mul-of-pos-right p G, mul-lt-mul-of-pos-right q E))
 
 -- the factor of a product that is above something
 above : (a x d g : ℕ) → 0 < g → a < x * d → 0 < x * g
 above a zero d g G h = absurd (omega arith)
 above a (suc x) d g G h = mul-pos {m = suc x} {n = g} (omega arith) G
 
+at-most : (c v : Bool) {a b : ℕ} → (T c → a < b) → (T v → a ≡ b) → T (c || v) → a ≤ b
+at-most true v f g t = le-of-lt (f tt)
+at-most false v f g t = le-of-eq (g t)
+
+-- ---- x / e, y / d and z / g, each with a sign
+module _ (x y z e d g : ℕ) (E : 0 < e) (D : 0 < d) (G : 0 < g) where
+  some : 0 < x * d + y * e → (0 < x * g) ⊎ (0 < y * g)
+  some p = elim (eq-zero-or-pos (x * d)) [ inl k ↦ inr (above 0 y e g G (omega arith)) | inr k ↦ inl (above 0 x d g G k) ]
+
+  level-is : T (eqb (y * g) (z * d) && true) → y * g ≡ z * d
+  level-is v = eqb→eq (y * g) (z * d) (and-l (eqb (y * g) (z * d)) true v)
+
+  upper : T (ltb (y * g) (z * d) || (eqb (y * g) (z * d) && true)) → y * g ≤ z * d
+  upper = at-most (ltb (y * g) (z * d)) (eqb (y * g) (z * d) && true) (ltb→lt (y * g) (z * d)) level-is
+
+  lower : T (ltb (z * d) (y * g) || (eqb (y * g) (z * d) && true)) → z * d ≤ y * g
+  lower = at-most (ltb (z * d) (y * g)) (eqb (y * g) (z * d) && true) (ltb→lt (z * d) (y * g)) (λ v. sym (level-is v))
+
+  below-most : (s t u : Bool) → T (below s (x * d) t (y * e)) → T (below t (y * g) u (z * d) || level t (y * g) u (z * d)) → T (below s (x * g) u (z * e))
+  below-most false true u p q = absurd p
+  below-most false false false p q =
+      lt→ltb (x * g) (z * e) (lt-of-mul-lt-mul-right d (omega (arith, mul-lt-mul-of-pos-right (ltb→lt (x * d) (y * e) p) G, mul-le-mul-right e (upper q))))
+  below-most true false false p q =
+      lt→ltb 0 (x * g + z * e) (elim (some (ltb→lt 0 (x * d + y * e) p)) [ inl k ↦ omega arith | inr k ↦ omega (arith, above 0 z d e E (lt-of-lt-of-le k (upper q))) ])
+  below-most true true false p q = lt→ltb 0 (x * g + z * e) (omega (arith, above _ x d g G (ltb→lt (y * e) (x * d) p)))
+  below-most true true true p q =
+      lt→ltb (z * e) (x * g) (lt-of-mul-lt-mul-right d (omega (arith, mul-lt-mul-of-pos-right (ltb→lt (y * e) (x * d) p) G, mul-le-mul-right e (lower q))))
+  -- here y and z are zero
+  below-most false false true p q = absurd (let k : ⊥ = omega (arith, above _ y e g G (ltb→lt (x * d) (y * e) p), eqb→eq (y * g) 0 (and-r (eqb (y * g) (z * d)) (eqb (y * g) 0) q)) in k)
+  below-most true false true p q =
+      let n = eqb→eq (y * g) 0 (and-r (eqb (y * g) (z * d)) (eqb (y * g) 0) q) in
+      let o = eqb→eq (y * g) (z * d) (and-l (eqb (y * g) (z * d)) (eqb (y * g) 0) q) in
+      lt→ltb (z * e) (x * g) (elim (some (ltb→lt 0 (x * d + y * e) p)) [
+        | inl k ↦ elim (eq-zero-or-pos (z * e)) [ inl a ↦ omega arith | inr a ↦ absurd (omega (arith, above 0 z e d D a)) ]
+        | inr k ↦ absurd (omega arith)
+      ])
+
+pub lt-le-trans : (x y z : Float) → T (lt x y) → T (le y z) → T (lt x z)
+unfolding lt le
+lt-le-trans nan y z p q = absurd p
+lt-le-trans (inf s) nan z p q = absurd p
+lt-le-trans (inf true) (inf true) z p q = absurd p
+lt-le-trans (inf true) (inf false) nan p q = q
+lt-le-trans (inf true) (inf false) (inf true) p q = q
+lt-le-trans (inf true) (inf false) (inf false) p q = tt
+lt-le-trans (inf true) (inf false) (fin u k g) p q = tt
+lt-le-trans (inf true) (fin t n d) nan p q = q
+lt-le-trans (inf true) (fin t n d) (inf true) p q = q
+lt-le-trans (inf true) (fin t n d) (inf false) p q = tt
+lt-le-trans (inf true) (fin t n d) (fin u k g) p q = tt
+lt-le-trans (inf false) (inf t) z p q = absurd p
+lt-le-trans (inf false) (fin t n d) z p q = absurd p
+lt-le-trans (fin s m e) nan z p q = absurd p
+lt-le-trans (fin s m e) (inf true) z p q = absurd p
+lt-le-trans (fin s m e) (inf false) nan p q = q
+lt-le-trans (fin s m e) (inf false) (inf true) p q = q
+lt-le-trans (fin s m e) (inf false) (inf false) p q = tt
+lt-le-trans (fin s m e) (inf false) (fin u k g) p q = absurd q
+lt-le-trans (fin s m e) (fin t n d) nan p q = q
+lt-le-trans (fin s m e) (fin t n d) (inf true) p q = q
+lt-le-trans (fin s m e) (fin t n d) (inf false) p q = tt
+lt-le-trans (fin s m e) (fin t n d) (fin u k g) p q = below-most (m * up e) (n * up d) (k * up g) (down e) (down d) (down g) (down-pos e) (down-pos d) (down-pos g) s t u p q
+
 pub lt-trans : (x y z : Float) → T (lt x y) → T (lt y z) → T (lt x z)
-unfolding lt
-lt-trans nan y z p q = absurd p
-lt-trans (inf s) nan z p q = absurd p
-lt-trans (inf true) (inf false) z p q = absurd (none z q)
-  where
-    none : (z : Float) → T (lt (inf false) z) → ⊥
-    none nan q = q
-    none (inf t) q = q
-    none (fin t k g) q = q
-lt-trans (inf true) (inf true) z p q = absurd p
-lt-trans (inf false) (inf t) z p q = absurd p
-lt-trans (inf false) (fin t n d) z p q = absurd p
-lt-trans (inf true) (fin t n d) nan p q = q
-lt-trans (inf true) (fin t n d) (inf u) p q = q
-lt-trans (inf true) (fin t n d) (fin u k g) p q = tt
-lt-trans (fin s m e) nan z p q = absurd p
-lt-trans (fin s m e) (inf true) z p q = absurd p
-lt-trans (fin s m e) (inf false) nan p q = q
-lt-trans (fin s m e) (inf false) (inf u) p q = absurd q
-lt-trans (fin s m e) (inf false) (fin u k g) p q = absurd q
-lt-trans (fin s m e) (fin t n d) nan p q = q
-lt-trans (fin s m e) (fin t n d) (inf u) p q = q
-lt-trans (fin false m e) (fin false n d) (fin false k g) p q =
-    lt→ltb _ _ (chain (m * up e) (n * up d) (k * up g) (down e) (down d) (down g) (down-pos e) (down-pos g) (ltb→lt _ _ p) (ltb→lt _ _ q))
-lt-trans (fin false m e) (fin true n d) (fin u k g) p q = absurd p
-lt-trans (fin s m e) (fin false n d) (fin true k g) p q = absurd q
-lt-trans (fin true m e) (fin false n d) (fin false k g) p q =
-    lt→ltb 0 (m * up e * down g + k * up g * down e) (omega (arith, above _ (k * up g) (down d) (down e) (down-pos e) (ltb→lt _ _ q)))
-lt-trans (fin true m e) (fin true n d) (fin false k g) p q =
-    lt→ltb 0 (m * up e * down g + k * up g * down e) (omega (arith, above _ (m * up e) (down d) (down g) (down-pos g) (ltb→lt _ _ p)))
-lt-trans (fin true m e) (fin true n d) (fin true k g) p q =
-    lt→ltb _ _ (chain (k * up g) (n * up d) (m * up e) (down g) (down d) (down e) (down-pos g) (down-pos e) (ltb→lt _ _ q) (ltb→lt _ _ p))
+lt-trans x y z p q = lt-le-trans x y z p (unfold le in (rw (is-true (lt y z) q) tt))
 
 pub lt-irrefl : (x : Float) → T (lt x x) → ⊥
 unfolding lt

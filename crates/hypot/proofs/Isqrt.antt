@@ -56,22 +56,15 @@ isqrt-to s n = root-le (s * s + n * n) _ (s + n) (is-root (s * s + n * n) .0) (o
 pub root-is : (m x : ℕ) (b : Bool) → x ≡ isqrt m → ltb (x * x) m ≡ b → cond b (2 * x + 1) (2 * x) ≡ rootOf m
 root-is m x b e t = ap (λ (z : Bool). cond z (2 * x + 1) (2 * x)) (sym t) ∙ ap (λ (z : ℕ). cond (ltb (z * z) m) (2 * z + 1) (2 * z)) e
 
-pub root-most : (m : ℕ) → rootOf m ≤ 2 * isqrt m + 1
-root-most m = go (ltb (isqrt m * isqrt m) m)
+pub root-within : (m : ℕ) → (2 * isqrt m ≤ rootOf m) × (rootOf m ≤ 2 * isqrt m + 1)
+root-within m = go (ltb (isqrt m * isqrt m) m)
   where
-    go : (b : Bool) → cond b (2 * isqrt m + 1) (2 * isqrt m) ≤ 2 * isqrt m + 1
-    go true = omega arith
-    go false = omega arith
-
-pub root-least : (m : ℕ) → 2 * isqrt m ≤ rootOf m
-root-least m = go (ltb (isqrt m * isqrt m) m)
-  where
-    go : (b : Bool) → 2 * isqrt m ≤ cond b (2 * isqrt m + 1) (2 * isqrt m)
+    go : (b : Bool) → (2 * isqrt m ≤ cond b (2 * isqrt m + 1) (2 * isqrt m)) × (cond b (2 * isqrt m + 1) (2 * isqrt m) ≤ 2 * isqrt m + 1)
     go true = omega arith
     go false = omega arith
 
 pub root-ge : (m g : ℕ) → 2 * g ≤ rootOf m → g * g ≤ m
-root-ge m g h = le-trans (square-le {a = g} {b = isqrt m} (omega (arith, root-most m))) (is-root m .0)
+root-ge m g h = le-trans (square-le {a = g} {b = isqrt m} (omega (arith, root-within m))) (is-root m .0)
 
 pub root-cmp : (m g : ℕ) (o : Ordering) → Cmp o (rootOf m) (2 * g) → Cmp o m (g * g)
 root-cmp m g o = go o (ltb (isqrt m * isqrt m) m) (ltb→lt (isqrt m * isqrt m) m) (nltb→le (isqrt m * isqrt m) m)

@@ -2,15 +2,15 @@
 use mathlib.Core.Path.{_≡_, refl, sym, ap, _∙_, subst}
 use mathlib.Core.Logic.{inl, inr}
 use Prim.Native.Nat.{ℕ, suc, _+_, _-_, _*_, _/_, _%_, _^_, _≤_, _<_, zero-le}
-use native.Mathlib.Nat.{le-of-lt, le-of-eq, lt-of-lt-of-le, lt-of-le-of-lt, le-add-right, not-le-of-lt, mul-pos, mul-mul-mul-comm, lt-of-mul-lt-mul-right}
+use native.Mathlib.Nat.{lt-of-lt-of-le, lt-of-le-of-lt, le-add-right, mul-pos, mul-mul-mul-comm, lt-of-mul-lt-mul-right}
 use native.Mathlib.Numerals.{lt-add-one}
 use native.Mathlib.Omega.{arith}
-use mathlib.Core.Bool.{Bool, true, false, _&&_, _||_, true≢false}
-use lib.Dec.{T, ltb, eqb, leb, ltb→lt, eqb→eq}
+use mathlib.Core.Bool.{Bool, true, false, true≢false}
+use lib.Dec.{T, leb}
 use lib.Arith.{lt→nleb}
 use lib.Pow.{pow-pos, pow-add, pow-mono, shl-lt}
 use lib.Ieee.{Float, nan, inf, fin, Format, binary32, binary64, up, down, unlike, round, add, mul, lt, le, fits, ofBits}
-use lib.Ieee.Fits.{down-pos, and-l, and-r}
+use lib.Ieee.Fits.{down-pos}
 use lib.Ieee.Exact.{HasValue, round-exact}
 use lib.Ieee.Order.{round-mono}
 use lib.Ieee.Scale.{finite, round-same}
@@ -21,6 +21,7 @@ use Rattle.hypot.specs.Pattern.{patternOf, exponentOf, significandOf, va
 use Rattle.hypot.specs.Nearest.{mid}
 use Rattle.hypot.specs.Parts.{squareOf, sumOfSquaresOf, midpointOf, Settled}
 use Rattle.hypot.proofs.Order.{lt-or-ge, square-lt}
+use Rattle.float.proofs.Order.{lt-le-trans, lt-irrefl}
 use Rattle.float.proofs.Patterns.{ofBits-is, fields-normal}
 use Rattle.hypot.proofs.Floats.{finite-value, finite-pattern}
 use Rattle.hypot.proofs.Rounding.{mid-next, upper}
@@ -29,45 +30,9 @@ use Rattle.hypot.proofs.Cases.{hypot-is-root}
 use Rattle.hypot.proofs.Value.{significand-lt, value-lt}
 
 -- ---- the order of rounded fractions
-neither : (x y : Bool) {a b : ℕ} → (T x → b ≤ a) → (T y → b ≤ a) → a < b → T (x || y) → ⊥
-neither true y p q h t = not-le-of-lt h (p t)
-neither false y p q h t = not-le-of-lt h (q t)
-
-same : (a b : ℕ) (x : Bool) → T (eqb a b && x) → a ≡ b
-same a b x t = eqb→eq a b (and-l (eqb a b) x t)
-
-nothing : (a b : ℕ) → a ≡ b → a ≡ 0 → 0 < b + a → ⊥
-nothing a b e z h = omega arith
-
-lt-not-le : (x y : Float) → T (lt x y) → T (le y x) → ⊥
-unfolding lt le
-lt-not-le nan y t u = t
-lt-not-le (inf s) nan t u = u
-lt-not-le (inf true) (inf true) t u = t
-lt-not-le (inf true) (inf false) t u = u
-lt-not-le (inf false) (inf s) t u = t
-lt-not-le (inf true) (fin r n d) t u = u
-lt-not-le (inf false) (fin r n d) t u = t
-lt-not-le (fin s m e) nan t u = u
-lt-not-le (fin s m e) (inf true) t u = t
-lt-not-le (fin s m e) (inf false) t u = u
-lt-not-le (fin false m e) (fin true n d) t u = t
-lt-not-le (fin true m e) (fin false n d) t u =
-    let a = m * up e * down d in
-    let b = n * up d * down e in
-    nothing b a (same b a (eqb b 0) u) (eqb→eq b 0 (and-r (eqb b a) (eqb b 0) u)) (ltb→lt 0 (a + b) t)
-lt-not-le (fin false m e) (fin false n d) t u =
-    let a = m * up e * down d in
-    let b = n * up d * down e in
-    neither (ltb b a) (eqb b a && true) (λ v. le-of-lt (ltb→lt b a v)) (λ v. le-of-eq (same b a true v)) (ltb→lt a b t) u
-lt-not-le (fin true m e) (fin true n d) t u =
-    let a = m * up e * down d in
-    let b = n * up d * down e in
-    neither (ltb a b) (eqb b a && true) (λ v. le-of-lt (ltb→lt a b v)) (λ v. le-of-eq (sym (same b a true v))) (ltb→lt b a t) u
-
 -- of two fractions the one that rounds to less is the less
 round-lt : (f : Format) (a b c d : ℕ) → 0 < b → 0 < d → T (lt (round f false a b) (round f false c d)) → a * d < c * b
-round-lt f a b c d B D t = elim (lt-or-ge (a * d) (c * b)) [ inl h ↦ h | inr h ↦ absurd (lt-not-le _ _ t (round-mono f c d a b D B h)) ]
+round-lt f a b c d B D t = elim (lt-or-ge (a * d) (c * b)) [ inl h ↦ h | inr h ↦ absurd (lt-irrefl _ (lt-le-trans _ _ _ t (round-mono f c d a b D B h))) ]
 
 -- ---- the sum of squares
 abbrev L : ℕ

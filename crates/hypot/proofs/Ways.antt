@@ -11,7 +11,7 @@ use Rattle.hypot.specs.Pattern.{exponentOf, significandOf, value, f32At}
 use Rattle.hypot.specs.Nearest.{mid, Nearest}
 use Rattle.hypot.specs.Parts.{rootOf}
 use Rattle.float.specs.Compare.{Cmp, cmp}
-use Rattle.hypot.proofs.Isqrt.{isqrt-from, isqrt-to, root-most, root-least, root-ge, root-cmp}
+use Rattle.hypot.proofs.Isqrt.{isqrt-from, isqrt-to, root-within, root-ge, root-cmp}
 use Rattle.hypot.proofs.Value.{significand-lt}
 use Rattle.hypot.proofs.Rounding.{lower, mid-next, nearest-digits}
 use Rattle.hypot.proofs.Theorem.{nearest-is}
@@ -77,7 +77,7 @@ module _ (p q e f a b s : ℕ) (ee : e ≡ exponentOf p) (ff : f ≡ exponentOf 
       | inr g ↦
           let m : 0x80_0000 ≤ a = leads g in
           let k : 0x80_0000 * 1 ≤ s = subst (λ (x : ℕ). 0x80_0000 * 1 ≤ x) (sym ss) (mul-le-mul m (pow-pos (e - f))) in
-          inr (omega (arith, isqrt-from (2 * s) (2 * b), root-least (2 * s * (2 * s) + 2 * b * (2 * b))))
+          inr (omega (arith, isqrt-from (2 * s) (2 * b), root-within (2 * s * (2 * s) + 2 * b * (2 * b))))
     ],
   )
     where
@@ -88,7 +88,7 @@ module _ (p q e f a b s : ℕ) (ee : e ≡ exponentOf p) (ff : f ≡ exponentOf 
       leads g = omega arith
 
 pub root-small : (s n : ℕ) → s < 0x20_0000_0000 → n < 0x200_0000 → rootOf (s * s + n * n) < 0x100_0000_0000
-root-small s n h k = omega (arith, root-most (s * s + n * n), isqrt-to s n)
+root-small s n h k = omega (arith, root-within (s * s + n * n), isqrt-to s n)
 
 pub shifted-lt : (m d : ℕ) → m < 0x100_0000 → d ≤ 12 → m * 2 ^ d < 0x10_0000_0000
 shifted-lt m d h l = lt-of-lt-of-le (mul-lt-mul-of-pos-right h (pow-pos d)) (mul-le-mul-left 0x100_0000 (pow-mono l))
