@@ -36,7 +36,7 @@ most-size d x n h = let k = mul-le-mul-right d (h .size) in omega arith
 pub most-more : {x : Float} {n : ℕ} → AtMost x n → (m : ℕ) → T (leb n m) → AtMost x m
 most-more {x} {n} h m t = record { whole = h .whole; size = le-trans (h .size) (mul-le-mul-left eps (leb→le n m t)) }
 
-pub room : (x y : Float) (n m : ℕ) → AtMost x n → AtMost y m → T (ltb (n + m) limit) → magnitude x + magnitude y < top
+room : (x y : Float) (n m : ℕ) → AtMost x n → AtMost y m → T (ltb (n + m) limit) → magnitude x + magnitude y < top
 room x y n m p q t =
     let a = most-magnitude p in
     let b = most-magnitude q in
@@ -45,7 +45,7 @@ room x y n m p q t =
     let z = eps-pos in
     omega arith
 
-pub room-mul : (x : Float) (n A B : ℕ) → AtMost x n → T (ltb (n * A) (limit * B)) → magnitude x * A < top * B
+room-mul : (x : Float) (n A B : ℕ) → AtMost x n → T (ltb (n * A) (limit * B)) → magnitude x * A < top * B
 room-mul x n A B p t =
     let a : magnitude x * A ≤ eps * n * A = mul-le-mul-right A (most-magnitude p) in
     let c : eps * suc (n * A) ≤ eps * (limit * B) = mul-le-mul-left eps (ltb→lt (n * A) (limit * B) t) in
@@ -137,7 +137,7 @@ pub div-most : {x y : Float} {n A B : ℕ} (k : ℕ) → AtMost x n → Fraction
 div-most {A = A} {B = B} k p q t u = near-most k (q .above) (div-bounded p q t) (scaled-size B A k p u)
 
 -- ---- comparison, with equality left in: there is slack everywhere
-pub le-over : (d : ℕ) (x y : Float) → posPart x + negPart y ≤ posPart y + negPart x → Le d x y
+le-over : (d : ℕ) (x y : Float) → posPart x + negPart y ≤ posPart y + negPart x → Le d x y
 unfolding P N
 le-over d x y h = let k = mul-le-mul-right d h in omega arith
 

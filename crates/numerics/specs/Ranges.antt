@@ -23,7 +23,7 @@ use Rattle.numerics.specs.Rounding.{round-ind}
 use Rattle.numerics.specs.Operations.{Near, fits-whole, neg-whole, neg-swaps, one-zero, mul-flip}
 use Rattle.numerics.specs.Bounds.{add-bounded, sub-bounded, mul-bounded, div-bounded, lt-not, le-law, min-ind, max-ind, zero-most, most-more}
 
-pub in-most : (x : Float) (a b n : ℕ) → In x a b → limit ≤ a + n → b ≤ limit + n → AtMost x n
+in-most : (x : Float) (a b n : ℕ) → In x a b → limit ≤ a + n → b ≤ limit + n → AtMost x n
 in-most x a b n i h k = record { whole = i .whole; size = go (one-zero x) (mul-le-mul-left eps h) (mul-le-mul-left eps k) }
   where
     go : (posPart x ≡ 0) ⊎ (negPart x ≡ 0) → eps * limit ≤ eps * (a + n) → eps * b ≤ eps * (limit + n) → posPart x + negPart x ≤ eps * n
@@ -173,7 +173,7 @@ pub between : {x l h : Float} {a b a' b' : ℕ} → Whole x → In l a b → In 
 between {x} {l} {h} p i j s t =
     record { whole = p; lo = omega (arith, i .lo, raw l x (lt-not 1 x l p (i .whole) s)); hi = omega (arith, j .hi, raw x h (lt-not 1 h x (j .whole) p t)) }
 
-pub clamp-ind : (x l h : Float) (C : Float → Type 0) → C l → C h → (T (not (lt x l)) → T (not (lt h x)) → C x) → C (clampOf x l h)
+clamp-ind : (x l h : Float) (C : Float → Type 0) → C l → C h → (T (not (lt x l)) → T (not (lt h x)) → C x) → C (clampOf x l h)
 unfolding clampOf
 clamp-ind x l h C p q r = by-test (λ y. C (cond (lt h y) h y)) (lt x l) (λ s. either C (lt h l) q p) (λ s. by-test C (lt h x) (λ t. q) (r s))
 
@@ -183,7 +183,7 @@ clamped x {l} {h} {a} {b} {a'} {b'} i j p =
     (λ s t. in-le _ _ (between (p s t) i j s t) (min-le-left a a') (le-max-right b b'))
 
 -- a value that is no NaN, finite or not, is brought into the range; a b of the lower end, a' b' of the upper
-pub clamp-any-in : (x : Float) {l h : Float} {a b a' b' : ℕ} → T (not (isNan x)) → T (fits binary32 x) → In l a b → In h a' b' → In (clampOf x l h) (min a a') (max b b')
+clamp-any-in : (x : Float) {l h : Float} {a b a' b' : ℕ} → T (not (isNan x)) → T (fits binary32 x) → In l a b → In h a' b' → In (clampOf x l h) (min a a') (max b b')
 clamp-any-in x {l} {h} n f i j = clamped x i j (λ s t. fits-whole x (own x n s t) f)
   where
     own : (x : Float) → T (not (isNan x)) → T (not (lt x l)) → T (not (lt h x)) → T (finite x)
@@ -235,7 +235,7 @@ tested x {l} {h} f i j s t =
     own (fin g m e) s t = tt
 
 -- ---- a product of two finite numbers is no NaN
-pub mul-not-nan : (x y : Float) → T (finite x) → T (finite y) → T (not (isNan (x ⊗ y)))
+mul-not-nan : (x y : Float) → T (finite x) → T (finite y) → T (not (isNan (x ⊗ y)))
 unfolding mul isNan
 mul-not-nan nan y p q = absurd p
 mul-not-nan (inf s) y p q = absurd p
