@@ -14,7 +14,7 @@ use layout::Layout;
 use moves::Move;
 
 // Elements that move together, by index.
-pub struct Group {
+struct Group {
     pub at: [usize; 4],
     pub count: usize,
 }

@@ -14,7 +14,7 @@ use layout::Layout;
 pub const TOOLBAR_HEIGHT: f32 = 18.0;
 
 // What the toolbar must not overlap: the first `count` of the array.
-pub struct Obstacles {
+struct Obstacles {
     pub at: [Rect; 31],
     pub count: usize,
 }
@@ -138,7 +138,7 @@ fn extended(obstacles: Obstacles, elements: Elements) -> Obstacles
 }
 
 // The bars of the two pairs of keys.
-pub struct Bars {
+struct Bars {
     pub left: Rect,
     pub right: Rect,
 }
