@@ -1,6 +1,6 @@
 -- `controller_band` puts the toolbar and the game in place, so those of `arranged` do not matter.
 use mathlib.Core.Path.{_≡_, refl}
-use mathlib.Core.Bool.{Bool, true, false, cond}
+use mathlib.Core.Bool.{Bool, true, false}
 use mathlib.Core.List.{[]}
 use lib.Ieee.{Float}
 use Rattle.float.specs.Float.{k0, k1}
@@ -16,7 +16,7 @@ use Rattle.arranged.specs.Arranged.{finishedOf, dockPlacesOf, dockedOf, arrange
 use Rattle.arranged.specs.Controls.{bareOf}
 use Rattle.arranged.specs.ControlLaws.{anchored-anew, game-anew}
 use Rattle.band.specs.declared.Band.{Band}
-use Rattle.band.specs.Band.{aspectOf, plainPlacesOf, withAnalogOf, bandedOf, bandControlsOf}
+use Rattle.band.specs.Band.{aspectOf, plainPlacesOf, withAnalogOf, bandedOf, bandControlsOf, withInputsOf}
 
 module _ (w h : Float) (analog deep : Bool) (b : Band) where
   banded-bare : bareOf (bandedOf w h analog deep b) ≡ bareOf (bandControlsOf analog deep b)
@@ -29,7 +29,7 @@ module _ (w h : Float) (analog deep : Bool) (b : Band) where
 
   -- the last steps
   abbrev endedOf : Bool → Rect → Layout → Layout
-  endedOf psp picture l = placeGameInAspectOf (cond psp (pspInputsOf l) l) picture false k1 centred (aspectOf psp)
+  endedOf psp picture l = placeGameInAspectOf (withInputsOf l psp) picture false k1 centred (aspectOf psp)
 
   psp-game : (psp : Bool) (picture : Rect) (l : Layout) (old : Rect) → endedOf psp picture (withGame l old) ≡ endedOf psp picture l
   unfolding pspInputsOf

@@ -148,10 +148,14 @@ bandControlsOf analog deep b =
     let places = bandPlacesOf analog deep b in
     cond analog (controllerOf places (bandDpad b) 12 (leftStick b ∷ rightStick b ∷ []) 2) (controllerOf places (bandDpad b) 10 (replicate 2 emptyRect) 0)
 
+-- a psp has some of the inputs only
+abbrev pub withInputsOf : Layout → Bool → Layout
+withInputsOf l psp = cond psp (pspInputsOf l) l
+
 unfoldable pub controllerBandOf : Float → Float → Bool → Bool → Rect → Option Layout
 controllerBandOf w h analog psp picture =
     let room = findRoomOf w h analog psp picture in
     let anchored = anchorToolbarOf (bandedOf w h analog (room .deep) (measureBandOf w h analog room)) w h (maxOf (neg (picture .y)) k0) k0 [] in
     cond (lt w k800 || (lt h k600 || lt (h ⊗ k1·35) w)) none
     (cond (lt (room .face) k122) none
-    (some (placeGameInAspectOf (cond psp (pspInputsOf anchored) anchored) picture false k1 centred (aspectOf psp))))
+    (some (placeGameInAspectOf (withInputsOf anchored psp) picture false k1 centred (aspectOf psp))))

@@ -9,11 +9,10 @@ use Rattle.float.specs.Float.{_⊗_, k0, k1, k1·35, k122, k600, k800}
 use Rattle.float.specs.MinMax.{maxOf}
 use Rattle.geometry.specs.declared.Rect.{Rect}
 use Rattle.layout.specs.declared.Layout.{Layout}
-use Rattle.layout.specs.Psp.{pspInputsOf}
 use Rattle.search.specs.Search.{centred, placeGameInAspectOf}
 use Rattle.toolbar.specs.Toolbar.{anchorToolbarOf}
 use Rattle.band.specs.declared.Room.{Room}
-use Rattle.band.specs.Band.{aspectOf, findRoomOf, measureBandOf, bandedOf, controllerBandOf}
+use Rattle.band.specs.Band.{aspectOf, findRoomOf, measureBandOf, bandedOf, withInputsOf, controllerBandOf}
 
 module _ (w h : Float) (analog psp : Bool) (picture : Rect) where
   abbrev pub bandRoom : Room
@@ -26,7 +25,7 @@ module _ (w h : Float) (analog psp : Bool) (picture : Rect) where
   bandAnchored = anchorToolbarOf bandLayout w h (maxOf (neg (picture .y)) k0) k0 []
 
   abbrev made : Layout
-  made = placeGameInAspectOf (cond psp (pspInputsOf bandAnchored) bandAnchored) picture false k1 centred (aspectOf psp)
+  made = placeGameInAspectOf (withInputsOf bandAnchored psp) picture false k1 centred (aspectOf psp)
 
   pub controller-band-case : (C : Layout → Type 0) {l : Layout} → (T (not (lt (bandRoom .face) k122)) → C made) → controllerBandOf w h analog psp picture ≡ some l → C l
   unfolding controllerBandOf

@@ -17,7 +17,7 @@ use Rattle.layout.specs.Labels.{standardLabels, analogLabels, pspLabels, Inputs
 use Rattle.layout.specs.LabelLaws.{psp-inputs-formed}
 use Rattle.layout.specs.Layout.{controlList}
 use Rattle.layout.specs.Lists.{retain}
-use Rattle.layout.specs.Psp.{atMostOneOf, pspInputsOf}
+use Rattle.layout.specs.Psp.{atMostOneOf}
 use Rattle.layout.proofs.Stores.{stored}
 use Rattle.search.specs.Search.{placeGameInAspectOf}
 use Rattle.toolbar.specs.Toolbar.{anchorToolbarOf}
@@ -25,7 +25,7 @@ use Rattle.arranged.specs.Places.{control}
 use Rattle.arranged.specs.Arranged.{arrangedOf}
 use Rattle.arranged.specs.ArrangedLabels.{placed-formed, arranged-formed}
 use Rattle.band.specs.declared.Band.{Band}
-use Rattle.band.specs.Band.{measureBandOf, withAnalogOf, bandedOf, controllerBandOf}
+use Rattle.band.specs.Band.{measureBandOf, withAnalogOf, bandedOf, withInputsOf, controllerBandOf}
 use Rattle.band.specs.BandCases.{bandRoom, bandAnchored, controller-band-case}
 
 -- with sticks or without, and of those what a psp has
@@ -73,7 +73,7 @@ unfolding bandedOf
 banded-formed w h true deep b = with-analog-formed _ _ _ _ _ (placed-formed standardLabels 0 (arrangedOf w h false) _ (arranged-formed w h false))
 banded-formed w h false deep b = placed-formed standardLabels 0 (arrangedOf w h false) _ (arranged-formed w h false)
 
-pub with-inputs-formed : (analog psp : Bool) (l : Layout) → Formed (bandLabels analog false) (bandSticks analog false) l → Formed (bandLabels analog psp) (bandSticks analog psp) (cond psp (pspInputsOf l) l)
+pub with-inputs-formed : (analog psp : Bool) (l : Layout) → Formed (bandLabels analog false) (bandSticks analog false) l → Formed (bandLabels analog psp) (bandSticks analog psp) (withInputsOf l psp)
 unfolding atMostOneOf onPspOf maskOf idOf
 with-inputs-formed analog false l f = f
 with-inputs-formed true true l f = psp-inputs-formed analogLabels 2 l refl f

@@ -11,7 +11,6 @@ use Rattle.geometry.specs.declared.Rect.{Rect}
 use Rattle.geometry.specs.Choice.{either}
 use Rattle.layout.specs.declared.Label.the-variants.{L3, R3}
 use Rattle.layout.specs.declared.Layout.{Layout}
-use Rattle.layout.specs.Psp.{pspInputsOf}
 use Rattle.numerics.specs.Value.{Le}
 use Rattle.numerics.specs.Rects.{Area}
 use Rattle.numerics.specs.Range.{In, at, minus}
@@ -31,7 +30,7 @@ use Rattle.arranged.specs.PlaceRanges.{Coordinate, coordinate, cap-in, step-in,
 use Rattle.arranged.specs.ArrangedRanges.{arranged-in}
 use Rattle.band.specs.declared.Room.{Room}
 use Rattle.band.specs.declared.Band.{Band}
-use Rattle.band.specs.Band.{aspectOf, findRoomOf, measureBandOf, plainPlacesOf, deepPlacesOf, rowPlacesOf, bandPlacesOf, withAnalogOf, bandedOf, controllerBandOf}
+use Rattle.band.specs.Band.{aspectOf, findRoomOf, measureBandOf, plainPlacesOf, deepPlacesOf, rowPlacesOf, bandPlacesOf, withAnalogOf, bandedOf, withInputsOf, controllerBandOf}
 use Rattle.band.specs.BandCases.{bandRoom, bandLayout, bandAnchored, controller-band-case}
 
 record RoomIn (r : Room) : Type 0 where
@@ -196,5 +195,5 @@ band-in {w} {h} analog psp {picture} W H A e =
         let banded = bandLayout w h analog psp picture in
         anchor-in banded [] W H top (in-more (minus 8192) (at 8192) i0 tt tt) (uncovered-in banded [] tt) L
 
-    inputs : Arranged layout → Arranged (cond psp (pspInputsOf layout) layout)
+    inputs : Arranged layout → Arranged (withInputsOf layout psp)
     inputs L = either Arranged psp (psp-in L) L

@@ -1,10 +1,8 @@
 // `controller_band` of input.rs: mirrored controls in the room that a picture of full width leaves.
 ghost use mathlib.Core.Path.{_≡_};
-ghost use mathlib.Core.Bool.{cond};
 ghost use Prim.Native.Nat.{_≤_};
-ghost use Rattle.layout.specs.Psp.{pspInputsOf};
 ghost use Rattle.arranged.specs.Places.{maybe};
-ghost use Rattle.band.specs.Band.{findRoomOf, measureBandOf, plainPlacesOf, deepPlacesOf, rowPlacesOf, bandPlacesOf, bandControlsOf, aspectOf, controllerBandOf};
+ghost use Rattle.band.specs.Band.{findRoomOf, measureBandOf, plainPlacesOf, deepPlacesOf, rowPlacesOf, bandPlacesOf, bandControlsOf, withInputsOf, aspectOf, controllerBandOf};
 use arranged::BOTTOM;
 use arranged::Faces;
 use arranged::MaybeLayout;
@@ -186,7 +184,7 @@ fn band_controls(analog: bool, deep: bool, b: Band) -> Layout
 // A psp has some of the inputs only.
 pub fn with_inputs(l: Layout, psp: bool) -> Layout
     requires { ⌜ (l .count ≤ 12) × (l .stickcount ≤ 2) ⌝ }
-    ensures { λ r. ⌜ (r ≡ cond psp (pspInputsOf l) l) × (r .count ≤ 12) × (r .stickcount ≤ 2) ⌝ }
+    ensures { λ r. ⌜ (r ≡ withInputsOf l psp) × (r .count ≤ 12) × (r .stickcount ≤ 2) ⌝ }
 {
     if psp {
         return l.psp_inputs();

@@ -10,12 +10,11 @@ use Rattle.geometry.specs.Rect.{newOf}
 use Rattle.layout.specs.declared.Layout.{Layout}
 use Rattle.layout.specs.Layout.{withDpad, withSticks, elementsOf}
 use Rattle.layout.specs.Lists.{filterMap}
-use Rattle.layout.specs.Psp.{pspInputsOf}
 use Rattle.search.specs.Search.{centred, placeGameInAspectOf}
 use Rattle.toolbar.specs.Toolbar.{anchorToolbarOf}
 use Rattle.arranged.specs.declared.Places.{Places}
 use Rattle.arranged.specs.Places.{capOf, placeFacesOf, placedOf}
-use Rattle.band.specs.Band.{aspectOf}
+use Rattle.band.specs.Band.{aspectOf, withInputsOf}
 use Rattle.defaults.specs.Defaults.{analogDefaultOf}
 use Rattle.cutouts.specs.Cutouts.{hitsOf, avoidCutoutsOf}
 
@@ -78,8 +77,7 @@ cameraRailedOf w h rail face =
 -- with the inputs of a psp, and the toolbar in its place
 unfoldable pub anchoredRailsOf : Float → Float → Rect → List Rect → Bool → Float → Float → Layout
 anchoredRailsOf w h picture cutouts psp rail face =
-    let layout = cameraRailedOf w h rail face in
-    anchorToolbarOf (cond psp (pspInputsOf layout) layout) w h (maxOf (neg (picture .y)) k0) k0 cutouts
+    anchorToolbarOf (withInputsOf (cameraRailedOf w h rail face) psp) w h (maxOf (neg (picture .y)) k0) k0 cutouts
 
 -- None, where the rails have no room or an element overlaps a cutout, one without an area too.
 unfoldable pub analogCameraRailsOf : Float → Float → Rect → List Rect → Bool → Option Layout
