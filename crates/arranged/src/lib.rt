@@ -7,6 +7,7 @@ ghost use Rattle.layout.specs.Lists.{mapFirst};
 ghost use Rattle.arranged.specs.Places.{maybe, capOf, placeFacesOf, atOf, controlAtOf, controlsAtOf, controllerOf, moved, placedOf};
 ghost use Rattle.arranged.specs.Arranged.{anchoredOf, finishedOf, sizeWellsOf, placeDockOf, dockPlacesOf, dockedOf, arrangedOf, measureRailsOf, railPlacesOf, requestedOf, narrowOf, clusterOf, sideRailsOf};
 ghost use Rattle.arranged.specs.Controls.{railControlsOf, sideControlsOf};
+use float::SQRT_2;
 use float::clamp;
 use float::max;
 use float::min;
@@ -19,9 +20,6 @@ use layout::Label;
 use layout::Layout;
 use layout::NO_CUTOUTS;
 use search::CENTRED;
-use search::Offset;
-
-const SQRT_2: f32 = 1.41421356237309504880;
 
 // What lies below the controls of rails and bands.
 pub const BOTTOM: f32 = 4.0;

@@ -3,6 +3,9 @@ ghost use mathlib.Core.Path.{_≡_};
 ghost use mathlib.Core.Bool.{cond};
 ghost use Rattle.float.specs.MinMax.{minOf, maxOf, clampOf, absOf};
 
+// Rust's `std::f32::consts::SQRT_2`.
+pub const SQRT_2: f32 = 1.41421356237309504880;
+
 // An `if` as a value, for use inside arithmetic.
 pub fn pick(c: bool, a: f32, b: f32) -> f32
     ensures { λ r. ⌜ r ≡ cond c a b ⌝ }

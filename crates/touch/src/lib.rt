@@ -8,11 +8,10 @@ ghost use Rattle.geometry.specs.Rect.{containsOf};
 ghost use Rattle.hypot.specs.Hypot.{hypotOf};
 ghost use Rattle.layout.specs.Label.{isFaceOf};
 ghost use Rattle.touch.specs.Touch.{axisBitOf, sectorOf, dpadMaskOf, otherHoldsOf, anyOtherOf, isFreeOf, joinOf, targetOf, reachedOf, distanceOf, nearerOf, maskNearOf};
+use float::SQRT_2;
 use geometry::Rect;
 use layout::Control;
 use layout::Layout;
-
-const SQRT_2: f32 = 1.41421356237309504880;
 
 // The nearest face button so far.
 pub struct Face {
