@@ -1,44 +1,53 @@
 -- Texts put one after the other, and what they leave of the array.
-use mathlib.Core.Path.{_≡_, refl, sym, ap, _∙_}
+use mathlib.Core.Path.{_≡_, refl, ap, ap₂, _∙_}
 use mathlib.Core.List.{List, [], _∷_, _++_}
-use Prim.Native.Nat.{ℕ, _+_, _/_, _%_, _<_, _≤_}
+use Prim.Native.Nat.{ℕ, suc, _+_, _/_, _%_, _<_, _≤_}
+use native.Mathlib.Nat.{add-zero}
 use native.Mathlib.Numerals.{add-one}
 use native.Mathlib.Omega.{arith}
 use lib.ListN.{length, take, getD, set, length-append}
 use lib.Seq.{take-suc, take-length}
 use Rattle.writer.specs.Bytes.{stored}
 use Rattle.writer.proofs.Stores.{then, length-stored}
-use Rattle.lines.specs.Line.{Put, digitsOf}
+use Rattle.lines.specs.Line.{putOf, digitsOf}
 use Rattle.lines.specs.LineLaws.{digits-few, digits-more}
 
-pub none : (l : List ℕ) (at : ℕ) → Put l at [] l at
-unfolding stored
-none l at = record { bytes = refl; end = omega arith }
+pub none : (l : List ℕ) (at : ℕ) → (l, at) ≡ putOf l at []
+unfolding putOf stored
+none l at = rw add-zero
 
-pub one : (l : List ℕ) (at b : ℕ) → Put l at (b ∷ []) (set l at b) (at + 1)
-unfolding stored
-one l at b = record { bytes = refl; end = refl }
+pub one : (l : List ℕ) (at b : ℕ) → (set l at b, at + 1) ≡ putOf l at (b ∷ [])
+unfolding putOf stored
+one l at b = refl
 
 -- a text, and a text from where it ended
-pub after : {l m n us vs : List ℕ} {at i j : ℕ} → Put l at us m i → Put m i vs n j → Put l at (us ++ vs) n j
-after {l = l} {us = us} {vs = vs} {at = at} {i = i} p q =
-    record { bytes = then l at i us vs (p .bytes) (q .bytes) (sym (p .end)); end = omega (arith, length-append us vs) }
+pub after : (l us vs : List ℕ) (at : ℕ) {m n : List ℕ} {i j : ℕ} → (m, i) ≡ putOf l at us → (n, j) ≡ putOf m i vs → (n, j) ≡ putOf l at (us ++ vs)
+unfolding putOf
+after l us vs at p q =
+    q ∙ ap (λ (s : List ℕ × ℕ). putOf (s .0) (s .1) vs) p
+    ∙ ap₂ (λ (b : List ℕ) (e : ℕ). (b, e)) (then l at (at + length us) us vs refl refl refl) (omega (arith, length-append us vs))
 
-pub same : {l m t : List ℕ} {at i : ℕ} → Put l at t m i → length m ≡ length l
-same {l = l} {t = t} {at = at} p = ap length (p .bytes) ∙ length-stored l at t
+-- where a text ends, and that the array keeps its length: both are rules for `omega`
+pub ends : (l t : List ℕ) (at : ℕ) {m : List ℕ} {i : ℕ} → (m, i) ≡ putOf l at t → i ≡ at + length t
+unfolding putOf
+ends l t at p = ap (λ (s : List ℕ × ℕ). s .1) p
+
+pub same : (l t : List ℕ) (at : ℕ) {m : List ℕ} {i : ℕ} → (m, i) ≡ putOf l at t → length m ≡ length l
+unfolding putOf
+same l t at p = ap (λ (s : List ℕ × ℕ). length (s .0)) p ∙ length-stored l at t
 
 -- ---- digits
-pub digit : (l : List ℕ) (at n : ℕ) → n < 10 → Put l at (digitsOf n) (set l at (48 + n)) (at + 1)
+pub digit : (l : List ℕ) (at n : ℕ) → n < 10 → (set l at (48 + n), at + 1) ≡ putOf l at (digitsOf n)
 digit l at n h = rw (digits-few n h) (one l at (48 + n))
 
-pub digit-after : {l m : List ℕ} {at i : ℕ} (n : ℕ) → 10 ≤ n → Put l at (digitsOf (n / 10)) m i → Put l at (digitsOf n) (set m i (48 + n % 10)) (i + 1)
-digit-after {m = m} {i = i} n h p = rw (digits-more n h) (after p (one m i (48 + n % 10)))
+pub digit-after : (l : List ℕ) (at n : ℕ) {m : List ℕ} {i : ℕ} → 10 ≤ n → (m, i) ≡ putOf l at (digitsOf (n / 10)) → (set m i (48 + n % 10), i + 1) ≡ putOf l at (digitsOf n)
+digit-after l at n {m} {i} h p = rw (digits-more n h) (after _ _ _ _ p (one m i (48 + n % 10)))
 
 -- ---- a text byte by byte
-pub text-next : {l m : List ℕ} {at : ℕ} (t : List ℕ) (i : ℕ) → i < length t → Put l at (take i t) m (at + i) → Put l at (take (i + 1) t) (set m (at + i) (getD t i 0)) (at + (i + 1))
-text-next {m = m} {at = at} t i h p =
-    let q = after p (one m (at + i) (getD t i 0)) in
-    rw (add-one i, take-suc t i 0 h) (record { bytes = q .bytes; end = omega arith })
+pub text-next : (l t : List ℕ) (at i : ℕ) {m : List ℕ} → i < length t → (m, at + i) ≡ putOf l at (take i t) → (set m (at + i) (getD t i 0), at + (i + 1)) ≡ putOf l at (take (i + 1) t)
+text-next l t at i {m} h p =
+    let e : at + suc i ≡ at + i + 1 = omega arith in
+    rw (add-one i, e, take-suc t i 0 h) (after _ _ _ _ p (one m (at + i) (getD t i 0)))
 
-pub text-whole : {l m : List ℕ} {at : ℕ} (t : List ℕ) (i : ℕ) → length t ≤ i → i ≤ length t → Put l at (take i t) m (at + i) → Put l at t m (at + length t)
-text-whole t i h k p = let e : i ≡ length t = omega arith in rw (e, take-length t) at p
+pub text-whole : (l t : List ℕ) (at i : ℕ) {m : List ℕ} → length t ≤ i → i ≤ length t → (m, at + i) ≡ putOf l at (take i t) → (m, at + length t) ≡ putOf l at t
+text-whole l t at i h k p = let e : i ≡ length t = omega arith in rw (e, take-length t) at p

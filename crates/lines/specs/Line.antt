@@ -1,5 +1,4 @@
 -- A line of the film sheet of document 01, and its text. Definitions only.
-use mathlib.Core.Path.{_≡_}
 use mathlib.Core.Bool.{cond}
 use mathlib.Core.List.{List, [], _∷_, _++_}
 use Prim.Native.Nat.{ℕ, zero, suc, _+_, _-_, _*_, _/_, _%_, _^_}
@@ -75,7 +74,6 @@ pub record Printable (r : Rect) : Type 0 where
   pub w : AtMost (r .w) most
   pub h : AtMost (r .h) most
 
--- `out` is `before` with the text from `at` on, and the text's end is `next`
-pub record Put (before : List ℕ) (at : ℕ) (text : List ℕ) (out : List ℕ) (next : ℕ) : Type 0 where
-  pub bytes : out ≡ stored before at text
-  pub end : next ≡ at + length text
+-- the output with a text stored from `at` on, and where the text ends
+unfoldable pub putOf : List ℕ → ℕ → List ℕ → List ℕ × ℕ
+putOf out at text = (stored out at text, at + length text)

@@ -5,7 +5,7 @@ ghost use lib.Ieee.{binary32, ofBits};
 ghost use lib.ListN.{length};
 ghost use lib.Signed.{mag};
 ghost use Rattle.numerics.specs.Value.{AtMost};
-ghost use Rattle.lines.specs.Line.{tenthsOf, tenthsSizeOf, lineOf, digitsOf, numberText, fieldText, lineText, headText, most, mostTenths, Printable, Put};
+ghost use Rattle.lines.specs.Line.{tenthsOf, tenthsSizeOf, lineOf, digitsOf, numberText, fieldText, lineText, headText, most, mostTenths, Printable, putOf};
 use geometry::Rect;
 
 // The size of ten times an f32 in whole numbers, by its bit pattern: the mantissa's last bit is worth 2^(exponent - 150), so that 2^j of it are 1.
@@ -36,7 +36,7 @@ fn tenths(x: f32) -> i32
 
 fn put_text(out: &mut [u8], at: usize, text: &[u8]) -> usize
     requires { ⌜ at + length (now text) ≤ length (now out) ⌝ }
-    ensures { λ r. ⌜ Put (now (out .entry)) at (now (text .entry)) (now (out .exit)) r ⌝ }
+    ensures { λ r. ⌜ (now (out .exit), r) ≡ putOf (now (out .entry)) at (now (text .entry)) ⌝ }
 {
     for i in 0..text.len() {
         out[at + i] = text[i];
@@ -47,7 +47,7 @@ fn put_text(out: &mut [u8], at: usize, text: &[u8]) -> usize
 // The digits of n, the most significant first: those of n / 10, and then the last.
 fn put_digits(out: &mut [u8], at: usize, n: u32) -> usize
     requires { ⌜ at + length (digitsOf n) ≤ length (now out) ⌝ }
-    ensures { λ r. ⌜ Put (now (out .entry)) at (digitsOf n) (now (out .exit)) r ⌝ }
+    ensures { λ r. ⌜ (now (out .exit), r) ≡ putOf (now (out .entry)) at (digitsOf n) ⌝ }
 {
     if n < 10 {
         out[at] = b'0' + n as u8;
@@ -60,7 +60,7 @@ fn put_digits(out: &mut [u8], at: usize, n: u32) -> usize
 
 fn put_number(out: &mut [u8], at: usize, n: i32) -> usize
     requires { ⌜ (mag n < mostTenths) × (at + length (numberText n) ≤ length (now out)) ⌝ }
-    ensures { λ r. ⌜ Put (now (out .entry)) at (numberText n) (now (out .exit)) r ⌝ }
+    ensures { λ r. ⌜ (now (out .exit), r) ≡ putOf (now (out .entry)) at (numberText n) ⌝ }
 {
     if n < 0 {
         out[at] = b'-';
@@ -72,7 +72,7 @@ fn put_number(out: &mut [u8], at: usize, n: i32) -> usize
 // A blank, and ten times x.
 fn put_field(out: &mut [u8], at: usize, x: f32) -> usize
     requires { ⌜ AtMost x most × (at + length (fieldText (tenthsOf x)) ≤ length (now out)) ⌝ }
-    ensures { λ r. ⌜ Put (now (out .entry)) at (fieldText (tenthsOf x)) (now (out .exit)) r ⌝ }
+    ensures { λ r. ⌜ (now (out .exit), r) ≡ putOf (now (out .entry)) at (fieldText (tenthsOf x)) ⌝ }
 {
     out[at] = b' ';
     put_number(out, at + 1, tenths(x))
@@ -81,7 +81,7 @@ fn put_field(out: &mut [u8], at: usize, x: f32) -> usize
 // A local says where the field begins that it is named after.
 pub fn put_line(out: &mut [u8], at: usize, name: &[u8], r: Rect) -> usize
     requires { ⌜ Printable r × (at + length (lineText (lineOf (now name) r)) ≤ length (now out)) ⌝ }
-    ensures { λ q. ⌜ Put (now (out .entry)) at (lineText (lineOf (now (name .entry)) r)) (now (out .exit)) q ⌝ }
+    ensures { λ q. ⌜ (now (out .exit), q) ≡ putOf (now (out .entry)) at (lineText (lineOf (now (name .entry)) r)) ⌝ }
 {
     let x = put_text(out, at, name);
     let y = put_field(out, x, r.x);
@@ -95,7 +95,7 @@ pub fn put_line(out: &mut [u8], at: usize, name: &[u8], r: Rect) -> usize
 // A word, a number and a line feed, at the start.
 pub fn put_head(out: &mut [u8], word: &[u8], n: u32) -> usize
     requires { ⌜ length (headText (now word) n) ≤ length (now out) ⌝ }
-    ensures { λ r. ⌜ Put (now (out .entry)) 0 (headText (now (word .entry)) n) (now (out .exit)) r ⌝ }
+    ensures { λ r. ⌜ (now (out .exit), r) ≡ putOf (now (out .entry)) 0 (headText (now (word .entry)) n) ⌝ }
 {
     let number = put_text(out, 0, word);
     let end = put_digits(out, number, n);

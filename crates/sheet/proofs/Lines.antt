@@ -13,7 +13,7 @@ use Rattle.layout.specs.Layout.{anyRect, anyControl, controlList, stickList}
 use Rattle.layout.specs.Lists.{flatMap}
 use Rattle.search.specs.Bounded.{Bounded, BoundedGame}
 use Rattle.writer.specs.Bytes.{stored}
-use Rattle.lines.specs.Line.{Line, lineOf, lineText, headText, Put}
+use Rattle.lines.specs.Line.{Line, lineOf, lineText, headText, putOf}
 use Rattle.sheet.specs.Sheet.{controlLine, toolbarLines, stickLines, linesOf, linesText, film, refusal, sheetText, refusedText, layoutSheetOf, refusedSheetOf, gameName, dpadName, pauseName, playName, speedName, muteName, leftName, rightName, zeros, pageOf}
 use Rattle.sheet.specs.SheetLaws.{film-fits, refused-fits, line-count, lines-fit, sheet-fits}
 use Rattle.lines.proofs.Puts.{after}
@@ -39,9 +39,9 @@ control-more cs i h =
     ∙ lines-append (map controlLine (take i cs)) (controlLine c ∷ [])
     ∙ ap (λ (t : List ℕ). controlText i cs ++ t) (line-alone (controlLine c))
 
-pub control-next : {l m q : List ℕ} {at i j : ℕ} (cs : List Control) (k : ℕ) → k < length cs → Put l at (controlText k cs) m i → Put m i (lineText (controlLine (getD cs k anyControl))) q j
-    → Put l at (controlText (k + 1) cs) q j
-control-next cs k h p q = rw (control-more cs k h) (after p q)
+pub control-next : (l : List ℕ) (at : ℕ) (cs : List Control) (k : ℕ) {m q : List ℕ} {i j : ℕ} → k < length cs → (m, i) ≡ putOf l at (controlText k cs)
+    → (q, j) ≡ putOf m i (lineText (controlLine (getD cs k anyControl))) → (q, j) ≡ putOf l at (controlText (k + 1) cs)
+control-next l at cs k h p q = rw (control-more cs k h) (after _ _ _ _ p q)
 
 fewer : (cs : List Control) (i n : ℕ) → i ≤ n → length (controlText i cs) ≤ length (controlText n cs)
 unfolding flatMap
@@ -104,18 +104,17 @@ drop-zeros n k h =
     rw f (drop-at (zeros n) (zeros (k - n)) n (length-replicate n 0))
 
 -- a text that was put at the start of 1,024 zeros
-page-is : {t out : List ℕ} {len : ℕ} → Put (zeros 1024) 0 t out len → length t ≤ 1024 → record { bytes = out; len = len } ≡ pageOf t
-unfolding stored
-page-is {t} {out} {len} p h =
+page-is : (t : List ℕ) {out : List ℕ} {len : ℕ} → (out, len) ≡ putOf (zeros 1024) 0 t → length t ≤ 1024 → record { bytes = out; len = len } ≡ pageOf t
+unfolding putOf stored
+page-is t p h =
     let z : 0 + length t ≡ length t = omega arith in
     let k : length (zeros 1024) ≡ 1024 = length-replicate {A = ℕ} 1024 0 in
-    let e : out ≡ t ++ zeros (1024 - length t) =
-    p .bytes ∙ sets-eq t (zeros 1024) 0 (omega arith) ∙ ap (λ (n : ℕ). t ++ drop n (zeros 1024)) z ∙ ap (λ (s : List ℕ). t ++ s) (drop-zeros (length t) 1024 h) in
-    ap₂ (λ (b : List ℕ) (n : ℕ). record { bytes = b; len = n }) e (p .end ∙ z)
+    let e = sets-eq t (zeros 1024) 0 (omega arith) ∙ ap (λ (n : ℕ). t ++ drop n (zeros 1024)) z ∙ ap (λ (s : List ℕ). t ++ s) (drop-zeros (length t) 1024 h) in
+    ap (λ (s : List ℕ × ℕ). record { bytes = s .0; len = s .1 }) p ∙ ap₂ (λ (b : List ℕ) (n : ℕ). record { bytes = b; len = n }) e z
 
-pub refused-is : {out : List ℕ} {len : ℕ} (n : ℕ) → n ≤ 8 → Put (zeros 1024) 0 (headText refusal n) out len → record { bytes = out; len = len } ≡ refusedSheetOf n
+pub refused-is : {out : List ℕ} {len : ℕ} (n : ℕ) → n ≤ 8 → (out, len) ≡ putOf (zeros 1024) 0 (headText refusal n) → record { bytes = out; len = len } ≡ refusedSheetOf n
 unfolding refusedSheetOf refusedText
-refused-is n h p = page-is p (omega (arith, refused-fits n h))
+refused-is n h p = page-is _ p (omega (arith, refused-fits n h))
 
 module _ (l : Layout) (ten : l .count ≤ 12) (two : l .stickcount ≤ 2) (b : Bounded l) (g : BoundedGame (l .game)) where
   pub sheet-room : length (headText film (l .count + l .stickcount + 6)) + (length (lineText (lineOf gameName (l .game))) + (length (lineText (lineOf dpadName (l .dpad)))
@@ -127,7 +126,7 @@ module _ (l : Layout) (ten : l .count ≤ 12) (two : l .stickcount ≤ 2) (b : B
       omega (arith, film-fits (l .count + l .stickcount + 6) (omega arith), lines-fit l ten two b g)
 
   pub sheet-is : {out : List ℕ} {len : ℕ} → l .count ≤ length (l .controls) → l .stickcount ≤ length (l .sticks)
-      → Put (zeros 1024) 0 (headText film (l .count + l .stickcount + 6) ++ (lineText (lineOf gameName (l .game)) ++ (lineText (lineOf dpadName (l .dpad)) ++ (controlText (l .count) (l .controls) ++ (linesText (toolbarLines l) ++ stickText (l .stickcount) (l .sticks)))))) out len
+      → (out, len) ≡ putOf (zeros 1024) 0 (headText film (l .count + l .stickcount + 6) ++ (lineText (lineOf gameName (l .game)) ++ (lineText (lineOf dpadName (l .dpad)) ++ (controlText (l .count) (l .controls) ++ (linesText (toolbarLines l) ++ stickText (l .stickcount) (l .sticks))))))
       → record { bytes = out; len = len } ≡ layoutSheetOf l
   unfolding layoutSheetOf sheetText
-  sheet-is cs ss p = page-is {t = sheetText (linesOf l)} (rw (line-count l ten two b cs ss, lines-text l) p) (omega (arith, sheet-fits l ten two b g))
+  sheet-is cs ss p = page-is (sheetText (linesOf l)) (rw (line-count l ten two b cs ss, lines-text l) p) (omega (arith, sheet-fits l ten two b g))

@@ -6,7 +6,7 @@ ghost use lib.ListN.{length, take};
 ghost use Rattle.numerics.specs.Each.{Each};
 ghost use Rattle.numerics.specs.Rects.{Element};
 ghost use Rattle.search.specs.Bounded.{Bounded, BoundedGame};
-ghost use Rattle.lines.specs.Line.{Put};
+ghost use Rattle.lines.specs.Line.{putOf};
 ghost use Rattle.sheet.specs.Sheet.{controlLine, toolbarLines, stickLines, linesText, layoutSheetOf, refusedSheetOf};
 use geometry::Rect;
 use layout::Control;
@@ -22,7 +22,7 @@ pub struct Sheet {
 
 fn put_controls(out: &mut [u8], at: usize, controls: [Control; 12], n: usize) -> usize
     requires { ⌜ (n ≤ 12) × Each (λ c. Element (c .bounds)) controls × (at + length (linesText (map controlLine (take n controls))) ≤ length (now out)) ⌝ }
-    ensures { λ r. ⌜ Put (now (out .entry)) at (linesText (map controlLine (take n controls))) (now (out .exit)) r ⌝ }
+    ensures { λ r. ⌜ (now (out .exit), r) ≡ putOf (now (out .entry)) at (linesText (map controlLine (take n controls))) ⌝ }
 {
     let mut next = at;
     for i in 0..n {
@@ -38,7 +38,7 @@ fn put_controls(out: &mut [u8], at: usize, controls: [Control; 12], n: usize) ->
 
 fn put_toolbar(out: &mut [u8], at: usize, l: Layout) -> usize
     requires { ⌜ Bounded l × (at + length (linesText (toolbarLines l)) ≤ length (now out)) ⌝ }
-    ensures { λ r. ⌜ Put (now (out .entry)) at (linesText (toolbarLines l)) (now (out .exit)) r ⌝ }
+    ensures { λ r. ⌜ (now (out .exit), r) ≡ putOf (now (out .entry)) at (linesText (toolbarLines l)) ⌝ }
 {
     let play = put_line(out, at, b"PAUSE", l.pause);
     let speed = put_line(out, play, b"PLAY", l.playback);
@@ -48,7 +48,7 @@ fn put_toolbar(out: &mut [u8], at: usize, l: Layout) -> usize
 
 fn put_sticks(out: &mut [u8], at: usize, sticks: [Rect; 2], n: usize) -> usize
     requires { ⌜ (n ≤ 2) × Each Element sticks × (at + length (linesText (stickLines (take n sticks))) ≤ length (now out)) ⌝ }
-    ensures { λ r. ⌜ Put (now (out .entry)) at (linesText (stickLines (take n sticks))) (now (out .exit)) r ⌝ }
+    ensures { λ r. ⌜ (now (out .exit), r) ≡ putOf (now (out .entry)) at (linesText (stickLines (take n sticks))) ⌝ }
 {
     if n < 1 {
         return at;

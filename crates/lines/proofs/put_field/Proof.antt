@@ -20,10 +20,10 @@ put-number-requires c κs =
 
 returns : tie.Need-returns
 unfolding fieldText
-returns c = after (one _ _ 32) (rw (kept-tenths (c .before .before .before .before .before .before .pre .0) (c .before .before .before .tenths .ensures)) at (c .before .before .put-number .ensures))
+returns c = after _ _ _ _ (one _ _ 32) (rw (kept-tenths (c .before .before .before .before .before .before .pre .0) (c .before .before .before .tenths .ensures)) at (c .before .before .put-number .ensures))
 
 same-length : tie.Need-same-length
-same-length c = same (returns c)
+same-length c = same _ _ _ (returns c)
 
 pub put-field-spec : {M : Type 1} → statement M
 put-field-spec =

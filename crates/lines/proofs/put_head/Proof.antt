@@ -1,7 +1,7 @@
 use denote.Ref.{now}
 use Rattle.lines.specs.Line.{headText}
 use Rattle.lines.specs.LineLaws.{length-head}
-use Rattle.lines.proofs.Puts.{one, after, same}
+use Rattle.lines.proofs.Puts.{one, after, ends, same}
 use native.Mathlib.Omega.{arith}
 use Rattle.lines.proofs.put_head.Statement.{statement}
 use Rattle.lines.proofs.put_head.Tie as tie
@@ -10,20 +10,20 @@ put-text-requires : tie.Need-put-text-requires
 put-text-requires c κs = omega (arith, length-head (now (c .before .before .before .args .word)) (c .before .before .before .args .n))
 
 put-digits-requires : tie.Need-put-digits-requires
-put-digits-requires c κs = omega (arith, length-head (now (c .before .before .before .before .before .before .before .args .word)) (c .before .before .before .before .before .before .before .args .n))
+put-digits-requires c κs = omega (arith, ends, length-head (now (c .before .before .before .before .before .before .before .args .word)) (c .before .before .before .before .before .before .before .args .n))
 
 slice-write-out : tie.Need-slice-write-out
-slice-write-out c = omega (arith, length-head (now (c .before .before .before .before .before .before .before .before .before .before .args .word)) (c .before .before .before .before .before .before .before .before .before .before .args .n))
+slice-write-out c = omega (arith, ends, length-head (now (c .before .before .before .before .before .before .before .before .before .before .args .word)) (c .before .before .before .before .before .before .before .before .before .before .args .n))
 
 add-result : tie.Need-add-result
-add-result c = omega (arith, length-head (now (c .before .before .before .before .before .before .before .before .before .before .args .word)) (c .before .before .before .before .before .before .before .before .before .before .args .n))
+add-result c = omega (arith, ends, length-head (now (c .before .before .before .before .before .before .before .before .before .before .args .word)) (c .before .before .before .before .before .before .before .before .before .before .args .n))
 
 returns : tie.Need-returns
 unfolding headText
-returns c = after (c .before .before .before .before .before .before .put-text .ensures) (after (c .before .before .put-digits .ensures) (one _ _ 10))
+returns c = after _ _ _ _ (c .before .before .before .before .before .before .put-text .ensures) (after _ _ _ _ (c .before .before .put-digits .ensures) (one _ _ 10))
 
 same-length : tie.Need-same-length
-same-length c = same (returns c)
+same-length c = same _ _ _ (returns c)
 
 pub put-head-spec : {M : Type 1} → statement M
 put-head-spec =

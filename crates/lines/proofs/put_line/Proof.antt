@@ -1,7 +1,7 @@
 use denote.Ref.{now}
 use Rattle.lines.specs.Line.{lineText, lineOf}
 use Rattle.lines.specs.LineLaws.{length-parts}
-use Rattle.lines.proofs.Puts.{one, after, same}
+use Rattle.lines.proofs.Puts.{one, after, ends, same}
 use native.Mathlib.Omega.{arith}
 use Rattle.lines.proofs.put_line.Statement.{statement}
 use Rattle.lines.proofs.put_line.Tie as tie
@@ -10,29 +10,29 @@ put-text-requires : tie.Need-put-text-requires
 put-text-requires c κs = omega (arith, length-parts (now (c .before .before .before .args .name)) (c .before .before .before .args .r))
 
 put-field-requires : tie.Need-put-field-requires
-put-field-requires c κs = (c .before .before .before .before .before .before .before .pre .0 .x, omega (arith, length-parts (now (c .before .before .before .before .before .before .before .args .name)) (c .before .before .before .before .before .before .before .args .r)))
+put-field-requires c κs = (c .before .before .before .before .before .before .before .pre .0 .x, omega (arith, ends, length-parts (now (c .before .before .before .before .before .before .before .args .name)) (c .before .before .before .before .before .before .before .args .r)))
 
 put-field-requires-2 : tie.Need-put-field-requires-2
-put-field-requires-2 c κs = (c .before .before .before .before .before .before .before .before .before .before .before .pre .0 .y, omega (arith, length-parts (now (c .before .before .before .before .before .before .before .before .before .before .before .args .name)) (c .before .before .before .before .before .before .before .before .before .before .before .args .r)))
+put-field-requires-2 c κs = (c .before .before .before .before .before .before .before .before .before .before .before .pre .0 .y, omega (arith, ends, length-parts (now (c .before .before .before .before .before .before .before .before .before .before .before .args .name)) (c .before .before .before .before .before .before .before .before .before .before .before .args .r)))
 
 put-field-requires-3 : tie.Need-put-field-requires-3
-put-field-requires-3 c κs = (c .before .before .before .before .before .before .before .before .before .before .before .before .before .before .before .pre .0 .w, omega (arith, length-parts (now (c .before .before .before .before .before .before .before .before .before .before .before .before .before .before .before .args .name)) (c .before .before .before .before .before .before .before .before .before .before .before .before .before .before .before .args .r)))
+put-field-requires-3 c κs = (c .before .before .before .before .before .before .before .before .before .before .before .before .before .before .before .pre .0 .w, omega (arith, ends, length-parts (now (c .before .before .before .before .before .before .before .before .before .before .before .before .before .before .before .args .name)) (c .before .before .before .before .before .before .before .before .before .before .before .before .before .before .before .args .r)))
 
 put-field-requires-4 : tie.Need-put-field-requires-4
-put-field-requires-4 c κs = (c .before .before .before .before .before .before .before .before .before .before .before .before .before .before .before .before .before .before .before .pre .0 .h, omega (arith, length-parts (now (c .before .before .before .before .before .before .before .before .before .before .before .before .before .before .before .before .before .before .before .args .name)) (c .before .before .before .before .before .before .before .before .before .before .before .before .before .before .before .before .before .before .before .args .r)))
+put-field-requires-4 c κs = (c .before .before .before .before .before .before .before .before .before .before .before .before .before .before .before .before .before .before .before .pre .0 .h, omega (arith, ends, length-parts (now (c .before .before .before .before .before .before .before .before .before .before .before .before .before .before .before .before .before .before .before .args .name)) (c .before .before .before .before .before .before .before .before .before .before .before .before .before .before .before .before .before .before .before .args .r)))
 
 slice-write-out : tie.Need-slice-write-out
-slice-write-out c = omega (arith, length-parts (now (c .before .before .before .before .before .before .before .before .before .before .before .before .before .before .before .before .before .before .before .before .before .before .args .name)) (c .before .before .before .before .before .before .before .before .before .before .before .before .before .before .before .before .before .before .before .before .before .before .args .r))
+slice-write-out c = omega (arith, ends, length-parts (now (c .before .before .before .before .before .before .before .before .before .before .before .before .before .before .before .before .before .before .before .before .before .before .args .name)) (c .before .before .before .before .before .before .before .before .before .before .before .before .before .before .before .before .before .before .before .before .before .before .args .r))
 
 add-result : tie.Need-add-result
-add-result c = omega (arith, length-parts (now (c .before .before .before .before .before .before .before .before .before .before .before .before .before .before .before .before .before .before .before .before .before .before .args .name)) (c .before .before .before .before .before .before .before .before .before .before .before .before .before .before .before .before .before .before .before .before .before .before .args .r))
+add-result c = omega (arith, ends, length-parts (now (c .before .before .before .before .before .before .before .before .before .before .before .before .before .before .before .before .before .before .before .before .before .before .args .name)) (c .before .before .before .before .before .before .before .before .before .before .before .before .before .before .before .before .before .before .before .before .before .before .args .r))
 
 returns : tie.Need-returns
 unfolding lineText lineOf
-returns c = after (c .before .before .before .before .before .before .before .before .before .before .before .before .before .before .before .before .before .before .put-text .ensures) (after (c .before .before .before .before .before .before .before .before .before .before .before .before .before .before .put-field .ensures) (after (c .before .before .before .before .before .before .before .before .before .before .put-field2 .ensures) (after (c .before .before .before .before .before .before .put-field3 .ensures) (after (c .before .before .put-field4 .ensures) (one _ _ 10)))))
+returns c = after _ _ _ _ (c .before .before .before .before .before .before .before .before .before .before .before .before .before .before .before .before .before .before .put-text .ensures) (after _ _ _ _ (c .before .before .before .before .before .before .before .before .before .before .before .before .before .before .put-field .ensures) (after _ _ _ _ (c .before .before .before .before .before .before .before .before .before .before .put-field2 .ensures) (after _ _ _ _ (c .before .before .before .before .before .before .put-field3 .ensures) (after _ _ _ _ (c .before .before .put-field4 .ensures) (one _ _ 10)))))
 
 same-length : tie.Need-same-length
-same-length c = same (returns c)
+same-length c = same _ _ _ (returns c)
 
 pub put-line-spec : {M : Type 1} → statement M
 put-line-spec =

@@ -28,10 +28,10 @@ put-digits-requires c κs =
 returns : tie.Need-returns
 returns c =
     let m = minus (c .before .before .before .before .before .before .args .n) (c .before .before .before .before .before .before .pre .0) (c .before .before .before .before .if1 .taken) in
-    rw (m .text) (after (one _ _ 45) (rw (m .size) at (c .before .before .put-digits .ensures)))
+    rw (m .text) (after _ _ _ _ (one _ _ 45) (rw (m .size) at (c .before .before .put-digits .ensures)))
 
 same-length : tie.Need-same-length
-same-length c = same (returns c)
+same-length c = same _ _ _ (returns c)
 
 cast-put-digits-2 : tie.Need-cast-put-digits-2
 cast-put-digits-2 c =
@@ -49,7 +49,7 @@ returns-2 c =
     rw (m .text) (rw (m .size) at (c .before .before .put-digits2 .ensures))
 
 same-length-2 : tie.Need-same-length-2
-same-length-2 c = same (returns-2 c)
+same-length-2 c = same _ _ _ (returns-2 c)
 
 pub put-number-spec : {M : Type 1} → statement M
 put-number-spec =

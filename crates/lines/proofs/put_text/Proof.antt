@@ -1,35 +1,27 @@
 use native.Mathlib.Nat.{add-zero}
-use denote.Ref.{now}
-use lib.ListN.{length-set, length, take}
-use mathlib.Core.Path.{refl, _∙_, _≡_}
-use Rattle.lines.specs.Line.{Put}
-use Rattle.lines.proofs.Puts.{none, text-next, text-whole}
-use borrow.Author.Needs.{needs}
+use lib.ListN.{length, take}
+use mathlib.Core.Path.{_≡_}
+use Rattle.lines.specs.Line.{putOf}
+use Rattle.lines.proofs.Puts.{none, same, text-next, text-whole}
 use native.Mathlib.Omega.{arith}
 use Prim.Native.Nat.{_+_, _-_, _≤_}
 use Rattle.lines.proofs.put_text.Statement.{statement}
 use Rattle.lines.proofs.put_text.Tie as tie
 
 abbrev Inv-loop : tie.InvT-loop
-Inv-loop out₀ at text i₀ i-end out i = (i ≤ length text) × (length out ≡ length out₀) × Put out₀ at (take i text) out (at + i)
+Inv-loop out₀ at text i₀ i-end out i = (i ≤ length text) × ((out, at + i) ≡ putOf out₀ at (take i text))
 
 abbrev μ-loop : tie.MeasureT-loop
 μ-loop out₀ at text i₀ i-end out i = i-end - i
 
 loop-holds : tie.Need-loop-holds Inv-loop μ-loop
-loop-holds c = (omega arith, refl, rw add-zero (none _ _))
+loop-holds c = (omega arith, rw add-zero (none _ _))
 
 loop-again : tie.Need-loop-again Inv-loop μ-loop
-loop-again c =
-    let s = c .before .before .before in
-    let l = c .before .before .loop in
-    (omega arith, length-set (l .out) (s .args .at + l .i) _ ∙ l .inv .1, text-next (now (s .args .text)) (l .i) (omega arith) (l .inv .2))
+loop-again c = (omega arith, text-next _ _ _ _ (omega arith) (c .before .before .loop .inv .1))
 
 returns : tie.Need-returns Inv-loop μ-loop
-returns c =
-    let s = c .before .before in
-    let l = c .before .loop in
-    text-whole (now (s .args .text)) (l .i) (omega arith) (omega arith) (l .inv .2)
+returns c = text-whole _ _ _ _ (omega arith) (omega arith) (c .before .loop .inv .1)
 
 pub put-text-spec : {M : Type 1} → statement M
 put-text-spec =
@@ -40,10 +32,10 @@ put-text-spec =
     loop-holds
     (λ c. omega arith)
     (λ c. omega arith)
-    (λ c. omega arith)
+    (λ c. omega (arith, same))
     (λ c. omega arith)
     (λ c. omega arith)
     loop-again
     (λ c. omega arith)
-    (λ c. search needs)
+    (λ c. same _ _ _ (returns c))
     returns)

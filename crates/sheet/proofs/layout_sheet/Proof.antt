@@ -1,4 +1,4 @@
-use Rattle.lines.proofs.Puts.{after, same}
+use Rattle.lines.proofs.Puts.{after, ends, same}
 use lib.ListN.{length, length-map}
 use Rattle.layout.proofs.Loops.{sized}
 use native.Mathlib.Omega.{arith}
@@ -17,39 +17,32 @@ put-head-requires c κs =
 put-line-requires : tie.Need-put-line-requires
 put-line-requires c κs =
     let s = c .before .before .before .before .before .before .before .before .before in
-    (game-printable (s .pre .3), omega (arith, sheet-room (s .args .l) (s .pre .0) (s .pre .1) (s .pre .2) (s .pre .3)))
+    (game-printable (s .pre .3), omega (arith, ends, sheet-room (s .args .l) (s .pre .0) (s .pre .1) (s .pre .2) (s .pre .3)))
 
 put-line-requires-2 : tie.Need-put-line-requires-2
 put-line-requires-2 c κs =
     let s = c .before .before .before .before .before .before .before .before .before .before .before .before .before in
-    (element-printable (s .pre .2 .dpad), omega (arith, sheet-room (s .args .l) (s .pre .0) (s .pre .1) (s .pre .2) (s .pre .3)))
+    (element-printable (s .pre .2 .dpad), omega (arith, ends, sheet-room (s .args .l) (s .pre .0) (s .pre .1) (s .pre .2) (s .pre .3)))
 
 put-controls-requires : tie.Need-put-controls-requires
 put-controls-requires c κs =
     let s = c .before .before .before .before .before .before .before .before .before .before .before .before .before .before .before .before in
     let h = c .before .before .before .before .before .before .before .before .before .before .put-head .ensures in
-    let g = c .before .before .before .before .before .before .put-line .ensures in
-    let d = c .before .before .put-line2 .ensures in
-    (s .pre .0, s .pre .2 .controls, omega (arith, same h, same g, same d, sheet-room (s .args .l) (s .pre .0) (s .pre .1) (s .pre .2) (s .pre .3)))
+    (s .pre .0, s .pre .2 .controls, omega (arith, ends, same, sheet-room (s .args .l) (s .pre .0) (s .pre .1) (s .pre .2) (s .pre .3)))
 
 put-toolbar-requires : tie.Need-put-toolbar-requires
 put-toolbar-requires c κs =
     let s = c .before .before .before .before .before .before .before .before .before .before .before .before .before .before .before .before .before .before .before in
     let h = c .before .before .before .before .before .before .before .before .before .before .before .before .before .put-head .ensures in
     let g = c .before .before .before .before .before .before .before .before .before .put-line .ensures in
-    let d = c .before .before .before .before .before .put-line2 .ensures in
-    let cs = c .before .before .put-controls .ensures in
-    (s .pre .2, omega (arith, same h, same g, same d, same cs, sheet-room (s .args .l) (s .pre .0) (s .pre .1) (s .pre .2) (s .pre .3)))
+    (s .pre .2, omega (arith, ends, same, sheet-room (s .args .l) (s .pre .0) (s .pre .1) (s .pre .2) (s .pre .3)))
 
 put-sticks-requires : tie.Need-put-sticks-requires
 put-sticks-requires c κs =
     let s = c .before .before .before .before .before .before .before .before .before .before .before .before .before .before .before .before .before .before .before .before .before .before in
     let h = c .before .before .before .before .before .before .before .before .before .before .before .before .before .before .before .before .put-head .ensures in
     let g = c .before .before .before .before .before .before .before .before .before .before .before .before .put-line .ensures in
-    let d = c .before .before .before .before .before .before .before .before .put-line2 .ensures in
-    let cs = c .before .before .before .before .before .put-controls .ensures in
-    let ks = c .before .before .put-toolbar .ensures in
-    (s .pre .1, s .pre .2 .sticks, omega (arith, same h, same g, same d, same cs, same ks, sheet-room (s .args .l) (s .pre .0) (s .pre .1) (s .pre .2) (s .pre .3)))
+    (s .pre .1, s .pre .2 .sticks, omega (arith, ends, same, sheet-room (s .args .l) (s .pre .0) (s .pre .1) (s .pre .2) (s .pre .3)))
 
 returns : tie.Need-returns
 returns c =
@@ -57,7 +50,7 @@ returns c =
     let cs : length (s .args .l .controls) ≡ 12 = search sized in
     let ss : length (s .args .l .sticks) ≡ 2 = rw length-map at (s .good .0 .1 .1 .1 .1 .1 .1 .1 .1 .1 .1 .0 .1 .0 .1) in
     sheet-is (s .args .l) (s .pre .0) (s .pre .1) (s .pre .2) (s .pre .3) (omega arith) (omega arith)
-    (after (c .before .before .before .before .before .before .before .before .before .before .before .before .before .before .before .before .before .before .put-head .ensures) (after (c .before .before .before .before .before .before .before .before .before .before .before .before .before .before .put-line .ensures) (after (c .before .before .before .before .before .before .before .before .before .before .put-line2 .ensures) (after (c .before .before .before .before .before .before .before .put-controls .ensures) (after (c .before .before .before .before .put-toolbar .ensures) (c .before .put-sticks .ensures))))))
+    (after _ _ _ _ (c .before .before .before .before .before .before .before .before .before .before .before .before .before .before .before .before .before .before .put-head .ensures) (after _ _ _ _ (c .before .before .before .before .before .before .before .before .before .before .before .before .before .before .put-line .ensures) (after _ _ _ _ (c .before .before .before .before .before .before .before .before .before .before .put-line2 .ensures) (after _ _ _ _ (c .before .before .before .before .before .before .before .put-controls .ensures) (after _ _ _ _ (c .before .before .before .before .put-toolbar .ensures) (c .before .put-sticks .ensures))))))
 
 pub layout-sheet-spec : {M : Type 1} → statement M
 layout-sheet-spec =

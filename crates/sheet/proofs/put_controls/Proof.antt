@@ -1,16 +1,16 @@
-use mathlib.Core.Path.{sym, _∙_, refl, _≡_}
+use mathlib.Core.Path.{sym, _≡_}
 use lib.Seq.{length-take-le}
 use Rattle.layout.specs.Layout.{anyControl}
 use Rattle.numerics.specs.Rects.{Element}
 use Rattle.numerics.specs.Lists.{each-at}
 use Rattle.sheet.specs.SheetLaws.{element-printable}
-use Rattle.lines.proofs.Puts.{none, same}
+use Rattle.lines.proofs.Puts.{none, ends, same}
 use Rattle.sheet.proofs.Lines.{control-next, control-room}
 use Rattle.layout.proofs.Loops.{sized}
 use Rattle.layout.specs.Lists.{flatMap}
 use lib.ListN.{length, take}
 use mathlib.Core.List.{map}
-use Rattle.lines.specs.Line.{Put}
+use Rattle.lines.specs.Line.{putOf}
 use Rattle.sheet.specs.Sheet.{linesText, controlLine}
 use borrow.Author.Needs.{needs}
 use native.Mathlib.Omega.{arith}
@@ -19,14 +19,14 @@ use Rattle.sheet.proofs.put_controls.Statement.{statement}
 use Rattle.sheet.proofs.put_controls.Tie as tie
 
 abbrev Inv-loop : tie.InvT-loop
-Inv-loop out₀ at n controls next₀ i₀ out next i = (i ≤ n) × (length out ≡ length out₀) × Put out₀ at (linesText (map controlLine (take i controls))) out next
+Inv-loop out₀ at n controls next₀ i₀ out next i = (i ≤ n) × ((out, next) ≡ putOf out₀ at (linesText (map controlLine (take i controls))))
 
 abbrev μ-loop : tie.MeasureT-loop
 μ-loop out₀ at n controls next₀ i₀ out next i = n - i
 
 loop-holds : tie.Need-loop-holds Inv-loop μ-loop
 unfolding flatMap
-loop-holds c = (omega arith, refl, none _ _)
+loop-holds c = (omega arith, none _ _)
 
 array-share-prefix-bytes : tie.Need-array-share-prefix-bytes Inv-loop μ-loop
 array-share-prefix-bytes c = let k : length (c .before .before .name .result .bytes) ≡ 6 = search sized in omega arith
@@ -44,21 +44,20 @@ put-line-requires c κs =
     let l = c .before .before .before .before .before .before .loop in
     let k : length (s .args .t3) ≡ 12 = search sized in
     let r = control-room (s .args .t3) (l .i) (s .args .n) (c .before .before .before .before .before .loop-test .taken) (omega arith) in
-    (element-printable (each-at (λ c. Element (c .bounds)) (l .i) (s .args .t3) anyControl (omega arith) (s .pre .1)), rw (c .before .before .before .name .ensures .0) (omega arith))
+    (element-printable (each-at (λ c. Element (c .bounds)) (l .i) (s .args .t3) anyControl (omega arith) (s .pre .1)), rw (c .before .before .before .name .ensures .0) (omega (arith, ends _ _ _ (l .inv .1), same _ _ _ (l .inv .1))))
 
 loop-again : tie.Need-loop-again Inv-loop μ-loop
 loop-again c =
     let s = c .before .before .before .before .before .before .before .before .before .before .before in
     let l = c .before .before .before .before .before .before .before .before .before .loop in
     let k : length (s .args .t3) ≡ 12 = search sized in
-    let put = c .before .before .put-line .ensures in
-    (omega arith, same put ∙ l .inv .1, control-next (s .args .t3) (l .i) (omega arith) (l .inv .2) (rw (c .before .before .before .before .before .before .name .ensures .0) at put))
+    (omega arith, control-next _ _ (s .args .t3) (l .i) (omega arith) (l .inv .1) (rw (c .before .before .before .before .before .before .name .ensures .0) at (c .before .before .put-line .ensures)))
 
 returns : tie.Need-returns Inv-loop μ-loop
 returns c =
     let l = c .before .loop in
     let e : c .before .before .before .args .n ≡ l .i = omega arith in
-    rw e (l .inv .2)
+    rw e (l .inv .1)
 
 pub put-controls-spec : {M : Type 1} → statement M
 put-controls-spec =
@@ -76,5 +75,5 @@ put-controls-spec =
     (λ c. omega arith)
     (λ c. omega arith)
     loop-again
-    (λ c. search needs)
+    (λ c. same _ _ _ (returns c))
     returns)

@@ -5,7 +5,7 @@ use Rattle.layout.proofs.Loops.{sized}
 use Rattle.layout.specs.Layout.{anyRect}
 use Rattle.numerics.specs.Rects.{Element}
 use Rattle.sheet.specs.SheetLaws.{element-printable}
-use Rattle.lines.proofs.Puts.{none, after}
+use Rattle.lines.proofs.Puts.{none, after, ends}
 use Rattle.numerics.specs.Lists.{each-at}
 use Rattle.sheet.proofs.Lines.{no-stick, one-stick, two-sticks, first-room}
 use borrow.Author.Needs.{needs}
@@ -30,12 +30,12 @@ put-line-requires-2 : tie.Need-put-line-requires-2
 put-line-requires-2 c κs =
     let s = c .before .before .before .before .before .before .before .before .before .before .before .before in
     let k : length (s .args .t3) ≡ 2 = search sized in
-    (element-printable (each-at Element 1 (s .args .t3) anyRect (omega arith) (s .pre .1)), omega (arith, simp length-append at (ap length (two-sticks (s .args .t3) (s .args .n) k (c .before .before .before .if2 .left) (s .pre .0)))))
+    (element-printable (each-at Element 1 (s .args .t3) anyRect (omega arith) (s .pre .1)), omega (arith, ends, simp length-append at (ap length (two-sticks (s .args .t3) (s .args .n) k (c .before .before .before .if2 .left) (s .pre .0)))))
 
 returns-3 : tie.Need-returns-3
 returns-3 c =
     let s = c .before .before .before .before .before .before .before .before .before .before .before .before .before .before .before in
-    rw (two-sticks (s .args .t3) (s .args .n) (search sized) (c .before .before .before .before .before .before .if2 .left) (s .pre .0)) (after (c .before .before .before .before .before .before .before .before .before .put-line .ensures) (c .before .before .put-line2 .ensures))
+    rw (two-sticks (s .args .t3) (s .args .n) (search sized) (c .before .before .before .before .before .before .if2 .left) (s .pre .0)) (after _ _ _ _ (c .before .before .before .before .before .before .before .before .before .put-line .ensures) (c .before .before .put-line2 .ensures))
 
 pub put-sticks-spec : {M : Type 1} → statement M
 put-sticks-spec =

@@ -1,6 +1,6 @@
 use native.Mathlib.Omega.{arith}
 use Rattle.sheet.specs.SheetLaws.{element-printable}
-use Rattle.lines.proofs.Puts.{after}
+use Rattle.lines.proofs.Puts.{after, ends}
 use Rattle.sheet.proofs.Lines.{toolbar-text, length-toolbar}
 use borrow.Author.Needs.{needs}
 use Rattle.sheet.proofs.put_toolbar.Statement.{statement}
@@ -10,16 +10,16 @@ put-line-requires : tie.Need-put-line-requires
 put-line-requires c κs = (element-printable (c .before .before .before .pre .0 .pause), omega (arith, length-toolbar (c .before .before .before .args .l)))
 
 put-line-requires-2 : tie.Need-put-line-requires-2
-put-line-requires-2 c κs = (element-printable (c .before .before .before .before .before .before .before .before .pre .0 .playback), omega (arith, length-toolbar (c .before .before .before .before .before .before .before .before .args .l)))
+put-line-requires-2 c κs = (element-printable (c .before .before .before .before .before .before .before .before .pre .0 .playback), omega (arith, ends, length-toolbar (c .before .before .before .before .before .before .before .before .args .l)))
 
 put-line-requires-3 : tie.Need-put-line-requires-3
-put-line-requires-3 c κs = (element-printable (c .before .before .before .before .before .before .before .before .before .before .before .before .before .pre .0 .speed), omega (arith, length-toolbar (c .before .before .before .before .before .before .before .before .before .before .before .before .before .args .l)))
+put-line-requires-3 c κs = (element-printable (c .before .before .before .before .before .before .before .before .before .before .before .before .before .pre .0 .speed), omega (arith, ends, length-toolbar (c .before .before .before .before .before .before .before .before .before .before .before .before .before .args .l)))
 
 put-line-requires-4 : tie.Need-put-line-requires-4
-put-line-requires-4 c κs = (element-printable (c .before .before .before .before .before .before .before .before .before .before .before .before .before .before .before .before .before .before .pre .0 .mute), omega (arith, length-toolbar (c .before .before .before .before .before .before .before .before .before .before .before .before .before .before .before .before .before .before .args .l)))
+put-line-requires-4 c κs = (element-printable (c .before .before .before .before .before .before .before .before .before .before .before .before .before .before .before .before .before .before .pre .0 .mute), omega (arith, ends, length-toolbar (c .before .before .before .before .before .before .before .before .before .before .before .before .before .before .before .before .before .before .args .l)))
 
 returns : tie.Need-returns
-returns c = rw (toolbar-text (c .before .before .before .before .before .before .before .before .before .before .before .before .before .before .before .before .before .before .before .before .before .args .l)) (after (c .before .before .before .before .before .before .before .before .before .before .before .before .before .before .before .before .before .put-line .ensures) (after (c .before .before .before .before .before .before .before .before .before .before .before .before .put-line2 .ensures) (after (c .before .before .before .before .before .before .before .put-line3 .ensures) (c .before .before .put-line4 .ensures))))
+returns c = rw (toolbar-text (c .before .before .before .before .before .before .before .before .before .before .before .before .before .before .before .before .before .before .before .before .before .args .l)) (after _ _ _ _ (c .before .before .before .before .before .before .before .before .before .before .before .before .before .before .before .before .before .put-line .ensures) (after _ _ _ _ (c .before .before .before .before .before .before .before .before .before .before .before .before .put-line2 .ensures) (after _ _ _ _ (c .before .before .before .before .before .before .before .put-line3 .ensures) (c .before .before .put-line4 .ensures))))
 
 pub put-toolbar-spec : {M : Type 1} → statement M
 put-toolbar-spec =
