@@ -8,8 +8,8 @@ use mir.Val.{SFits}
 use mir.Facts.{toZ-pos}
 use borrow.Author.Needs.{needs, sfits-of}
 use Rattle.geometry.specs.Choice.{either}
-use Rattle.corner_cases.proofs.functions.whole.Statement.{statement}
-use Rattle.corner_cases.proofs.functions.whole.Tie as tie
+use Rattle.corner_cases.proofs.whole.Statement.{statement}
+use Rattle.corner_cases.proofs.whole.Tie as tie
 
 negated : (n : ℕ) → n < 2147483648 → SFits w32 (pos 0 -ℤ pos n)
 negated zero h = sfits-of (omega arith)

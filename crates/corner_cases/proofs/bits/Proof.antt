@@ -1,7 +1,7 @@
 use borrow.Author.Needs.{needs}
 use Rattle.float.proofs.Nan.{no-nan}
-use Rattle.corner_cases.proofs.functions.bits.Statement.{statement}
-use Rattle.corner_cases.proofs.functions.bits.Tie as tie
+use Rattle.corner_cases.proofs.bits.Statement.{statement}
+use Rattle.corner_cases.proofs.bits.Tie as tie
 
 float-to-bits-result : tie.Need-float-to-bits-result
 float-to-bits-result c = no-nan (c .before .args .x) (c .if1 .left)
