@@ -3,21 +3,66 @@
 // of each kind it has, and how many are wrong.
 ghost use Rattle.io.specs.Counts.{Counts};
 use film_sheet::film_sheet;
+use libc::STDOUT_FILENO;
 use order::LayoutAnswer;
 use order::TouchAnswer;
 use reader::from_bits;
 use reader::short;
 use reader::word;
-use tally::Tally;
-
-mod examples;
-mod tally;
 
 fn main() {
-    examples::all();
+    examples();
     replay(b"cases");
     replay(b"orders");
 }
+
+// ---- examples
+
+// The orders in data/examples, which the root has as examples/, and their sheets. Each prints `ok ORDER`, or `WRONG ORDER` if it gives
+// another sheet.
+fn examples() {
+    example(b"examples/standard.order", b"examples/standard.sheet");
+    example(b"examples/analog.order", b"examples/analog.sheet");
+    example(b"examples/psp.order", b"examples/psp.sheet");
+    example(b"examples/keep_clear.order", b"examples/keep_clear.sheet");
+    example(b"examples/saved.order", b"examples/saved.sheet");
+    example(b"examples/wide.order", b"examples/wide.sheet");
+    example(b"examples/narrow.order", b"examples/narrow.sheet");
+    example(b"examples/scaled.order", b"examples/scaled.sheet");
+    example(b"examples/two_cameras.order", b"examples/two_cameras.sheet");
+    example(b"examples/refused.order", b"examples/refused.sheet");
+    example(b"examples/empty.order", b"examples/empty.sheet");
+}
+
+fn example(order: &[u8], sheet: &[u8]) {
+    let mut given = io::buffer();
+    let n = read(order, &mut given);
+    let mut want = io::buffer();
+    let m = read(sheet, &mut want);
+    say(order, !sheet_agrees(&given[..n], &want[..m]));
+}
+
+fn say(name: &[u8], fault: bool) {
+    if fault {
+        io::write_all(STDOUT_FILENO, b"WRONG ");
+    } else {
+        io::write_all(STDOUT_FILENO, b"ok ");
+    }
+    io::write_all(STDOUT_FILENO, name);
+    io::write_all(STDOUT_FILENO, b"\n");
+}
+
+// A file's bytes, or none where it cannot be read.
+fn read(path: &[u8], out: &mut [u8]) -> usize
+    ensures { λ r. ⌜ Counts r (now (out .exit)) ⌝ }
+{
+    let file = os::open_read(path);
+    let n = io::read_full(file, out);
+    libc::close(file);
+    n
+}
+
+// ---- lists
 
 fn replay(list: &[u8]) {
     let file = os::open_read(list);
@@ -25,21 +70,21 @@ fn replay(list: &[u8]) {
     let mut order = io::large_buffer();
     let mut size = 0;
     let mut bytes = io::large_buffer();
-    let mut count = tally::none();
+    let mut count = no_steps();
     for _ in 0usize..100000 {
         if io::read_full(file, &mut head) < 17 {
             break;
         }
         if head[0] == b'O' {
             size = load(file, &head, &mut order);
-            count = tally::counted(count, b'O', true);
+            count = counted(count, b'O', true);
         } else {
             let n = load(file, &head, &mut bytes);
             count = ran(count, &head, &order[..size], &bytes[..n]);
         }
     }
     libc::close(file);
-    tally::report(list, count);
+    report(list, count);
 }
 
 // The bytes that follow a step's head: how many there are.
@@ -53,9 +98,9 @@ fn load(file: i32, head: &[u8; 17], out: &mut [u8]) -> usize
 // Runs a step on the order before it.
 fn ran(t: Tally, head: &[u8; 17], order: &[u8], bytes: &[u8]) -> Tally {
     if head[0] == b'N' {
-        tally::say(bytes, t.fault);
+        say(bytes, t.fault);
     }
-    tally::counted(t, head[0], agrees(head, order, bytes))
+    counted(t, head[0], agrees(head, order, bytes))
 }
 
 fn agrees(head: &[u8; 17], order: &[u8], bytes: &[u8]) -> bool {
@@ -136,4 +181,74 @@ fn within(n: usize, bytes: &[u8]) -> usize
     ensures { λ r. ⌜ Counts r (now (bytes .entry)) ⌝ }
 {
     if n < bytes.len() { n } else { bytes.len() }
+}
+
+// ---- tallies
+
+// How many steps of each kind a list has, and how many are wrong.
+struct Tally {
+    orders: u64,
+    layouts: u64,
+    viewports: u64,
+    touches: u64,
+    sheets: u64,
+    wrong: u64,
+    // The number of the first wrong step's order.
+    first: u64,
+    // Whether a step since the last name is wrong.
+    fault: bool,
+}
+
+fn no_steps() -> Tally {
+    Tally {
+        orders: 0,
+        layouts: 0,
+        viewports: 0,
+        touches: 0,
+        sheets: 0,
+        wrong: 0,
+        first: 0,
+        fault: false,
+    }
+}
+
+// With one step more, which agrees or not.
+fn counted(t: Tally, kind: u8, same: bool) -> Tally {
+    Tally {
+        orders: more(t.orders, kind == b'O'),
+        layouts: more(t.layouts, kind == b'L'),
+        viewports: more(t.viewports, kind == b'V'),
+        touches: more(t.touches, kind == b'T'),
+        sheets: more(t.sheets, kind == b'S'),
+        wrong: more(t.wrong, !same),
+        first: if same | (t.wrong > 0) {
+            t.first
+        } else {
+            t.orders
+        },
+        fault: !same | (t.fault & (kind != b'N')),
+    }
+}
+
+fn more(n: u64, one: bool) -> u64 {
+    std::num::wrapping_add_u64(n, one as u64)
+}
+
+fn report(list: &[u8], t: Tally) {
+    io::write_all(STDOUT_FILENO, list);
+    print(b": orders ", t.orders);
+    print(b", layouts ", t.layouts);
+    print(b", viewports ", t.viewports);
+    print(b", touches ", t.touches);
+    print(b", sheets ", t.sheets);
+    print(b", wrong ", t.wrong);
+    if t.wrong > 0 {
+        print(b", the first at order ", t.first);
+    }
+    io::write_all(STDOUT_FILENO, b"\n");
+}
+
+fn print(name: &[u8], n: u64) {
+    io::write_all(STDOUT_FILENO, name);
+    io::print_decimal(STDOUT_FILENO, n);
 }
