@@ -15,8 +15,8 @@ pub const TOOLBAR_HEIGHT: f32 = 18.0;
 
 // What the toolbar must not overlap: the first `count` of the array.
 struct Obstacles {
-    pub at: [Rect; 31],
-    pub count: usize,
+    at: [Rect; 31],
+    count: usize,
 }
 
 // The bar moved past the obstacle c, away from its own edge of the screen.
@@ -139,8 +139,8 @@ fn extended(obstacles: Obstacles, elements: Elements) -> Obstacles
 
 // The bars of the two pairs of keys.
 struct Bars {
-    pub left: Rect,
-    pub right: Rect,
+    left: Rect,
+    right: Rect,
 }
 
 fn place_both(obstacles: Obstacles, left: Rect, right: Rect, w: f32, h: f32) -> Bars

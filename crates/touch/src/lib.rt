@@ -14,16 +14,16 @@ use layout::Control;
 use layout::Layout;
 
 // The nearest face button so far.
-pub struct Face {
+struct Face {
     // Its bit, or 0 where there is none.
-    pub mask: u16,
-    pub closest: f32,
+    mask: u16,
+    closest: f32,
 }
 
 // The nearest face button so far if the touch lies in free space, where margins count, and if in space that is taken.
-pub struct Faces {
-    pub free: Face,
-    pub taken: Face,
+struct Faces {
+    free: Face,
+    taken: Face,
 }
 
 // The bit of one axis of the d-pad, if the touch lies near enough to that axis.
