@@ -3,7 +3,7 @@ ghost use mathlib.Core.Path.{_≡_};
 ghost use Prim.Native.Nat.{_+_, _*_, _≤_, _<_};
 ghost use lib.Ieee.{binary32, ofBits};
 ghost use lib.ListN.{length};
-ghost use Rattle.geometry.specs.Answer.{refused};
+ghost use Rattle.geometry.specs.Answer.{accepted, refused};
 ghost use Rattle.reader.specs.Order.{answerOf, shortOf, numberAtOf, rectAtOf, filled, readScreenOf, readPictureOf, readModeOf, fitMarkOf, readFitOf, readPlaceOf, readCutoutsOf, readSavedOf, fromByteOf, readFieldOf, blankOf, readOrderOf};
 use geometry::EMPTY;
 use geometry::Rect;
@@ -28,6 +28,13 @@ pub enum Tag {
     Place,
     Cutouts,
     Saved,
+}
+
+fn accept(settings: Settings) -> Reading
+    ensures { λ r. ⌜ answerOf r ≡ accepted settings ⌝ }
+{
+    let refusal = 0;
+    Reading { refusal, settings }
 }
 
 fn refuse(refusal: u8, settings: Settings) -> Reading
@@ -101,10 +108,7 @@ fn read_screen(value: &[u8], s: Settings) -> Reading
     t.w = w;
     t.h = h;
     t.picture = picture;
-    Reading {
-        refusal: 0,
-        settings: t,
-    }
+    accept(t)
 }
 
 fn read_picture(value: &[u8], s: Settings) -> Reading
@@ -119,10 +123,7 @@ fn read_picture(value: &[u8], s: Settings) -> Reading
     }
     let mut t = s;
     t.picture = picture;
-    Reading {
-        refusal: 0,
-        settings: t,
-    }
+    accept(t)
 }
 
 // Bit 0 psp, bit 1 analog, bit 2 allow_overlap.
@@ -142,10 +143,7 @@ fn read_mode(value: &[u8], s: Settings) -> Reading
     preset.overlap = b & 4 != 0;
     let mut t = s;
     t.preset = preset;
-    Reading {
-        refusal: 0,
-        settings: t,
-    }
+    accept(t)
 }
 
 fn fit_mark(b: u8) -> Fit
@@ -183,10 +181,7 @@ fn read_fit(value: &[u8], s: Settings) -> Reading
     };
     let mut t = s;
     t.preset = preset;
-    Reading {
-        refusal: 0,
-        settings: t,
-    }
+    accept(t)
 }
 
 fn read_place(value: &[u8], s: Settings) -> Reading
@@ -208,10 +203,7 @@ fn read_place(value: &[u8], s: Settings) -> Reading
     preset.offset = offset;
     let mut t = s;
     t.preset = preset;
-    Reading {
-        refusal: 0,
-        settings: t,
-    }
+    accept(t)
 }
 
 fn cutout_rects(value: &[u8], n: usize) -> [Rect; 16]
@@ -253,10 +245,7 @@ fn read_cutouts(value: &[u8], s: Settings) -> Reading
     }
     let mut t = s;
     t.cutouts = cutouts;
-    Reading {
-        refusal: 0,
-        settings: t,
-    }
+    accept(t)
 }
 
 // Any f32 may stand in a saved rectangle.
@@ -276,10 +265,7 @@ fn read_saved(value: &[u8], s: Settings) -> Reading
     preset.count = count;
     let mut t = s;
     t.preset = preset;
-    Reading {
-        refusal: 0,
-        settings: t,
-    }
+    accept(t)
 }
 
 impl Tag {
@@ -361,8 +347,5 @@ pub fn read_order(bytes: &[u8]) -> Reading
     if !screen {
         return refuse(4, s);
     }
-    Reading {
-        refusal: 0,
-        settings: s,
-    }
+    accept(s)
 }

@@ -1,7 +1,7 @@
 use borrow.Author.Tests.{ne-eqb, eq-eqb, le-leb, lt-leb, not-true, not-false}
 use mathlib.Core.Path.{_∙_}
 use Rattle.geometry.specs.Answer.{must}
-use Rattle.reader.specs.Order.{answerOf, readCutoutsOf}
+use Rattle.reader.specs.Order.{readCutoutsOf}
 use borrow.Author.Needs.{needs}
 use Rattle.reader.proofs.read_cutouts.Statement.{statement}
 use Rattle.reader.proofs.read_cutouts.Tie as tie
@@ -19,8 +19,8 @@ unfolding readCutoutsOf must
 returns-3 c = c .refuse3 .ensures ∙ rw (eq-eqb _ _ (c .before .before .before .before .before .if1 .left), le-leb _ _ (c .before .before .before .before .if2 .left), ← c .before .before .before .cutout-rects .ensures, ← c .before .before .cutouts-in-limits .ensures, not-true (c .before .before .cutouts-in-limits .result) (c .before .if3 .taken))
 
 returns-4 : tie.Need-returns-4
-unfolding readCutoutsOf must answerOf
-returns-4 c = rw (eq-eqb _ _ (c .before .before .before .before .if1 .left), le-leb _ _ (c .before .before .before .if2 .left), ← c .before .before .cutout-rects .ensures, ← c .before .cutouts-in-limits .ensures, not-false (c .before .cutouts-in-limits .result) (c .if3 .left))
+unfolding readCutoutsOf must
+returns-4 c = c .accept .ensures ∙ rw (eq-eqb _ _ (c .before .before .before .before .before .if1 .left), le-leb _ _ (c .before .before .before .before .if2 .left), ← c .before .before .before .cutout-rects .ensures, ← c .before .before .cutouts-in-limits .ensures, not-false (c .before .before .cutouts-in-limits .result) (c .before .if3 .left))
 
 pub read-cutouts-spec : {M : Type 1} → statement M
 read-cutouts-spec =
@@ -34,4 +34,5 @@ read-cutouts-spec =
     (λ c κs. search needs)
     (λ c κs. search needs)
     returns-3
+    (λ c κs. search needs)
     returns-4)

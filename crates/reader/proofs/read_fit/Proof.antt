@@ -1,7 +1,7 @@
 use borrow.Author.Tests.{ne-eqb, eq-eqb, le-leb, lt-leb}
 use mathlib.Core.Path.{_∙_}
 use Rattle.geometry.specs.Answer.{must}
-use Rattle.reader.specs.Order.{answerOf, readFitOf}
+use Rattle.reader.specs.Order.{readFitOf}
 use borrow.Author.Needs.{needs}
 use Rattle.reader.proofs.read_fit.Statement.{statement}
 use Rattle.reader.proofs.read_fit.Tie as tie
@@ -15,8 +15,8 @@ unfolding readFitOf must
 returns-2 c = c .refuse2 .ensures ∙ rw (eq-eqb _ _ (c .before .before .before .if1 .left), lt-leb _ _ (c .before .if2 .taken))
 
 returns-3 : tie.Need-returns-3
-unfolding readFitOf must answerOf
-returns-3 c = rw (eq-eqb _ _ (c .before .before .before .before .before .before .if1 .left), le-leb _ _ (c .before .before .before .before .if2 .left), ← c .fit-mark .ensures)
+unfolding readFitOf must
+returns-3 c = c .accept .ensures ∙ rw (eq-eqb _ _ (c .before .before .before .before .before .before .before .if1 .left), le-leb _ _ (c .before .before .before .before .before .if2 .left), ← c .before .fit-mark .ensures)
 
 pub read-fit-spec : {M : Type 1} → statement M
 read-fit-spec =
@@ -27,5 +27,6 @@ read-fit-spec =
     (λ c. search needs)
     (λ c κs. search needs)
     returns-2
+    (λ c κs. search needs)
     (λ c κs. search needs)
     returns-3)

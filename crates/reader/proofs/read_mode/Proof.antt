@@ -1,7 +1,7 @@
 use borrow.Author.Tests.{ne-eqb, eq-eqb}
 use mathlib.Core.Path.{_∙_}
 use Rattle.geometry.specs.Answer.{must}
-use Rattle.reader.specs.Order.{answerOf, readModeOf}
+use Rattle.reader.specs.Order.{readModeOf}
 use lib.ListN.{getD}
 use Rattle.reader.proofs.Bits.{test-bit}
 use borrow.Author.Needs.{needs}
@@ -17,12 +17,12 @@ unfolding readModeOf must
 returns-2 c = c .refuse2 .ensures ∙ rw (eq-eqb _ _ (c .before .before .before .if1 .left), ne-eqb _ _ (c .before .if2 .taken))
 
 returns-3 : tie.Need-returns-3
-unfolding readModeOf must answerOf
+unfolding readModeOf must
 returns-3 c =
-    let b = getD (c .before .before .before .before .before .args .value .now) 0 0 in
-    rw (eq-eqb _ _ (c .before .before .before .if1 .left), eq-eqb _ _ (c .before .if2 .left), ← test-bit b 0, ← test-bit b 1, ← test-bit b 2)
+    let b = getD (c .before .before .before .before .before .before .args .value .now) 0 0 in
+    c .accept .ensures ∙ rw (eq-eqb _ _ (c .before .before .before .before .if1 .left), eq-eqb _ _ (c .before .before .if2 .left), ← test-bit b 0, ← test-bit b 1, ← test-bit b 2)
 
 pub read-mode-spec : {M : Type 1} → statement M
 read-mode-spec =
     tie.close
-    (tie.spec (λ c κs. search needs) returns (λ c. search needs) (λ c κs. search needs) returns-2 returns-3)
+    (tie.spec (λ c κs. search needs) returns (λ c. search needs) (λ c κs. search needs) returns-2 (λ c κs. search needs) returns-3)

@@ -2,7 +2,6 @@ use mathlib.Core.Path.{_∙_}
 use borrow.Author.Tests.{not-true, not-false}
 use lib.ListN.{length}
 use Rattle.geometry.specs.Answer.{must}
-use Rattle.reader.specs.Order.{answerOf}
 use Rattle.reader.proofs.Fields.{Left, at-start, at-end, cut-header, not-above, not-a-tag, cut-value, bad-value, next-field}
 use borrow.Author.Needs.{needs}
 use native.Mathlib.Omega.{arith}
@@ -42,8 +41,8 @@ unfolding must
 returns-6 c = c .refuse5 .ensures ∙ (rw (not-true (c .before .before .before .loop .screen) (c .before .if6 .taken)) at (at-end (c .before .before .before .loop .inv .1) (c .before .before .loop-test .left)))
 
 returns-7 : tie.Need-returns-7 Inv-loop μ-loop
-unfolding must answerOf
-returns-7 c = rw (not-false (c .before .before .loop .screen) (c .if6 .left)) at (at-end (c .before .before .loop .inv .1) (c .before .loop-test .left))
+unfolding must
+returns-7 c = c .accept .ensures ∙ (rw (not-false (c .before .before .before .loop .screen) (c .before .if6 .left)) at (at-end (c .before .before .before .loop .inv .1) (c .before .before .loop-test .left)))
 
 pub read-order-spec : {M : Type 1} → statement M
 read-order-spec =
@@ -81,4 +80,5 @@ read-order-spec =
     loop-again
     (λ c κs. search needs)
     returns-6
+    (λ c κs. search needs)
     returns-7)

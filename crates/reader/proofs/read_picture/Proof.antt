@@ -1,7 +1,7 @@
 use borrow.Author.Tests.{ne-eqb, eq-eqb, not-true, not-false}
 use mathlib.Core.Path.{_∙_}
 use Rattle.geometry.specs.Answer.{must}
-use Rattle.reader.specs.Order.{answerOf, readPictureOf}
+use Rattle.reader.specs.Order.{readPictureOf}
 use borrow.Author.Needs.{needs}
 use Rattle.reader.proofs.read_picture.Statement.{statement}
 use Rattle.reader.proofs.read_picture.Tie as tie
@@ -15,8 +15,8 @@ unfolding readPictureOf must
 returns-2 c = c .refuse2 .ensures ∙ rw (eq-eqb _ _ (c .before .before .before .before .if1 .left), ← c .before .before .before .rect-at .ensures, ← c .before .before .rect-in-limits .ensures, not-true (c .before .before .rect-in-limits .result) (c .before .if2 .taken))
 
 returns-3 : tie.Need-returns-3
-unfolding readPictureOf must answerOf
-returns-3 c = rw (eq-eqb _ _ (c .before .before .before .if1 .left), ← c .before .before .rect-at .ensures, ← c .before .rect-in-limits .ensures, not-false (c .before .rect-in-limits .result) (c .if2 .left))
+unfolding readPictureOf must
+returns-3 c = c .accept .ensures ∙ rw (eq-eqb _ _ (c .before .before .before .before .if1 .left), ← c .before .before .before .rect-at .ensures, ← c .before .before .rect-in-limits .ensures, not-false (c .before .before .rect-in-limits .result) (c .before .if2 .left))
 
 pub read-picture-spec : {M : Type 1} → statement M
 read-picture-spec =
@@ -28,4 +28,5 @@ read-picture-spec =
     (λ c κs. search needs)
     (λ c κs. search needs)
     returns-2
+    (λ c κs. search needs)
     returns-3)

@@ -1,7 +1,7 @@
 use borrow.Author.Tests.{ne-eqb, eq-eqb, not-true, not-false}
 use mathlib.Core.Path.{_∙_}
 use Rattle.geometry.specs.Answer.{must}
-use Rattle.reader.specs.Order.{answerOf, readPlaceOf}
+use Rattle.reader.specs.Order.{readPlaceOf}
 use borrow.Author.Needs.{needs}
 use Rattle.reader.proofs.read_place.Statement.{statement}
 use Rattle.reader.proofs.read_place.Tie as tie
@@ -15,8 +15,8 @@ unfolding readPlaceOf must
 returns-2 c = c .refuse2 .ensures ∙ rw (eq-eqb _ _ (c .before .before .before .before .before .before .if1 .left), ← c .before .before .before .before .before .number-at .ensures, ← c .before .before .before .before .number-at2 .ensures, ← c .before .before .before .number-at3 .ensures, ← c .before .before .place-in-limits .ensures, not-true (c .before .before .place-in-limits .result) (c .before .if2 .taken))
 
 returns-3 : tie.Need-returns-3
-unfolding readPlaceOf must answerOf
-returns-3 c = rw (eq-eqb _ _ (c .before .before .before .before .before .before .if1 .left), ← c .before .before .before .before .before .number-at .ensures, ← c .before .before .before .before .number-at2 .ensures, ← c .before .before .before .number-at3 .ensures, ← c .before .before .place-in-limits .ensures, not-false (c .before .before .place-in-limits .result) (c .before .if2 .left))
+unfolding readPlaceOf must
+returns-3 c = c .accept .ensures ∙ rw (eq-eqb _ _ (c .before .before .before .before .before .before .before .if1 .left), ← c .before .before .before .before .before .before .number-at .ensures, ← c .before .before .before .before .before .number-at2 .ensures, ← c .before .before .before .before .number-at3 .ensures, ← c .before .before .before .place-in-limits .ensures, not-false (c .before .before .before .place-in-limits .result) (c .before .before .if2 .left))
 
 pub read-place-spec : {M : Type 1} → statement M
 read-place-spec =
@@ -30,4 +30,5 @@ read-place-spec =
     (λ c κs. search needs)
     (λ c κs. search needs)
     returns-2
+    (λ c κs. search needs)
     returns-3)

@@ -1,7 +1,7 @@
 use borrow.Author.Tests.{ne-eqb, eq-eqb, not-true, not-false}
 use mathlib.Core.Path.{_∙_}
 use Rattle.geometry.specs.Answer.{must}
-use Rattle.reader.specs.Order.{answerOf, readScreenOf}
+use Rattle.reader.specs.Order.{readScreenOf}
 use borrow.Author.Needs.{needs}
 use Rattle.reader.proofs.read_screen.Statement.{statement}
 use Rattle.reader.proofs.read_screen.Tie as tie
@@ -15,8 +15,8 @@ unfolding readScreenOf must
 returns-2 c = c .refuse2 .ensures ∙ rw (eq-eqb _ _ (c .before .before .before .before .before .if1 .left), ← c .before .before .before .before .number-at .ensures, ← c .before .before .before .number-at2 .ensures, ← c .before .before .screen-in-limits .ensures, not-true (c .before .before .screen-in-limits .result) (c .before .if2 .taken))
 
 returns-3 : tie.Need-returns-3
-unfolding readScreenOf must answerOf
-returns-3 c = rw (eq-eqb _ _ (c .before .before .before .before .before .before .if1 .left), ← c .before .before .before .before .before .number-at .ensures, ← c .before .before .before .before .number-at2 .ensures, ← c .before .before .before .screen-in-limits .ensures, not-false (c .before .before .before .screen-in-limits .result) (c .before .before .if2 .left), ← c .before .max .ensures, ← c .max2 .ensures)
+unfolding readScreenOf must
+returns-3 c = c .accept .ensures ∙ rw (eq-eqb _ _ (c .before .before .before .before .before .before .before .if1 .left), ← c .before .before .before .before .before .before .number-at .ensures, ← c .before .before .before .before .before .number-at2 .ensures, ← c .before .before .before .before .screen-in-limits .ensures, not-false (c .before .before .before .before .screen-in-limits .result) (c .before .before .before .if2 .left), ← c .before .before .max .ensures, ← c .before .max2 .ensures)
 
 pub read-screen-spec : {M : Type 1} → statement M
 read-screen-spec =
@@ -29,6 +29,7 @@ read-screen-spec =
     (λ c κs. search needs)
     (λ c κs. search needs)
     returns-2
+    (λ c κs. search needs)
     (λ c κs. search needs)
     (λ c κs. search needs)
     returns-3)
