@@ -54,12 +54,12 @@ fn below_toolbar(l: Layout, picture: Rect) -> Rect
     let left = max(max(picture.y, playback.y + playback.h), speed.y + speed.h);
     let lowest = max(max(left, mute.y + mute.h), pause.y + pause.h);
     let bottom = min(lowest, picture.y + max(picture.h - 1.0, 0.0));
-    Rect {
-        x: picture.x,
-        y: bottom,
-        w: picture.w,
-        h: max(picture.y + picture.h - bottom, 1.0),
-    }
+    Rect::new(
+        picture.x,
+        bottom,
+        picture.w,
+        max(picture.y + picture.h - bottom, 1.0),
+    )
 }
 
 // The largest picture in an area.
@@ -71,12 +71,7 @@ fn largest(area: Rect, aspect: f32) -> Rect
         count: 0,
     };
     let fitted = clear_picture_aspect(area.w, area.h, none, aspect);
-    Rect {
-        x: area.x + fitted.x,
-        y: area.y + fitted.y,
-        w: fitted.w,
-        h: fitted.h,
-    }
+    Rect::new(area.x + fitted.x, area.y + fitted.y, fitted.w, fitted.h)
 }
 
 // Wider by more than 0.01, or as wide to 0.01 beside a wider stick.

@@ -229,12 +229,12 @@ struct Size {
 fn scaled_rect(requested: Size, full: Size, r: Rect) -> Rect
     ensures { λ q. ⌜ q ≡ scaledRectOf requested full r ⌝ }
 {
-    Rect {
-        x: r.x * requested.w / full.w,
-        y: r.y * requested.h / full.h,
-        w: r.w * requested.w / full.w,
-        h: r.h * requested.h / full.h,
-    }
+    Rect::new(
+        r.x * requested.w / full.w,
+        r.y * requested.h / full.h,
+        r.w * requested.w / full.w,
+        r.h * requested.h / full.h,
+    )
 }
 
 fn scaled(elements: Elements, requested: Size, full: Size) -> Elements

@@ -37,12 +37,12 @@ impl Rect {
     {
         let w = float::min(self.w, self.h * aspect);
         let h = w / aspect;
-        Self {
-            x: self.x + (self.w - w) / 2.0,
-            y: self.y + (self.h - h) / 2.0,
+        Self::new(
+            self.x + (self.w - w) / 2.0,
+            self.y + (self.h - h) / 2.0,
             w,
             h,
-        }
+        )
     }
 
     // Neighbours may share 0.01 on either axis.

@@ -410,12 +410,12 @@ fn join(a: Rect, b: Rect) -> Rect
 {
     let x = float::min(a.x, b.x);
     let y = float::min(a.y, b.y);
-    Rect {
+    Rect::new(
         x,
         y,
-        w: float::max(a.x + a.w, b.x + b.w) - x,
-        h: float::max(a.y + a.h, b.y + b.h) - y,
-    }
+        float::max(a.x + a.w, b.x + b.w) - x,
+        float::max(a.y + a.h, b.y + b.h) - y,
+    )
 }
 
 // The box around what was found and one more.

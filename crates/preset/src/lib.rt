@@ -104,12 +104,7 @@ pub fn layout_with_cutouts(p: Preset, w: f32, h: f32, cutouts: Cutouts) -> Layou
     requires { ⌜ (p .count ≤ 32) × (cutouts .count ≤ 16) ⌝ }
     ensures { λ r. ⌜ r ≡ layoutWithCutoutsOf p w h (cutoutList cutouts) ⌝ }
 {
-    let picture = Rect {
-        x: 0.0,
-        y: 0.0,
-        w: max(w, 1.0),
-        h: max(h, 1.0),
-    };
+    let picture = Rect::new(0.0, 0.0, max(w, 1.0), max(h, 1.0));
     layout_in(p, w, h, cutouts, picture)
 }
 

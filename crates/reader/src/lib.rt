@@ -79,12 +79,12 @@ fn rect_at(value: &[u8], i: usize) -> Rect
     requires { ⌜ 16 * i + 16 ≤ length (now value) ⌝ }
     ensures { λ r. ⌜ r ≡ rectAtOf (now (value .entry)) i ⌝ }
 {
-    Rect {
-        x: number_at(value, 4 * i),
-        y: number_at(value, 4 * i + 1),
-        w: number_at(value, 4 * i + 2),
-        h: number_at(value, 4 * i + 3),
-    }
+    Rect::new(
+        number_at(value, 4 * i),
+        number_at(value, 4 * i + 1),
+        number_at(value, 4 * i + 2),
+        number_at(value, 4 * i + 3),
+    )
 }
 
 fn read_screen(value: &[u8], s: Settings) -> Reading
@@ -98,12 +98,7 @@ fn read_screen(value: &[u8], s: Settings) -> Reading
     if !settings::screen_in_limits(w, h) {
         return refuse(6, s);
     }
-    let picture = Rect {
-        x: 0.0,
-        y: 0.0,
-        w: float::max(w, 1.0),
-        h: float::max(h, 1.0),
-    };
+    let picture = Rect::new(0.0, 0.0, float::max(w, 1.0), float::max(h, 1.0));
     let mut t = s;
     t.w = w;
     t.h = h;

@@ -134,12 +134,7 @@ fn content(size: [i32; 2], inset_size: [i32; 2], edges: [i32; 4]) -> Rect
     let current = current_edges(size, inset_size, edges);
     let across = span_along(size, current, 0);
     let down = span_along(size, current, 1);
-    Rect {
-        x: across.start,
-        y: down.start,
-        w: across.extent,
-        h: down.extent,
-    }
+    Rect::new(across.start, down.start, across.extent, down.extent)
 }
 
 // The margin at edge i. A camera that is a local obstacle has none.

@@ -32,12 +32,12 @@ fn on_screen(w: f32, h: f32, r: Rect) -> Rect
 {
     let width = clamp(r.w * w, min(24.0, w), w);
     let height = clamp(r.h * h, min(24.0, h), h);
-    Rect {
-        x: clamp(r.x * w, 0.0, w - width),
-        y: clamp(r.y * h, 0.0, h - height),
-        w: width,
-        h: height,
-    }
+    Rect::new(
+        clamp(r.x * w, 0.0, w - width),
+        clamp(r.y * h, 0.0, h - height),
+        width,
+        height,
+    )
 }
 
 // What was saved for an element, else the element.
@@ -77,12 +77,7 @@ pub fn with_saved(l: Layout, w: f32, h: f32, saved: [Rect; 32], n: usize) -> Lay
 fn part(w: f32, h: f32, r: Rect) -> Rect
     ensures { λ s. ⌜ s ≡ partOf w h r ⌝ }
 {
-    Rect {
-        x: r.x / w,
-        y: r.y / h,
-        w: r.w / w,
-        h: r.h / h,
-    }
+    Rect::new(r.x / w, r.y / h, r.w / w, r.h / h)
 }
 
 fn captured(w: f32, h: f32, elements: Elements, saved: [Rect; 32]) -> [Rect; 32]

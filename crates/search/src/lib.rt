@@ -35,12 +35,7 @@ fn better(best: Rect, x: f32, y: f32, width: f32, aspect: f32) -> Rect
     ensures { λ r. ⌜ r ≡ betterOf best x y width aspect ⌝ }
 {
     if width > best.w || (width == best.w && y < best.y) {
-        return Rect {
-            x,
-            y,
-            w: width,
-            h: width / aspect,
-        };
+        return Rect::new(x, y, width, width / aspect);
     }
     best
 }
@@ -164,12 +159,7 @@ fn obstacles(elements: Elements, bounds: Rect) -> Elements
     for i in 0..n {
         let r = from[i];
         if r.overlaps(bounds) {
-            at[count] = Rect {
-                x: r.x - bounds.x,
-                y: r.y - bounds.y,
-                w: r.w,
-                h: r.h,
-            };
+            at[count] = Rect::new(r.x - bounds.x, r.y - bounds.y, r.w, r.h);
             count += 1;
         }
     }
@@ -190,12 +180,12 @@ fn game(elements: Elements, bounds: Rect, scale: f32, offset: Offset, aspect: f3
     let scale = clamp(scale, 0.25, 1.0);
     let across = clamp(offset.x, 0.0, 1.0);
     let down = clamp(offset.y, 0.0, 1.0);
-    Rect {
-        x: bounds.x + area.x + area.w * (1.0 - scale) * across,
-        y: bounds.y + area.y + area.h * (1.0 - scale) * down,
-        w: area.w * scale,
-        h: area.h * scale,
-    }
+    Rect::new(
+        bounds.x + area.x + area.w * (1.0 - scale) * across,
+        bounds.y + area.y + area.h * (1.0 - scale) * down,
+        area.w * scale,
+        area.h * scale,
+    )
 }
 
 // The elements that the game may not cover: none where it may overlap them.
@@ -243,11 +233,6 @@ pub fn place_game(l: Layout, w: f32, h: f32, overlap: bool, scale: f32, offset: 
     requires { ⌜ (l .count ≤ 12) × (l .stickcount ≤ 2) ⌝ }
     ensures { λ r. ⌜ r ≡ placeGameOf l w h overlap scale offset ⌝ }
 {
-    let bounds = Rect {
-        x: 0.0,
-        y: 0.0,
-        w,
-        h,
-    };
+    let bounds = Rect::new(0.0, 0.0, w, h);
     place_game_in(l, bounds, overlap, scale, offset)
 }

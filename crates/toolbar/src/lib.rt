@@ -24,12 +24,7 @@ fn beside(bar: Rect, left: bool, c: Rect) -> Rect
     ensures { λ r. ⌜ r ≡ besideOf bar left c ⌝ }
 {
     let shifted = float::pick(left, c.x + c.w + 8.0, c.x - bar.w - 8.0);
-    Rect {
-        x: shifted,
-        y: bar.y,
-        w: bar.w,
-        h: bar.h,
-    }
+    Rect::new(shifted, bar.y, bar.w, bar.h)
 }
 
 // A bar may move across as far as the middle of the screen.
@@ -50,12 +45,7 @@ fn below(bar: Rect, h: f32, c: Rect) -> Rect
     ensures { λ r. ⌜ r ≡ belowOf bar h c ⌝ }
 {
     let y = float::min(c.y + c.h + 8.0, float::max(h - bar.h, 0.0));
-    Rect {
-        x: bar.x,
-        y,
-        w: bar.w,
-        h: bar.h,
-    }
+    Rect::new(bar.x, y, bar.w, bar.h)
 }
 
 // Where the bar of a pair of keys comes to lie. One that cannot pass an obstacle on its side of the screen goes below it.
@@ -73,12 +63,7 @@ fn pair(
     requires { ⌜ n ≤ 31 ⌝ }
     ensures { λ r. ⌜ r ≡ pairOf x left width top height w h (take n obstacles) ⌝ }
 {
-    let mut bar = Rect {
-        x,
-        y: top,
-        w: width,
-        h: height,
-    };
+    let mut bar = Rect::new(x, top, width, height);
     for _ in 0..n + 1 {
         let mut c = bar;
         let mut met = false;
@@ -206,18 +191,8 @@ pub fn anchor_toolbar(
         l,
         covered_top,
         cutouts,
-        Rect {
-            x: padding,
-            y: top,
-            w: size + gap + time_width,
-            h: height,
-        },
-        Rect {
-            x: right - size - gap,
-            y: top,
-            w: 2.0 * size + gap,
-            h: height,
-        },
+        Rect::new(padding, top, size + gap + time_width, height),
+        Rect::new(right - size - gap, top, 2.0 * size + gap, height),
         w,
         h,
     );

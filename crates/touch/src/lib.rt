@@ -121,12 +121,12 @@ fn target(r: Rect) -> Rect
     ensures { λ t. ⌜ t ≡ targetOf r ⌝ }
 {
     let padding = float::min(float::min(r.w, r.h) * 0.15, 10.0);
-    Rect {
-        x: r.x - padding,
-        y: r.y - padding,
-        w: r.w + 2.0 * padding,
-        h: r.h + 2.0 * padding,
-    }
+    Rect::new(
+        r.x - padding,
+        r.y - padding,
+        r.w + 2.0 * padding,
+        r.h + 2.0 * padding,
+    )
 }
 
 fn reached(r: Rect, x: f32, y: f32, free: bool) -> bool

@@ -3,8 +3,14 @@ use Rattle.preset.proofs.layout_with_cutouts.Statement.{statement}
 use Rattle.preset.proofs.layout_with_cutouts.Tie as tie
 
 returns : tie.Need-returns
-returns c = rw (← c .before .before .max .ensures, ← c .before .max2 .ensures) (c .layout-in .ensures)
+returns c = rw (← c .before .before .before .max .ensures, ← c .before .before .max2 .ensures, ← c .before .new .ensures) (c .layout-in .ensures)
 
 pub layout-with-cutouts-spec : {M : Type 1} → statement M
 layout-with-cutouts-spec =
-    tie.close (tie.spec (λ c κs. search needs) (λ c κs. search needs) (λ c κs. search needs) returns)
+    tie.close
+    (tie.spec
+    (λ c κs. search needs)
+    (λ c κs. search needs)
+    (λ c κs. search needs)
+    (λ c κs. search needs)
+    returns)

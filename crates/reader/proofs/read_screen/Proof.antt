@@ -16,7 +16,7 @@ returns-2 c = c .refuse2 .ensures ∙ rw (eq-eqb _ _ (c .before .before .before 
 
 returns-3 : tie.Need-returns-3
 unfolding readScreenOf must
-returns-3 c = c .accept .ensures ∙ rw (eq-eqb _ _ (c .before .before .before .before .before .before .before .if1 .left), ← c .before .before .before .before .before .before .number-at .ensures, ← c .before .before .before .before .before .number-at2 .ensures, ← c .before .before .before .before .screen-in-limits .ensures, not-false (c .before .before .before .before .screen-in-limits .result) (c .before .before .before .if2 .left), ← c .before .before .max .ensures, ← c .before .max2 .ensures)
+returns-3 c = c .accept .ensures ∙ rw (eq-eqb _ _ (c .before .before .before .before .before .before .before .before .if1 .left), ← c .before .before .before .before .before .before .before .number-at .ensures, ← c .before .before .before .before .before .before .number-at2 .ensures, ← c .before .before .before .before .before .screen-in-limits .ensures, not-false (c .before .before .before .before .before .screen-in-limits .result) (c .before .before .before .before .if2 .left), ← c .before .before .before .max .ensures, ← c .before .before .max2 .ensures, ← c .before .new .ensures)
 
 pub read-screen-spec : {M : Type 1} → statement M
 read-screen-spec =
@@ -29,6 +29,7 @@ read-screen-spec =
     (λ c κs. search needs)
     (λ c κs. search needs)
     returns-2
+    (λ c κs. search needs)
     (λ c κs. search needs)
     (λ c κs. search needs)
     (λ c κs. search needs)

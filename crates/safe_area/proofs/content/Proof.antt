@@ -12,8 +12,8 @@ span-along-requires-2 c κs = (search needs, (search needs, current-on-scale (c 
 
 returns : tie.Need-returns
 unfolding contentOf
-returns c = rw (← c .before .before .current-edges .ensures, ← c .before .span-along .ensures, ← c .span-along2 .ensures)
+returns c = rw (← c .before .before .before .current-edges .ensures, ← c .before .before .span-along .ensures, ← c .before .span-along2 .ensures, ← c .new .ensures)
 
 pub content-spec : {M : Type 1} → statement M
 content-spec =
-    tie.close (tie.spec (λ c κs. search needs) span-along-requires span-along-requires-2 returns)
+    tie.close (tie.spec (λ c κs. search needs) span-along-requires span-along-requires-2 (λ c κs. search needs) returns)

@@ -1,3 +1,4 @@
+use borrow.Author.Needs.{needs}
 use mathlib.Core.Path.{sym, _∙_}
 use mathlib.Core.Logic.{⊎-elim}
 use mathlib.Core.Bool.{true≢false}
@@ -8,14 +9,15 @@ use Rattle.search.proofs.better.Tie as tie
 returns : tie.Need-returns
 unfolding betterOf
 returns c =
-    ⊎-elim
+    c .new .ensures
+    ∙ ⊎-elim
     (λ t. rw (t .taken))
     (λ t.
     ⊎-elim
     (λ u. rw (t .0 .left, u .0 .taken, sym (u .2) ∙ t .3 .taken))
     (λ u. absurd (true≢false (sym (t .3 .taken) ∙ u .1 ∙ u .0 .left)))
     (t .2 .came))
-    (c .if1 .came)
+    (c .before .if1 .came)
 
 returns-2 : tie.Need-returns-2
 unfolding betterOf
@@ -26,4 +28,4 @@ returns-2 c =
     (c .before .if2 .came)
 
 pub better-spec : {M : Type 1} → statement M
-better-spec = tie.close (tie.spec returns returns-2)
+better-spec = tie.close (tie.spec (λ c κs. search needs) returns returns-2)

@@ -1,3 +1,4 @@
+use mathlib.Core.Path.{_∙_}
 use mathlib.Core.Logic.{⊎-elim}
 use Rattle.search.proofs.Steps.{game-returned}
 use borrow.Author.Needs.{needs}
@@ -6,9 +7,9 @@ use Rattle.search.proofs.game.Tie as tie
 
 returns : tie.Need-returns
 returns c =
-    let clamps = c .before .before .before .before .before .before .before .before in
+    let clamps = c .before .before .before .before .before .before .before .before .before in
     let b = clamps .before .before .before in
-    game-returned _ _ _ _ _
+    c .new .ensures ∙ game-returned _ _ _ _ _
     (b .before .obstacles .ensures .0)
     (⊎-elim
     (λ t. rw (t .0 .taken, t .2) (t .1 .ensures))
@@ -22,6 +23,7 @@ pub game-spec : {M : Type 1} → statement M
 game-spec =
     tie.close
     (tie.spec
+    (λ c κs. search needs)
     (λ c κs. search needs)
     (λ c κs. search needs)
     (λ c κs. search needs)

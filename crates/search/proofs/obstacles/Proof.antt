@@ -38,7 +38,7 @@ loop-again c =
     let p : Rect → Bool = λ r. overlapsOf r (s .args .bounds) in
     let f : Rect → Rect = λ r. newOf (r .x ⊖ s .args .bounds .x) (r .y ⊖ s .args .bounds .y) (r .w) (r .h) in
     ⊎-elim
-    (λ t. (omega arith, omega arith, ap length (t .5) ∙ simp length-set (l .loop .inv .2), rw (t .5, t .6) (filterMap-put p f from (l .loop .i) _ (l .loop .at) (l .loop .count) h k (l .loop .inv .3) (c .before .overlaps .ensures) (t .0 .taken) refl)))
+    (λ t. (omega arith, omega arith, ap length (t .6) ∙ simp length-set (l .loop .inv .2), rw (t .6, t .7) (filterMap-put p f from (l .loop .i) _ (l .loop .at) (l .loop .count) h k (l .loop .inv .3) (c .before .overlaps .ensures) (t .0 .taken) (t .5 .ensures))))
     (λ t. (omega arith, omega arith, ap length (t .1) ∙ l .loop .inv .2, rw (t .1, t .2) (filterMap-skip p f from (l .loop .i) _ (l .loop .at) (l .loop .count) h (l .loop .inv .3) (c .before .overlaps .ensures) (t .0 .left))))
     (c .if1 .came)
 
@@ -57,6 +57,7 @@ obstacles-spec =
     loop-holds
     (λ c. omega arith)
     (λ c. omega arith)
+    (λ c κs. search needs)
     (λ c κs. search needs)
     (λ c. omega arith)
     (λ c. omega arith)

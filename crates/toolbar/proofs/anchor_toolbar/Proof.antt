@@ -7,8 +7,10 @@ returns : tie.Need-returns
 unfolding anchorToolbarOf
 returns c =
     let b = c .before .before .before .before .before .before .before .before in
-    let k = b .before .before .before .before in
+    let k = b .before .before .before .before .before .before in
     let q = k .before .before .before .before in
+    let left = rw (b .before .before .new .ensures) at (b .place-bars .ensures .left) in
+    let right = rw (b .before .new2 .ensures) at (b .place-bars .ensures .right) in
     rw (
       ← q .before .before .min .ensures,
       ← q .before .min2 .ensures,
@@ -17,21 +19,23 @@ returns c =
       ← k .before .before .min4 .ensures,
       ← k .before .min5 .ensures,
       ← k .min6 .ensures,
-      ← b .before .before .before .pick .ensures,
-      ← b .before .before .max2 .ensures,
-      ← b .before .clamp .ensures,
-      ← b .place-bars .ensures .left,
-      ← b .place-bars .ensures .right,
-      ← c .before .before .before .before .before .new .ensures,
-      ← c .before .before .before .new2 .ensures,
-      ← c .before .before .new3 .ensures,
-      ← c .new4 .ensures,
+      ← b .before .before .before .before .before .pick .ensures,
+      ← b .before .before .before .before .max2 .ensures,
+      ← b .before .before .before .clamp .ensures,
+      ← left,
+      ← right,
+      ← c .before .before .before .before .before .new3 .ensures,
+      ← c .before .before .before .new4 .ensures,
+      ← c .before .before .new5 .ensures,
+      ← c .new6 .ensures,
     )
 
 pub anchor-toolbar-spec : {M : Type 1} → statement M
 anchor-toolbar-spec =
     tie.close
     (tie.spec
+    (λ c κs. search needs)
+    (λ c κs. search needs)
     (λ c κs. search needs)
     (λ c κs. search needs)
     (λ c κs. search needs)

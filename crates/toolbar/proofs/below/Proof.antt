@@ -5,7 +5,13 @@ use Rattle.toolbar.proofs.below.Tie as tie
 
 returns : tie.Need-returns
 unfolding belowOf
-returns c = rw (← c .before .max .ensures, ← c .min .ensures)
+returns c = rw (← c .before .before .max .ensures, ← c .before .min .ensures, ← c .new .ensures)
 
 pub below-spec : {M : Type 1} → statement M
-below-spec = tie.close (tie.spec (λ c κs. search needs) (λ c κs. search needs) returns)
+below-spec =
+    tie.close
+    (tie.spec
+    (λ c κs. search needs)
+    (λ c κs. search needs)
+    (λ c κs. search needs)
+    returns)

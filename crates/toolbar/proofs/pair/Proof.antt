@@ -39,15 +39,16 @@ abbrev μ-loop : tie.MeasureT-loop
 loop-holds : tie.Need-loop-holds Inv-loop2 μ-loop2 Inv-loop3 μ-loop3 Inv-loop μ-loop
 unfolding pairOf
 loop-holds c =
-    let k : length (c .args .t8) ≡ 31 = c .good .1 .1 .1 .1 .1 .1 .1 .0 .1 .0 .1 in
-    let e : length (take (c .args .n) (c .args .t8)) ≡ c .args .n = length-take-le _ _ (omega arith) in
-    (zero-le, refl, omega arith, rw (e, sub-zero))
+    let s = c .before in
+    let k : length (s .args .t8) ≡ 31 = s .good .1 .1 .1 .1 .1 .1 .1 .0 .1 .0 .1 in
+    let e : length (take (s .args .n) (s .args .t8)) ≡ s .args .n = length-take-le _ _ (omega arith) in
+    (zero-le, refl, omega arith, rw (c .new .ensures, e, sub-zero))
 
 loop2-holds : tie.Need-loop2-holds Inv-loop2 μ-loop2 Inv-loop3 μ-loop3 Inv-loop μ-loop
 unfolding pass
 loop2-holds c =
     let l = c .before .loop in
-    let e : c .before .before .args .n + 1 - l .counter ≡ suc (c .before .before .args .n - l .counter) = omega arith in
+    let e : c .before .before .before .args .n + 1 - l .counter ≡ suc (c .before .before .before .args .n - l .counter) = omega arith in
     record { fits = l .inv .2; most = zero-le; answer = rw e at (l .inv .3) }
 
 array-copy-out-c : tie.Need-array-copy-out-c Inv-loop2 μ-loop2 Inv-loop3 μ-loop3 Inv-loop μ-loop
@@ -85,7 +86,7 @@ loop-again : tie.Need-loop-again Inv-loop2 μ-loop2 Inv-loop3 μ-loop3 Inv-loop 
 loop-again c =
     let b = c .before .before in
     let m = b .before .before .before .before .before in
-    let s = m .before .before .before in
+    let s = m .before .before .before .before in
     let e : s .args .n + 1 - (m .before .before .loop .counter + 1) ≡ s .args .n - m .before .before .loop .counter = omega arith in (
       omega arith,
       refl,
@@ -98,7 +99,7 @@ returns : tie.Need-returns Inv-loop2 μ-loop2 Inv-loop3 μ-loop3 Inv-loop μ-loo
 unfolding pass
 returns c =
     let l = c .before .loop in
-    let e : c .before .before .args .n + 1 - l .counter ≡ 0 = omega arith in
+    let e : c .before .before .before .args .n + 1 - l .counter ≡ 0 = omega arith in
     sym (rw e at (l .inv .3))
 
 returns-2 : tie.Need-returns-2 Inv-loop2 μ-loop2 Inv-loop3 μ-loop3 Inv-loop μ-loop
@@ -115,6 +116,7 @@ pair-spec =
     μ-loop3
     Inv-loop
     μ-loop
+    (λ c κs. search needs)
     (λ c. omega arith)
     loop-holds
     loop2-holds

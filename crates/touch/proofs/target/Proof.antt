@@ -5,7 +5,13 @@ use Rattle.touch.proofs.target.Tie as tie
 
 returns : tie.Need-returns
 unfolding targetOf
-returns c = rw (← c .before .before .before .before .before .min .ensures, ← c .before .before .before .before .min2 .ensures)
+returns c = rw (← c .before .before .before .before .before .before .min .ensures, ← c .before .before .before .before .before .min2 .ensures, ← c .new .ensures)
 
 pub target-spec : {M : Type 1} → statement M
-target-spec = tie.close (tie.spec (λ c κs. search needs) (λ c κs. search needs) returns)
+target-spec =
+    tie.close
+    (tie.spec
+    (λ c κs. search needs)
+    (λ c κs. search needs)
+    (λ c κs. search needs)
+    returns)
