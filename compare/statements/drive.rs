@@ -156,7 +156,7 @@ fn inner(r: &mut Random) {
     let reading = reader::read_order(&order(r));
     if reading.refusal == 0 {
         let s = reading.settings;
-        let l = order::settings_layout(s);
+        let l = preset::settings_layout(s);
         let n = l.element_count();
         let i = r.below(n as u64) as usize;
         let rect = l.element(i);
