@@ -236,6 +236,7 @@ def main():
 
 
 def try_edits(a, crates, work):
+    prover = Prover(ROOT, work, a.limit)
     out = open(a.out, "a")
     done = {edit_of(row): row["outcome"] for row in outcomes(a.out)}
 
@@ -247,7 +248,7 @@ def try_edits(a, crates, work):
         print(f"{outcome:10} {e.name[:150]}{' AT ' + ', '.join(facts) if facts else ''}", flush=True)
 
     code, definitions = edits_of(ROOT, libraries())
-    trial = Trial(Prover(ROOT, work, a.limit), record, done)
+    trial = Trial(prover, record, done)
     chooser, defined = Chooser(code, a.seed), Chooser(definitions, a.seed)
     for c in crates:
         for _ in range(a.rounds):
@@ -257,7 +258,7 @@ def try_edits(a, crates, work):
         random.Random(f"{a.seed} {c}").shuffle(units)
         for u in units[:a.definitions]:
             trial.definition(defined.next(u))
-        trial.prover.restore(c)
+        prover.restore(c)
 
 
 if __name__ == "__main__":

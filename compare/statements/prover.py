@@ -42,6 +42,8 @@ class Prover:
     """The prover in a copy of the repository that takes over the proved crates."""
 
     def __init__(self, root, work, limit):
+        if not (root / "target/rlib").is_dir():
+            raise SystemExit("the crates are not proved; run rt check first")
         self.root, self.work, self.limit = root, work, limit
         (work / "target").mkdir(parents=True, exist_ok=True)
         shutil.copy(root / "crates.txt", work / "crates.txt")
