@@ -22,7 +22,7 @@ impl Tally {
         }
         match answer {
             Ok(length) => self.add("layout of", format!("{length} bytes")),
-            Err(refusal) => self.add("refusal", refusal),
+            Err(refusal) => self.add("refusal", format!("{refusal}:")),
         }
     }
     pub fn accepted(&mut self, settings: &Settings) {
@@ -42,12 +42,12 @@ impl Tally {
         self.add("accepted, mode", mode);
         self.add("accepted, fit", fit);
         self.add("accepted, overlap allowed", yes(preset.allow_overlap));
-        self.add("accepted, tag 2", yes(settings.picture.is_some()));
+        self.add("accepted, tag 2 given", yes(settings.picture.is_some()));
         self.add("accepted, cutouts", yes(!settings.cutouts.is_empty()));
         self.add("accepted, arrangement", arrangement(settings));
     }
     pub fn touch(&mut self, answer: Answer<u16>) {
-        self.add("touch", answer.map_or("refused", pressed));
+        self.add("touches", answer.map_or("refused", pressed));
     }
 }
 

@@ -54,7 +54,7 @@ fn orders() -> (List, Tally) {
             let top = |r: &mut Random| r.pick(&[0., 24., 24.5, 48., 80., 8192.]);
             let tops = [top(r), r.pick(&[1., 1., 1., -1.]) * top(r)];
             let answer = list.viewport(tops, room, fill);
-            tally.add("viewport", answer.map_or("refused", |_| "accepted"));
+            tally.add("viewports", answer.map_or("refused", |_| "accepted"));
         }
         count += 1;
     }

@@ -104,14 +104,12 @@ impl List {
         });
         answer
     }
-    pub fn sheet(&mut self) -> String {
+    pub fn sheet(&mut self) {
         let (bytes, length) = sheet::film_sheet(&self.order);
-        let text = String::from_utf8(bytes[..length].to_vec()).expect("ASCII");
         self.push(Step {
             kind: b'S',
-            bytes: text.as_bytes(),
+            bytes: &bytes[..length],
             ..Step::default()
         });
-        text
     }
 }
