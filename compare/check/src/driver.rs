@@ -34,6 +34,16 @@ pub type Class = (&'static str, &'static str);
 /// How many cases of each class there were.
 pub type Tally = BTreeMap<Class, u64>;
 
+/// A line for all classes that are told by the same.
+pub fn lines(tally: &Tally) -> Vec<String> {
+    let mut lines = BTreeMap::new();
+    for ((by, name), count) in tally {
+        let line = lines.entry(by).or_insert_with(|| format!("{by}:"));
+        *line += &format!(" {name} {count};");
+    }
+    lines.into_values().collect()
+}
+
 impl fmt::Display for Summary {
     fn fmt(&self, f: &mut fmt::Formatter) -> fmt::Result {
         write!(
@@ -48,15 +58,9 @@ impl fmt::Display for Summary {
         if self.some < self.cases {
             write!(f, "  {} some", self.some)?;
         }
-        let mut before = "";
-        for ((by, name), count) in &self.tally {
-            if *by != before {
-                write!(f, "\n  {by}:")?;
-            }
-            write!(f, " {name} {count};")?;
-            before = by;
-        }
-        Ok(())
+        lines(&self.tally)
+            .iter()
+            .try_for_each(|line| write!(f, "\n  {line}"))
     }
 }
 

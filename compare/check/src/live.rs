@@ -2,7 +2,7 @@
 //! the film sheet, touches, a viewport; and demand 3 measured of what was
 //! written. Each order is read and laid out by the Rust once.
 use crate::{
-    driver::{Class, Tally, shown},
+    driver::{Class, Tally, lines, shown},
     generate::{any_number, edge_touch},
     host::{layout_classes, lent_length, tie, tops, touched},
     lent,
@@ -138,20 +138,14 @@ impl fmt::Display for Counts {
             )?;
             writeln!(f, "an element met by at most {meets:.7}")?;
         }
-        let mut before = "";
-        for ((by, name), count) in &self.tally {
-            if *by != before {
-                let end = if before.is_empty() { "" } else { "\n" };
-                write!(f, "{end}{by}:")?;
-            }
-            write!(f, " {name} {count};")?;
-            before = by;
+        for line in lines(&self.tally) {
+            writeln!(f, "{line}")?;
         }
         let cases = |what: What| self.compared[what as usize].cases;
         let listed: u64 = self.compared.iter().map(|c| c.listed).sum();
         write!(
             f,
-            "\n{} orders, {} touches, {} viewports, demand 3 measured {} times: {listed} listed, {} unlisted differences",
+            "{} orders, {} touches, {} viewports, demand 3 measured {} times: {listed} listed, {} unlisted differences",
             self.orders(),
             cases(What::Touch) + cases(What::Mask),
             cases(What::Viewport),
