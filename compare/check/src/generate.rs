@@ -2,7 +2,7 @@
 //! the limits that document 01 sets for orders.
 use crate::random::Random;
 use player::access::{self, LayoutData, native::Layout};
-use player::{PictureFit, PlayerViewport, Preset, Rect};
+use player::{PictureFit, Preset, Rect};
 
 /// The greatest number in an order, and least with a minus.
 pub const LIMIT: f32 = 8192.;
@@ -265,16 +265,6 @@ pub fn preset(r: &mut Random) -> Preset {
     }
 }
 
-pub fn viewport(r: &mut Random) -> PlayerViewport {
-    let controls = order_screen(r);
-    PlayerViewport {
-        controls,
-        picture: picture(r, controls),
-        reusable_top: usual(r, &[0., 24.5]).abs(),
-        covered_top: usual(r, &[0., 24.5]),
-    }
-}
-
 /// Up to `most` rectangles on a coarse grid, so that edges and whole
 /// rectangles coincide, and sizes may be zero or negative.
 pub fn stacked(r: &mut Random, most: i64, [w, h]: [f32; 2]) -> Vec<Rect> {
@@ -401,10 +391,6 @@ mod tests {
             assert!(preset.elements.len() <= 32);
             assert!(in_limits(&[preset.game_scale, across, down]));
             access::layout_in(&preset, w, h, &cutouts, area);
-            let viewport = viewport(r);
-            assert!(viewport.reusable_top >= 0. && viewport.reusable_top <= LIMIT);
-            assert!(in_limits(&[viewport.covered_top]) && rect_in_limits(&viewport.picture));
-            access::viewport_layout(viewport, &preset, &cutouts);
             let layout = layout(r, screen);
             let [x, y] = touch(r, &layout);
             access::mask_near(&layout, x, y, r.bits() as u16);

@@ -11,7 +11,7 @@ use crate::{
 use ours::host;
 use player::{
     PictureFit, access,
-    order::{self, Answer, Settings, lent, on_the_scale},
+    order::{self, Answer, Settings, field, lent, number_bytes, on_the_scale},
     sheet,
 };
 
@@ -211,12 +211,11 @@ pub fn tie(r: &mut Random) -> Touch {
     let x = r.pick(&[x, x.next_up()]);
     let dx = f64::from(x - w / 2.);
     let dy = (middle * middle - dx * dx).max(0.).sqrt() as f32;
-    let numbers = |n: &[f32]| n.iter().flat_map(|n| n.to_be_bytes()).collect::<Vec<_>>();
     let order = Order {
         bytes: [
-            order::field(1, &numbers(&[8192., 1.])),
-            order::field(4, &[2]),
-            order::field(7, &numbers(&[0., 0., w / 8192., 1.])),
+            field(1, &number_bytes([8192., 1.])),
+            field(4, &[2]),
+            field(7, &number_bytes([0., 0., w / 8192., 1.])),
         ]
         .concat(),
         kind: "tie",
@@ -327,8 +326,7 @@ mod tests {
     /// the neutral centre of the d-pad.
     #[test]
     fn a_tie_of_hypot() {
-        let field = order::field;
-        let numbers = |n: &[u32]| n.iter().flat_map(|n| n.to_be_bytes()).collect::<Vec<_>>();
+        let numbers = |bits: &[u32]| number_bytes(bits.iter().map(|n| f32::from_bits(*n)));
         let order = [
             field(1, &numbers(&[0x4600_0000, 0x4480_0000])),
             field(4, &[2]),
@@ -347,13 +345,13 @@ mod tests {
     fn an_order_cut_off_at_each_place() {
         let number = 100f32.to_be_bytes();
         let order = [
-            order::field(1, &number.repeat(2)),
-            order::field(2, &number.repeat(4)),
-            order::field(3, &[2]),
-            order::field(4, &[2]),
-            order::field(5, &number.repeat(3)),
-            order::field(6, &number.repeat(4 * 16)),
-            order::field(7, &number.repeat(4 * 32)),
+            field(1, &number.repeat(2)),
+            field(2, &number.repeat(4)),
+            field(3, &[2]),
+            field(4, &[2]),
+            field(5, &number.repeat(3)),
+            field(6, &number.repeat(4 * 16)),
+            field(7, &number.repeat(4 * 32)),
         ]
         .concat();
         let mut accepted = 0;

@@ -6,7 +6,8 @@ use crate::{
     random::Random,
 };
 use player::{
-    PictureFit, Preset, Rect, access, order,
+    PictureFit, Preset, Rect, access,
+    order::{self, number_bytes},
     words::{Rest, Value, Word},
 };
 
@@ -124,21 +125,17 @@ fn field(tag: u8, value: Vec<u8>) -> Field {
     Field { tag, length, value }
 }
 
-fn numbers(numbers: impl IntoIterator<Item = f32>) -> Vec<u8> {
-    numbers.into_iter().flat_map(f32::to_be_bytes).collect()
-}
-
-fn rects<'a>(rects: impl IntoIterator<Item = &'a Rect>) -> Vec<u8> {
-    numbers(rects.into_iter().flat_map(|r| [r.x, r.y, r.w, r.h]))
+pub fn rects<'a>(rects: impl IntoIterator<Item = &'a Rect>) -> Vec<u8> {
+    number_bytes(rects.into_iter().flat_map(|r| [r.x, r.y, r.w, r.h]))
 }
 
 fn fields(parts: &Parts) -> Vec<Field> {
     let values = [
-        Some(numbers(parts.screen)),
+        Some(number_bytes(parts.screen)),
         parts.picture.as_ref().map(|picture| rects([picture])),
         parts.mode.map(|mode| vec![mode]),
         parts.fit.map(|fit| vec![fit]),
-        parts.game.map(numbers),
+        parts.game.map(number_bytes),
         parts.cutouts.as_ref().map(rects),
         parts.saved.as_ref().map(rects),
     ];

@@ -199,7 +199,10 @@ pub fn measure(settings: &Settings, layout: &[u8]) -> Option<Measured> {
 mod tests {
     use super::*;
     use crate::{generate, orders, random::Random};
-    use player::{access, order::field};
+    use player::{
+        access,
+        order::{field, number_bytes},
+    };
 
     fn edges(x: i64, y: i64, w: i64, h: i64) -> Edges {
         let [x, y, w, h] = [x, y, w, h].map(|n| n as f32);
@@ -284,9 +287,8 @@ mod tests {
     }
 
     fn layout(game: Rect, elements: &[Rect]) -> Vec<u8> {
-        let bytes = |r: &Rect| [r.x, r.y, r.w, r.h].map(f32::to_be_bytes).concat();
-        let elements: Vec<u8> = elements.iter().flat_map(bytes).collect();
-        [field(1, &bytes(&game)), field(2, &elements)].concat()
+        let [game, elements] = [orders::rects([&game]), orders::rects(elements)];
+        [field(1, &game), field(2, &elements)].concat()
     }
 
     fn settings(order: &[u8]) -> Settings {
@@ -304,9 +306,9 @@ mod tests {
     /// At just the slack demand 3 holds, and at the next f32 it does not.
     #[test]
     fn a_narrower_game_and_one_on_an_element_are_seen() {
-        let numbers = |n: &[f32]| n.iter().flat_map(|n| n.to_be_bytes()).collect::<Vec<_>>();
-        let area = field(2, &numbers(&[0., 0., 800., 600.]));
-        let order = [field(1, &numbers(&[800., 600.])), area, field(4, &[2])].concat();
+        let screen = field(1, &number_bytes([800., 600.]));
+        let area = field(2, &number_bytes([0., 0., 800., 600.]));
+        let order = [screen, area, field(4, &[2])].concat();
         let settings = settings(&order);
         assert!(kept_clear(&settings.preset));
         let slack = 1. / 16.;

@@ -169,6 +169,11 @@ pub fn rects(value: &[u8]) -> impl Iterator<Item = Rect> {
     })
 }
 
+/// The value of a field that holds numbers.
+pub fn number_bytes(numbers: impl IntoIterator<Item = f32>) -> Vec<u8> {
+    numbers.into_iter().flat_map(f32::to_be_bytes).collect()
+}
+
 /// A field: its tag, its length, its value.
 pub fn field(tag: u8, value: &[u8]) -> Vec<u8> {
     let length = value.len() as u16;

@@ -3,15 +3,11 @@
 use player::{
     Rect,
     access::{self, LayoutData},
-    order::{self, field},
+    order::{self, field, number_bytes},
 };
 
-fn numbers(numbers: &[f32]) -> Vec<u8> {
-    numbers.iter().flat_map(|n| n.to_be_bytes()).collect()
-}
-
 fn screen(w: f32, h: f32) -> Vec<u8> {
-    field(1, &numbers(&[w, h]))
+    field(1, &number_bytes([w, h]))
 }
 
 fn refusal(fields: &[&[u8]]) -> i32 {
@@ -25,9 +21,9 @@ fn worked_examples() {
     let (answer, out) = order::lent(285, 9, |out| order::layout(&order, out));
     assert_eq!(answer, Ok(285));
     assert_eq!(out[..3], [1, 0, 16]);
-    assert_eq!(out[3..19], numbers(&[0., 18., 1000., 750.]));
+    assert_eq!(out[3..19], number_bytes([0., 18., 1000., 750.]));
     assert_eq!(out[19..22], [2, 0, 240]);
-    assert_eq!(out[22..38], numbers(&[12., 830., 160., 160.]));
+    assert_eq!(out[22..38], number_bytes([12., 830., 160., 160.]));
     // The masks of TRI, O, X and SQ are the first.
     assert_eq!(out[262..273], [3, 0, 20, 2, 0, 1, 0, 0, 1, 0, 2]);
     let small = order::lent(284, 9, |out| order::layout(&order, out));
@@ -47,7 +43,7 @@ fn worked_examples() {
 #[test]
 fn the_first_fault_decides() {
     let order = &screen(1000., 1000.)[..];
-    let nan = numbers(&[f32::NAN; 4]);
+    let nan = number_bytes([f32::NAN; 4]);
     let saved = |count: usize| field(7, &nan.repeat(count));
     for (fields, number) in [
         // A header is cut off before its tag is looked at.
@@ -72,9 +68,9 @@ fn the_first_fault_decides() {
         (&[&field(4, &[1]), &[6, 0]], 1),
         (&[&screen(-0., 0.)], 0),
         (&[&screen(-1., 0.)], 6),
-        (&[order, &field(2, &numbers(&[-1., -1., 0., -0.]))], 0),
-        (&[order, &field(2, &numbers(&[0., 0., 0., -1.]))], 6),
-        (&[order, &field(6, &numbers(&[0., 0., -1., -1.]))], 0),
+        (&[order, &field(2, &number_bytes([-1., -1., 0., -0.]))], 0),
+        (&[order, &field(2, &number_bytes([0., 0., 0., -1.]))], 6),
+        (&[order, &field(6, &number_bytes([0., 0., -1., -1.]))], 0),
     ] {
         assert_eq!(refusal(fields), number, "{fields:?}");
     }
@@ -99,9 +95,9 @@ fn parts_of_an_order() {
         screen(0., 600.),
         field(3, &[6]),
         field(4, &[0]),
-        field(5, &numbers(&[0.5, 0.25, 1.])),
-        field(6, &numbers(&[1., 2., -3., 0.])),
-        field(7, &numbers(&[0.1, 0.2, 0.3, 0.4])),
+        field(5, &number_bytes([0.5, 0.25, 1.])),
+        field(6, &number_bytes([1., 2., -3., 0.])),
+        field(7, &number_bytes([0.1, 0.2, 0.3, 0.4])),
     ]
     .concat();
     let Ok(settings) = order::read(&bytes) else {
