@@ -1,9 +1,13 @@
 //! Orders, bytes to bytes: what hosts call beside the Rust with the reader and
 //! the writer of `player`, in classes of orders.
 use crate::race::{race, timed};
-use check::{generate, orders, random::Random};
+use check::{
+    generate,
+    orders::{self, fit_word},
+    random::Random,
+};
 use player::{
-    PictureFit, access,
+    access,
     order::{self, Settings},
 };
 use std::{collections::BTreeMap, hint::black_box};
@@ -28,10 +32,7 @@ fn class(settings: &Settings) -> String {
         (_, true) => "analog",
         _ => "standard",
     };
-    let fit = match access::picture_fit(preset) {
-        PictureFit::Maximum => "Maximum",
-        PictureFit::KeepClear => "KeepClear",
-    };
+    let fit = fit_word(Some(access::picture_fit(preset)));
     let said = |empty: bool, what: &'static str| if empty { "" } else { what };
     let cutouts = said(settings.cutouts.is_empty(), ", cutouts");
     let saved = said(preset.elements.is_empty(), ", saved");

@@ -347,6 +347,17 @@ pub fn edge_touch(r: &mut Random, layout: &Layout) -> [f32; 2] {
     [x, y]
 }
 
+/// How far below the centre of a d-pad of width `w` a touch at `x` lies whose
+/// distance from it is very near the midpoint between the neutral centre's
+/// radius and the next f32: there the platform's hypot is sometimes not the
+/// nearest.
+pub fn tie_below(w: f32, x: f32) -> f32 {
+    let radius = w * 0.09;
+    let middle = (f64::from(radius) + f64::from(radius.next_up())) / 2.;
+    let dx = f64::from(x - w / 2.);
+    (middle * middle - dx * dx).max(0.).sqrt() as f32
+}
+
 /// Whole numbers for `safe_content` and `safe_edges`: in -8,192 to 8,192, and
 /// seldom beyond.
 pub fn integers<const N: usize>(r: &mut Random) -> [i32; N] {

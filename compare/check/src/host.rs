@@ -1,16 +1,16 @@
 //! The functions that hosts call, against the Rust under document 01's rules.
 use crate::{
     driver::{Class, Comparison, compare, compare_classes},
-    generate::{self, any_number, integers, number},
+    generate::{self, any_number, integers, number, tie_below},
     lent::rect,
     masks,
     nearest::nearest_hypot,
-    orders::{self, Order},
+    orders::{self, Order, fit_word},
     random::Random,
 };
 use ours::host;
 use player::{
-    PictureFit, access,
+    access,
     order::{self, Answer, Settings, field, lent, number_bytes, on_the_scale},
     sheet,
 };
@@ -199,18 +199,12 @@ fn touch(r: &mut Random) -> Touch {
     (order, at, r.bits() as u16)
 }
 
-/// A touch on the d-pad whose distance from the centre lies very near the
-/// midpoint between the neutral centre's radius and the next f32: there the
-/// platform's hypot is sometimes not the nearest. A screen of 8,192 by 1 gives
-/// the d-pad just as it is saved; so low, it has points of the finest heights.
+/// A touch at a tie of hypot. A screen of 8,192 by 1 gives the d-pad just as it
+/// is saved; so low, it has points of the finest heights.
 pub fn tie(r: &mut Random) -> Touch {
     let w = r.between(500., 8192.);
-    let radius = w * 0.09;
-    let middle = (f64::from(radius) + f64::from(radius.next_up())) / 2.;
-    let x = w / 2. - radius;
+    let x = w / 2. - w * 0.09;
     let x = r.pick(&[x, x.next_up()]);
-    let dx = f64::from(x - w / 2.);
-    let dy = (middle * middle - dx * dx).max(0.).sqrt() as f32;
     let order = Order {
         bytes: [
             field(1, &number_bytes([8192., 1.])),
@@ -222,7 +216,7 @@ pub fn tie(r: &mut Random) -> Touch {
         damage: "none",
         length: 285,
     };
-    (order, [x, 0.5 + dy], 0)
+    (order, [x, 0.5 + tie_below(w, x)], 0)
 }
 
 /// The words of document 01, by their numbers.
@@ -270,11 +264,6 @@ pub fn layout_classes(
     } else {
         "exact"
     };
-    let fit = match settings.preset.picture_fit {
-        None => "unset",
-        Some(PictureFit::Maximum) => "Maximum",
-        Some(PictureFit::KeepClear) => "KeepClear",
-    };
     let many = |count, most, all| match count {
         0 => "none",
         _ if count < most => "some",
@@ -284,7 +273,7 @@ pub fn layout_classes(
     let numbers = saved.iter().flat_map(|r| [r.x, r.y, r.w, r.h]);
     classes.extend([
         ("accepted, lent", spare),
-        ("accepted, fit", fit),
+        ("accepted, fit", fit_word(settings.preset.picture_fit)),
         (
             "accepted, picture",
             settings.picture.map_or("absent", |_| "given"),

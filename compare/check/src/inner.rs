@@ -4,7 +4,7 @@ use crate::{
     driver::{Comparison, compare},
     generate::{
         self, CameraRails, Surface, any_layout, any_number, any_rect, beside, layout, number,
-        rect_on, screen, stacked, surface, tablet,
+        rect_on, screen, stacked, surface, tablet, tie_below,
     },
     hypot,
     lent::{self, layout_data, list},
@@ -332,16 +332,11 @@ fn any_touch(r: &mut Random) -> Touch {
     (layout, point, r.bits() as u16)
 }
 
-/// A touch on the d-pad whose distance from the centre lies very near the
-/// midpoint between the neutral centre's radius and the next f32: there the
-/// platform's hypot is sometimes not the nearest.
+/// A touch at a tie of hypot.
 fn tie_touch(r: &mut Random) -> Touch {
     let w = r.between(50., 400.);
-    let radius = w * 0.09;
-    let middle = (f64::from(radius) + f64::from(radius.next_up())) / 2.;
-    let x = w / 2. + radius * (1. - r.between(0., 2.) / r.pick(&[1e3, 1e4, 1e5, 1e6]));
-    let dx = f64::from(x - w / 2.);
-    let dy = (middle * middle - dx * dx).max(0.).sqrt() as f32;
+    let x = w / 2. + w * 0.09 * (1. - r.between(0., 2.) / r.pick(&[1e3, 1e4, 1e5, 1e6]));
+    let dy = tie_below(w, x);
     // Of such a height that dy can be had exactly.
     let h = (4. * dy).log2().ceil().exp2();
     let layout = LayoutData {

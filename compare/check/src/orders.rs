@@ -316,6 +316,15 @@ fn with_preset(r: &mut Random, parts: Parts, preset: Preset) -> Parts {
     }
 }
 
+/// What tag 4 says.
+pub fn fit_word(fit: Option<PictureFit>) -> &'static str {
+    match fit {
+        None => "unset",
+        Some(PictureFit::Maximum) => "Maximum",
+        Some(PictureFit::KeepClear) => "KeepClear",
+    }
+}
+
 /// Screens, pictures, cutouts and presets as the other comparisons have them.
 fn ordinary(r: &mut Random) -> Parts {
     let screen = r.pick(&[generate::order_screen, generate::tablet])(r);

@@ -1,7 +1,10 @@
 //! What the orders of a list are: counts for its README.
-use check::{masks::pressed, orders::Order};
+use check::{
+    masks::pressed,
+    orders::{Order, fit_word},
+};
 use player::{
-    PictureFit, Rect,
+    Rect,
     access::{self, LayoutData, picture},
     order::{Answer, Settings},
 };
@@ -28,11 +31,6 @@ impl Tally {
     pub fn accepted(&mut self, settings: &Settings) {
         let preset = &settings.preset;
         let yes = |b| if b { "yes" } else { "no" };
-        let fit = match preset.picture_fit {
-            None => "unset",
-            Some(PictureFit::Maximum) => "Maximum",
-            Some(PictureFit::KeepClear) => "KeepClear",
-        };
         let mode = match (preset.psp, preset.analog) {
             (false, false) => "standard",
             (false, true) => "analog",
@@ -40,7 +38,7 @@ impl Tally {
             (true, true) => "psp and analog",
         };
         self.add("accepted, mode", mode);
-        self.add("accepted, fit", fit);
+        self.add("accepted, fit", fit_word(preset.picture_fit));
         self.add("accepted, overlap allowed", yes(preset.allow_overlap));
         self.add("accepted, tag 2 given", yes(settings.picture.is_some()));
         self.add("accepted, cutouts", yes(!settings.cutouts.is_empty()));
