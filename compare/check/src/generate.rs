@@ -475,6 +475,5 @@ mod tests {
             }
         }
         assert!(counts.iter().all(|(_, n)| *n > 100), "{counts:?}");
-        println!("{counts:?}");
     }
 }

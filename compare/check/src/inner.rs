@@ -492,7 +492,6 @@ mod tests {
             dense += u32::from(4 * meetings.sum::<usize>() > 200);
             moved += u32::from(access::avoid_cutouts(&layout, w, h, &cutouts) != layout);
         }
-        println!("{dense} {moved}");
         assert!(dense > 800 && moved > 800, "{dense} {moved}");
     }
 
@@ -524,7 +523,6 @@ mod tests {
                 *count += u32::from(met);
             }
         }
-        println!("{counts:?}");
         assert!(counts.iter().all(|count| *count > 300), "{counts:?}");
     }
 
@@ -558,7 +556,6 @@ mod tests {
                 *count += u32::from(met);
             }
         }
-        println!("{counts:?}");
         assert!(counts.iter().all(|count| *count > 500), "{counts:?}");
     }
 }

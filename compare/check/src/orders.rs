@@ -735,7 +735,6 @@ mod tests {
             let refusal = order::read(&damaged(r).bytes).err();
             refusals[refusal.unwrap_or(0) as usize] += 1;
         }
-        println!("{refusals:?}");
         assert!(refusals.iter().all(|count| *count > 100), "{refusals:?}");
     }
 }

@@ -346,7 +346,6 @@ mod tests {
                 *count += u32::from(met);
             }
         }
-        println!("{counts:?}");
         let often = |count: &u32| *count > 500 && *count < 9_500;
         assert!(counts.iter().all(often), "{counts:?}");
     }

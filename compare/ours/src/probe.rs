@@ -176,29 +176,19 @@ pub fn anchor_toolbar(
     layout: &Layout,
     w: f32,
     h: f32,
-    [reusable_top, covered_top]: [f32; 2],
+    tops: [f32; 2],
     cutouts: &List,
     runs: Runs,
 ) -> Layout {
+    let (Layout { at, kind }, Runs { times, step }) = (layout, runs);
     let (holes, n) = lent(cutouts);
-    let mut out = layout.clone();
+    let [reusable, covered] = tops;
     // SAFETY: the count is what the function requires.
-    unsafe {
+    made(*kind, |out| unsafe {
         probe_anchor_toolbar(
-            &layout.at,
-            layout.kind,
-            w,
-            h,
-            reusable_top,
-            covered_top,
-            holes,
-            n,
-            runs.times,
-            runs.step,
-            &mut out.at,
+            at, *kind, w, h, reusable, covered, holes, n, times, step, out,
         )
-    };
-    out
+    })
 }
 
 pub fn mask_near(layout: &Layout, x: f32, y: f32, previous: u16, runs: Runs) -> u16 {

@@ -14,7 +14,7 @@ pub fn tenths(x: f32) -> i128 {
     };
     let exponent = field.max(1) - 150;
     match exponent {
-        0.. => 10 * signed << exponent,
+        0.. => (10 * signed) << exponent,
         // Less than 2^-76, and nearest 0; the shift below would be too long.
         ..-100 => 0,
         _ => ((20 * signed) + (1 << -exponent)) >> (1 - exponent),
