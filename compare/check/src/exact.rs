@@ -1,4 +1,5 @@
 //! Numbers without rounding: a finite f32 is a whole number of 2^-149.
+use player::float::parts;
 use std::ops::{Add, Sub};
 
 /// `high` times 2^100 and `low`, in units of 2^-149; `low` is at least 0 and
@@ -26,14 +27,11 @@ impl Exact {
         if x.is_nan() || x.abs() >= (1 << 20) as f32 {
             return None;
         }
-        let bits = x.to_bits();
-        let (field, fraction) = (bits >> 23 & 0xFF, i128::from(bits & 0x7F_FFFF));
-        let mantissa = fraction + if field == 0 { 0 } else { 1 << 23 };
-        let signed = if x < 0. { -mantissa } else { mantissa };
-        let shift = field.max(1) - 1;
+        let (m, e) = parts(x);
+        let shift = (e + 149) as u32;
         Some(match shift.checked_sub(SPLIT) {
-            Some(more) => Self::new(signed << more, 0),
-            None => Self::new(0, signed << shift),
+            Some(more) => Self::new(m << more, 0),
+            None => Self::new(0, m << shift),
         })
     }
     /// Times a whole number below 2^20 in size.

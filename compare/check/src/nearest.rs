@@ -1,15 +1,11 @@
 //! hypot as document 01 defines it: the f32 nearest the exact root of the sum
 //! of squares, ties to even, by whole numbers.
+use player::float;
 
-/// A finite size as m * 2^e, with m below 2^24 and e from -149; m is at least
-/// 2^23 unless e is -149.
-fn parts(bits: u32) -> (u128, i32) {
-    let (exponent, fraction) = (bits >> 23, bits & 0x7F_FFFF);
-    if exponent == 0 {
-        (fraction.into(), -149)
-    } else {
-        ((fraction | 0x80_0000).into(), exponent as i32 - 150)
-    }
+/// The parts of a number without its sign.
+fn parts(x: f32) -> (u128, i32) {
+    let (m, e) = float::parts(x);
+    (m.unsigned_abs(), e)
 }
 
 pub fn nearest_hypot(a: f32, b: f32) -> f32 {
@@ -21,7 +17,7 @@ pub fn nearest_hypot(a: f32, b: f32) -> f32 {
     }
     let (a, b) = (a.abs(), b.abs());
     let (great, small) = (a.max(b), a.min(b));
-    let ((m, e), (n, f)) = (parts(great.to_bits()), parts(small.to_bits()));
+    let ((m, e), (n, f)) = (parts(great), parts(small));
     let apart = e - f;
     if apart >= 13 {
         // Here e > -149, so that m >= 2^23. The root is above m * 2^e by less than
@@ -81,13 +77,13 @@ mod tests {
     /// tie it is even. In units of half a step of the smaller side, squared.
     fn is_nearest(a: f32, b: f32) {
         let (great, small) = (a.abs().max(b.abs()), a.abs().min(b.abs()));
-        let ((m, e), (n, f)) = (parts(great.to_bits()), parts(small.to_bits()));
+        let ((m, e), (n, f)) = (parts(great), parts(small));
         let answer = nearest_hypot(a, b);
         if e - f > 36 || answer.is_infinite() {
             return;
         }
         let sum = 4 * ((m << (e - f)).pow(2) + n * n);
-        let (k, g) = parts(answer.to_bits());
+        let (k, g) = parts(answer);
         // The midpoints with the next f32 up and down; down, it may be half as far.
         let step = 1 << (g - f);
         let twice = 2 * (k << (g - f));
@@ -97,7 +93,7 @@ mod tests {
             "{a:e} {b:e}"
         );
         if k > 0 {
-            let (j, d) = parts(answer.next_down().to_bits());
+            let (j, d) = parts(answer.next_down());
             let below = if d < f {
                 twice
             } else {

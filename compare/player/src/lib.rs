@@ -13,6 +13,7 @@ mod saves {
         unreachable!("nothing is saved here")
     }
 }
+pub mod float;
 pub mod order;
 pub mod sheet;
 pub mod words;

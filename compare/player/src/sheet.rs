@@ -1,23 +1,15 @@
 //! The film sheet as document 01 has it, of the layout that the Rust gives.
 use crate::access::native::Layout;
+use crate::float::parts;
 use crate::order::{self, Answer};
 
-/// The nearest whole number to ten times `x`, halves upward, by whole numbers: `x` is `mantissa` times 2 to `exponent`.
+/// The nearest whole number to ten times `x`, halves upward.
 pub fn tenths(x: f32) -> i128 {
-    let bits = x.to_bits();
-    let (field, fraction) = ((bits >> 23 & 0xFF) as i32, i128::from(bits & 0x7F_FFFF));
-    let mantissa = fraction + if field == 0 { 0 } else { 1 << 23 };
-    let signed = if x.is_sign_negative() {
-        -mantissa
-    } else {
-        mantissa
-    };
-    let exponent = field.max(1) - 150;
-    match exponent {
-        0.. => (10 * signed) << exponent,
+    match parts(x) {
+        (m, e @ 0..) => (10 * m) << e,
         // Less than 2^-76, and nearest 0; the shift below would be too long.
-        ..-100 => 0,
-        _ => ((20 * signed) + (1 << -exponent)) >> (1 - exponent),
+        (_, ..-100) => 0,
+        (m, e) => (20 * m + (1 << -e)) >> (1 - e),
     }
 }
 
