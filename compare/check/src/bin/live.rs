@@ -18,7 +18,7 @@ usage: live [--seconds T] [--blocks N] [--seed S] [--threads N] [--shown K]
 Compares layouts, refusals, film sheets, touches and viewports of generated
 orders with the Rust, and measures demand 3. Prints how many cases there were of
 each class, and in the last line the totals.
-  --seconds T  starts no block of orders after T seconds (60)
+  --seconds T  starts no block of orders after T seconds (60; with --blocks, no limit)
   --blocks N   at most N blocks of 10000 orders
   --seed S     the generator's seed (1)
   --threads N  so many threads (all cores)
@@ -36,8 +36,9 @@ struct Options {
 
 /// The options, or none if the help is asked for.
 fn options(mut words: impl Iterator<Item = String>) -> Result<Option<Options>, String> {
+    let mut seconds = None;
     let mut options = Options {
-        time: Duration::from_secs(60),
+        time: Duration::MAX,
         blocks: u64::MAX,
         seed: 1,
         threads: thread::available_parallelism().map_or(1, |n| n.get() as u64),
@@ -47,16 +48,16 @@ fn options(mut words: impl Iterator<Item = String>) -> Result<Option<Options>, S
         let mut number = || number_after(&word, &mut words);
         match word.as_str() {
             "--help" => return Ok(None),
-            "--seconds" => options.time = Duration::from_secs(number()?),
-            "--blocks" => {
-                options.blocks = number()?;
-                options.time = Duration::MAX;
-            }
+            "--seconds" => seconds = Some(number()?),
+            "--blocks" => options.blocks = number()?,
             "--seed" => options.seed = number()?,
             "--threads" => options.threads = number()?,
             "--shown" => options.shown = number()?,
             _ => return Err(format!("no option {word}")),
         }
+    }
+    if let Some(seconds) = seconds.or((options.blocks == u64::MAX).then_some(60)) {
+        options.time = Duration::from_secs(seconds);
     }
     Ok(Some(options))
 }
