@@ -1,12 +1,12 @@
 -- The cases of `hypotOf`, by the patterns of the two sides.
-use mathlib.Core.Path.{_≡_, refl, sym, ap, _∙_, subst}
+use mathlib.Core.Path.{_≡_, refl, sym, ap, _∙_}
 use mathlib.Core.Logic.{inl, inr}
 use Prim.Native.Nat.{ℕ, _+_, _*_, _<_, min, max}
 use native.Mathlib.Nat.{le-of-lt, add-comm, min-eq-left, min-eq-right, max-eq-left, max-eq-right}
 use mathlib.Core.Bool.{Bool, true, false}
 use lib.Dec.{T}
 use lib.Ieee.{Float, nan, inf, fin, binary32, fits, toBits}
-use Rattle.hypot.specs.Hypot.{whole, nearestRoot, hypotOf}
+use Rattle.hypot.specs.Hypot.{nearestRoot, hypotOf}
 use Rattle.hypot.specs.Pattern.{patternOf, value}
 use Rattle.hypot.specs.Nearest.{HypotIsRoot}
 use Rattle.hypot.proofs.Order.{lt-or-ge}
@@ -45,19 +45,15 @@ both nan b m n h k = absurd h
 both (inf s) b m n h k = absurd h
 both (fin s x e) nan m n h k = absurd k
 both (fin s x e) (inf t) m n h k = absurd k
-both (fin s x e) (fin t y d) m n h k = ap (λ (z : ℕ). nearestRoot (z * z + whole y d * whole y d)) h ∙ ap (λ (z : ℕ). nearestRoot (m * m + z * z)) k
+both (fin s x e) (fin t y d) m n h k = rw (h, k)
 
 pub hypot-is-root : (a b : Float) → HypotIsRoot a b
 hypot-is-root a b A B h k = both a b _ _ (finite-is a A h) (finite-is b B k)
 
 sorted : (p q : ℕ) → value (max p q) * value (max p q) + value (min p q) * value (min p q) ≡ value p * value p + value q * value q
 sorted p q = elim (lt-or-ge p q) [
-  | inl h ↦
-      ap (λ (x : ℕ). value x * value x + value (min p q) * value (min p q)) (max-eq-right (le-of-lt h))
-      ∙ ap (λ (x : ℕ). value q * value q + value x * value x) (min-eq-left (le-of-lt h))
-      ∙ add-comm (value q * value q) (value p * value p)
-  | inr h ↦
-      ap (λ (x : ℕ). value x * value x + value (min p q) * value (min p q)) (max-eq-left h) ∙ ap (λ (x : ℕ). value p * value p + value x * value x) (min-eq-right h)
+  | inl h ↦ rw (max-eq-right (le-of-lt h), min-eq-left (le-of-lt h)) (add-comm (value q * value q) (value p * value p))
+  | inr h ↦ rw (max-eq-left h, min-eq-right h)
 ]
 
 module _ (a b : Float) (A : T (fits binary32 a)) (B : T (fits binary32 b)) where
@@ -77,9 +73,4 @@ module _ (a b : Float) (A : T (fits binary32 a)) (B : T (fits binary32 b)) where
   pub finite-both : (p q h l : ℕ) → p ≡ patternOf a → q ≡ patternOf b → h ≡ max p q → l ≡ min p q → p < 0x7f80_0000 → q < 0x7f80_0000
       → nearestRoot (value h * value h + value l * value l) ≡ hypotOf a b
   finite-both p q h l pp qq hh ll P Q =
-      ap (λ (x : ℕ). nearestRoot (value x * value x + value l * value l)) hh
-      ∙ ap (λ (x : ℕ). nearestRoot (value (max p q) * value (max p q) + value x * value x)) ll
-      ∙ ap nearestRoot (sorted p q)
-      ∙ ap (λ (x : ℕ). nearestRoot (value x * value x + value q * value q)) pp
-      ∙ ap (λ (x : ℕ). nearestRoot (value (patternOf a) * value (patternOf a) + value x * value x)) qq
-      ∙ sym (hypot-is-root a b A B (subst (λ (x : ℕ). x < 0x7f80_0000) pp P) (subst (λ (x : ℕ). x < 0x7f80_0000) qq Q))
+      rw (hh, ll, sorted p q, pp, qq) (sym (hypot-is-root a b A B (rw pp at P) (rw qq at Q)))

@@ -1,13 +1,13 @@
 -- Between the floats of lib.Ieee and their patterns: values, `units`, NaN and the infinity.
-use mathlib.Core.Path.{_≡_, refl, sym, ap, _∙_, subst}
+use mathlib.Core.Path.{_≡_, refl, sym, _∙_, subst}
 use mathlib.Core.Logic.{_⊎_, inl, inr}
 use Prim.Native.Nat.{ℕ, zero, suc, _+_, _-_, _*_, _/_, _%_, _^_, _≤_, _<_}
 use native.Mathlib.Nat.{le-trans, le-of-lt, eq-or-lt-of-le, mod-le, mul-div-cancel, min-eq-left, min-eq-right}
 use native.Mathlib.Omega.{arith}
-use mathlib.Core.Bool.{Bool, true, false, not, cond, true≢false}
+use mathlib.Core.Bool.{Bool, true, false, not, true≢false}
 use lib.Dec.{T, leb, ltb, lt→ltb}
 use lib.Arith.{le→nltb, lt→nleb}
-use lib.Ieee.{Float, nan, inf, fin, Format, binary32, hid, ones, top, down, size, odd, units, fits, isNan, ofFields, ofBits, toBits, nanBits}
+use lib.Ieee.{Float, nan, inf, fin, Format, binary32, hid, ones, top, size, odd, units, fits, isNan, ofFields, ofBits, toBits, nanBits}
 use lib.Ieee.Exact.{HasValue, odd-sign, units-val}
 use lib.Ieee.Fits.{odd-fits, down-pos}
 use lib.Ieee.Bits.{ofBits-toBits, ofBits-fits, cond-no, is-true, is-false, nanBits-is, nanBits-above}
@@ -22,28 +22,23 @@ use Rattle.hypot.proofs.Value.{value-lt, value-le, value-at}
 -- ---- a pattern's value
 fields-value : (s : Bool) (x t : ℕ) → x < 255 → t < 0x80_0000 → HasValue (ofFields binary32 s x t) s (value (x * 0x80_0000 + t)) (2 ^ 149)
 unfolding ofFields
-fields-value s zero t X H = subst (λ (n : ℕ). HasValue (odd 24 s t 0 149) s n (2 ^ 149)) (sym (value-at 0 t (omega arith) (inl refl))) (odd-sign 24 s t 0 149)
+fields-value s zero t X H = rw (value-at 0 t (omega arith) (inl refl)) (odd-sign 24 s t 0 149)
 fields-value s (suc x) t X H =
-    subst (λ (n : ℕ). HasValue (ofFields binary32 s (suc x) t) s n (2 ^ 149)) (sym (ap value carry ∙ value-at x (0x80_0000 + t) (omega arith) (inr (omega arith)))) (fields-normal binary32 s x t X)
-  where
-    carry : suc x * 0x80_0000 + t ≡ x * 0x80_0000 + (0x80_0000 + t)
-    carry = omega arith
+    let carry : suc x * 0x80_0000 + t ≡ x * 0x80_0000 + (0x80_0000 + t) = omega arith in
+    rw (carry, value-at x (0x80_0000 + t) (omega arith) (inr (omega arith))) (fields-normal binary32 s x t X)
 
 bits-value : (b : ℕ) → b % 0x8000_0000 < 0x7f80_0000 → HasValue (ofBits binary32 b) (leb 0x8000_0000 b) (value (b % 0x8000_0000)) (2 ^ 149)
 bits-value b h =
     let x = b % 0x8000_0000 / 0x80_0000 in
     let t = b % 0x80_0000 in
     let e : x * 0x80_0000 + t ≡ b % 0x8000_0000 = omega arith in
-    subst (λ (v : Float). HasValue v (leb 0x8000_0000 b) (value (b % 0x8000_0000)) (2 ^ 149)) (sym (ofBits-is binary32 b))
-    (subst (λ (p : ℕ). HasValue (ofFields binary32 (leb 0x8000_0000 b) x t) (leb 0x8000_0000 b) (value p) (2 ^ 149)) e
-    (fields-value (leb 0x8000_0000 b) x t (omega arith) (omega arith)))
+    rw (ofBits-is binary32 b) (rw e at (fields-value (leb 0x8000_0000 b) x t (omega arith) (omega arith)))
 
 pub value-is : (p : ℕ) → ValueIs p
 value-is p h =
     let e : p % 0x8000_0000 ≡ p = omega arith in
     let s : leb 0x8000_0000 p ≡ false = is-false (leb 0x8000_0000 p) (lt→nleb 0x8000_0000 p (omega arith)) in
-    subst (λ (b : Bool). HasValue (ofBits binary32 p) b (value p) (2 ^ 149)) s
-    (subst (λ (q : ℕ). HasValue (ofBits binary32 p) (leb 0x8000_0000 p) (value q) (2 ^ 149)) e (bits-value p (subst (λ (q : ℕ). q < 0x7f80_0000) (sym e) h)))
+    rw (s, e) at (bits-value p (rw e h))
 
 abbrev pub Whole : Float → ℕ → Type 0
 Whole nan n = ⊥
@@ -53,12 +48,10 @@ Whole (fin s m e) n = whole m e ≡ n
 whole-of : (x : Float) (s : Bool) (n : ℕ) → HasValue x s n (2 ^ 149) → Whole x n
 whole-of nan s n h = h
 whole-of (inf t) s n h = h
-whole-of (fin t m e) s n h = ap (λ (x : ℕ). x / down e) (h .1) ∙ mul-div-cancel n (down-pos e)
+whole-of (fin t m e) s n h = rw (h .1) (mul-div-cancel n (down-pos e))
 
 pub finite-value : (x : Float) → T (fits binary32 x) → patternOf x < 0x7f80_0000 → HasValue x (leb 0x8000_0000 (toBits binary32 x)) (value (patternOf x)) (2 ^ 149)
-finite-value x held h =
-    let b = toBits binary32 x in
-    subst (λ (y : Float). HasValue y (leb 0x8000_0000 b) (value (patternOf x)) (2 ^ 149)) (ofBits-toBits binary32 x held) (bits-value b h)
+finite-value x held h = rw (ofBits-toBits binary32 x held) at (bits-value (toBits binary32 x) h)
 
 pub finite-is : (x : Float) → T (fits binary32 x) → patternOf x < 0x7f80_0000 → Whole x (value (patternOf x))
 finite-is x held h = whole-of x _ _ (finite-value x held h)
@@ -69,16 +62,14 @@ unfolding toBits
 bits-at nan n h = absurd h
 bits-at (inf s) n h = absurd h
 bits-at (fin true m e) n h = absurd (true≢false (h .0))
-bits-at (fin false m e) n h = ap (λ (x : ℕ). 0 + (size x - 24) * 0x80_0000 + x / 2 ^ (size x - 24)) (whole-of (fin false m e) false n h) ∙ omega arith
+bits-at (fin false m e) n h = rw (whole-of (fin false m e) false n h) (omega arith)
 
 same-value : (x y : Float) (n : ℕ) → T (fits binary32 x) → T (fits binary32 y) → HasValue x false n (2 ^ 149) → HasValue y false n (2 ^ 149) → x ≡ y
-same-value x y n a b h k = sym (ofBits-toBits binary32 x a) ∙ ap (ofBits binary32) (bits-at x n h ∙ sym (bits-at y n k)) ∙ ofBits-toBits binary32 y b
+same-value x y n a b h k = rw (← (ofBits-toBits binary32 x a), bits-at x n h, ← (bits-at y n k)) (ofBits-toBits binary32 y b)
 
 units-fit : (t k : ℕ) → t ≤ 0x100_0000 → t * 2 ^ k < 2 ^ 277 → T (fits binary32 (units binary32 false t k))
 unfolding units
-units-fit t k h g =
-    subst (λ (b : Bool). T (fits binary32 (cond b (odd 25 false t k 149) (inf false)))) (sym (is-true (ltb (t * 2 ^ k) (2 ^ 277)) (lt→ltb (t * 2 ^ k) (2 ^ 277) g)))
-    (odd-fits binary32 25 false t k (omega arith) h g)
+units-fit t k h g = rw (is-true (ltb (t * 2 ^ k) (2 ^ 277)) (lt→ltb (t * 2 ^ k) (2 ^ 277) g)) (odd-fits binary32 25 false t k (omega arith) h g)
 
 units-over : (t k : ℕ) → 2 ^ 277 ≤ t * 2 ^ k → units binary32 false t k ≡ inf false
 unfolding units
@@ -94,11 +85,9 @@ units-at k t h l =
     let v : value b ≡ t * 2 ^ k = value-at k t h l in
     elim (lt-or-ge b 0x7f80_0000) [
       | inl g ↦
-          let under : t * 2 ^ k < 2 ^ 277 = subst (λ (x : ℕ). x < 2 ^ 277) v (value-lt g) in
-          same-value (units binary32 false t k) (ofBits binary32 b) (t * 2 ^ k) (units-fit t k h under) (ofBits-fits binary32 b) (units-val binary32 false t k under)
-          (subst (λ (x : ℕ). HasValue (ofBits binary32 b) false x (2 ^ 149)) v (value-is b g))
-          ∙ ap (ofBits binary32) (sym (min-eq-left (le-of-lt g)))
-      | inr g ↦ units-over t k (subst (λ (x : ℕ). 2 ^ 277 ≤ x) v (value-le g)) ∙ sym (ap (ofBits binary32) (min-eq-right g) ∙ inf-bits)
+          let under : t * 2 ^ k < 2 ^ 277 = rw v at (value-lt g) in
+          rw (min-eq-left (le-of-lt g)) (same-value _ _ (t * 2 ^ k) (units-fit t k h under) (ofBits-fits binary32 b) (units-val binary32 false t k under) (rw v at (value-is b g)))
+      | inr g ↦ rw (units-over t k (rw v at (value-le g)), min-eq-right g, inf-bits)
     ]
 
 -- ---- NaN
@@ -118,24 +107,20 @@ pub no-nan-bits : (f : Format) (b : ℕ) → b ≤ ones f * hid f → T (not (na
 no-nan-bits f b h = subst (λ (t : Bool). T (not t)) (sym (nanBits-above f b)) (le→nltb (ones f * hid f) (b % top f) (le-trans (mod-le b (top f)) h))
 
 -- ---- the infinity
-all-ones : (s : Bool) → ofFields binary32 s 255 0 ≡ inf s
-unfolding ofFields
-all-ones s = refl
-
 pub inf-is : (x : Float) → T (fits binary32 x) → patternOf x ≡ 0x7f80_0000 → (s : Bool) × (x ≡ inf s)
+unfolding ofFields
 inf-is x held h =
     let b = toBits binary32 x in
-    let s = leb 0x8000_0000 b in
     let e : b % 0x8000_0000 / 0x80_0000 ≡ 255 = omega arith in
     let t : b % 0x80_0000 ≡ 0 = omega arith in
-    (s, sym (ofBits-toBits binary32 x held) ∙ ofBits-is binary32 b ∙ ap (λ (y : ℕ). ofFields binary32 s y (b % 0x80_0000)) e ∙ ap (λ (y : ℕ). ofFields binary32 s 255 y) t ∙ all-ones s)
+    (leb 0x8000_0000 b, sym (ofBits-toBits binary32 x held) ∙ rw (ofBits-is binary32 b, e, t))
 
 -- ---- a finite number
 pub finite-pattern : (x : Float) → T (fits binary32 x) → T (finite x) → patternOf x < 0x7f80_0000
 finite-pattern x held h = elim (lt-or-ge (patternOf x) 0x7f80_0000) [
   | inl l ↦ l
   | inr g ↦ elim (eq-or-lt-of-le g) [
-    | inl e ↦ absurd (subst (λ (y : Float). T (finite y)) (inf-is x held (sym e) .1) h)
-    | inr l ↦ absurd (subst (λ (y : Float). T (finite y)) (nan-is x held l) h)
+    | inl e ↦ absurd (rw (inf-is x held (sym e) .1) at h)
+    | inr l ↦ absurd (rw (nan-is x held l) at h)
   ]
 ]

@@ -1,5 +1,5 @@
 -- `isqrt n` is the largest r with r * r ≤ n, and `rootOf` compares with even numbers as twice the root does.
-use mathlib.Core.Path.{_≡_, refl, sym, ap, _∙_}
+use mathlib.Core.Path.{_≡_, refl}
 use mathlib.Core.Logic.{inl, inr}
 use Prim.Native.Nat.{ℕ, zero, suc, _+_, _*_, _/_, _^_, _≤_, _<_, Ordering, Ordering·lt, Ordering·eq, Ordering·gt}
 use native.Mathlib.Nat.{le-of-eq, le-trans, le-antisymm, lt-of-lt-of-le, lt-of-le-of-lt, pow-succ'}
@@ -54,7 +54,7 @@ isqrt-to s n = root-le (s * s + n * n) _ (s + n) (is-root (s * s + n * n) .0) (o
 
 -- ---- `rootOf`
 pub root-is : (m x : ℕ) (b : Bool) → x ≡ isqrt m → ltb (x * x) m ≡ b → cond b (2 * x + 1) (2 * x) ≡ rootOf m
-root-is m x b e t = ap (λ (z : Bool). cond z (2 * x + 1) (2 * x)) (sym t) ∙ ap (λ (z : ℕ). cond (ltb (z * z) m) (2 * z + 1) (2 * z)) e
+root-is m x b e t = rw (← t, e)
 
 pub root-within : (m : ℕ) → (2 * isqrt m ≤ rootOf m) × (rootOf m ≤ 2 * isqrt m + 1)
 root-within m = go (ltb (isqrt m * isqrt m) m)
@@ -76,6 +76,6 @@ root-cmp m g o = go o (ltb (isqrt m * isqrt m) m) (ltb→lt (isqrt m * isqrt m) 
     go Ordering·lt true more same h = up (omega arith)
     go Ordering·lt false more same h = up (omega arith)
     go Ordering·eq true more same h = absurd (omega arith)
-    go Ordering·eq false more same h = let e : isqrt m ≡ g = omega arith in le-antisymm (same tt) (is-root m .0) ∙ ap (λ (z : ℕ). z * z) e
+    go Ordering·eq false more same h = let e : isqrt m ≡ g = omega arith in rw (← e) (le-antisymm (same tt) (is-root m .0))
     go Ordering·gt true more same h = lt-of-le-of-lt (square-le {a = g} {b = isqrt m} (omega arith)) (more tt)
     go Ordering·gt false more same h = lt-of-lt-of-le (square-lt {a = g} {b = isqrt m} (omega arith)) (is-root m .0)

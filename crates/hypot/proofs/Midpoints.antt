@@ -1,5 +1,5 @@
 -- A candidate is nearest if the rounded sum of squares lies between the rounded squares of its midpoints, since rounding keeps the order.
-use mathlib.Core.Path.{_≡_, refl, sym, ap, _∙_, subst}
+use mathlib.Core.Path.{_≡_, refl, sym, ap, _∙_}
 use mathlib.Core.Logic.{inl, inr}
 use Prim.Native.Nat.{ℕ, suc, _+_, _-_, _*_, _/_, _%_, _^_, _≤_, _<_, zero-le}
 use native.Mathlib.Nat.{lt-of-lt-of-le, lt-of-le-of-lt, le-add-right, mul-pos, mul-mul-mul-comm, lt-of-mul-lt-mul-right}
@@ -9,7 +9,7 @@ use mathlib.Core.Bool.{Bool, true, false, true≢false}
 use lib.Dec.{T, leb}
 use lib.Arith.{lt→nleb}
 use lib.Pow.{pow-pos, pow-add, pow-mono, shl-lt}
-use lib.Ieee.{Float, nan, inf, fin, Format, binary32, binary64, up, down, unlike, round, add, mul, lt, le, fits, ofBits}
+use lib.Ieee.{Float, nan, inf, fin, Format, binary32, binary64, up, down, unlike, round, add, mul, lt, fits, ofBits}
 use lib.Ieee.Fits.{down-pos}
 use lib.Ieee.Exact.{HasValue, round-exact}
 use lib.Ieee.Order.{round-mono}
@@ -39,7 +39,7 @@ abbrev L : ℕ
 L = 2 ^ 149
 
 squared : (m l v d : ℕ) → m * l ≡ v * d → m * m * (l * l) ≡ v * v * (d * d)
-squared m l v d h = mul-mul-mul-comm m m l l ∙ ap (λ (z : ℕ). z * z) h ∙ mul-mul-mul-comm v d v d
+squared m l v d h = rw (mul-mul-mul-comm m m l l, h) (mul-mul-mul-comm v d v d)
 
 alike : (s : Bool) → unlike s s ≡ false
 alike true = refl
@@ -52,7 +52,7 @@ square-is (inf t) s v h = absurd h
 square-is (fin t m e) s v h =
     let n = m * up e in
     let d = down e in
-    ap (λ (z : Bool). round binary64 z (n * n) (d * d)) (alike t) ∙ round-same binary64 false (n * n) (d * d) (v * v) (L * L) (mul-pos (down-pos e) (down-pos e)) (pow-pos 298) (squared n L v d (h .1))
+    rw (alike t) (round-same binary64 false (n * n) (d * d) (v * v) (L * L) (mul-pos (down-pos e) (down-pos e)) (pow-pos 298) (squared n L v d (h .1)))
 
 square-exact : (p : ℕ) → p < 0x7f80_0000 → HasValue (round binary64 false (value p * value p) (L * L)) false (value p * value p) (L * L)
 square-exact p h =
@@ -64,7 +64,7 @@ square-exact p h =
     let place : 48 + j ≤ 2098 = omega arith in
     round-exact binary64 false (value p * value p) (L * L) (c * c) j (pow-pos 298) (lt-of-lt-of-le small (pow-mono short))
     (lt-of-lt-of-le (shl-lt 48 j small) (pow-mono place))
-    (spread c (2 ^ k) (2 ^ 776) (L * L) ∙ ap (λ (z : ℕ). c * c * z * (L * L)) (sym (pow-add 2 776 (k + k) ∙ ap (λ (z : ℕ). 2 ^ 776 * z) (pow-add 2 k k))))
+    (rw (pow-add 2 776 (k + k), pow-add 2 k k) (spread c (2 ^ k) (2 ^ 776) (L * L)))
   where
     spread : (c K J W : ℕ) → c * K * (c * K) * (J * W) ≡ c * c * (J * (K * K)) * W
     spread c K J W = omega arith
@@ -131,8 +131,7 @@ module _ (g : ℕ) (least : 0x80_0000 ≤ g) (most : g < 0x7f80_0000) where
       let y : b % 0x10_0000_0000_0000 ≡ t = omega arith in
       let z : 0x10_0000_0000_0000 + t ≡ (2 * c + 1) * 0x1000_0000 = omega arith in
       let n : (0x10_0000_0000_0000 + t) * 2 ^ (896 + k) ≡ (value (g + 1) + value g) * 2 ^ 924 =
-      ap (λ (m : ℕ). m * 2 ^ (896 + k)) z ∙ ap (λ (m : ℕ). (2 * c + 1) * 0x1000_0000 * m) (pow-add 2 896 k) ∙ regroup (2 * c + 1) 0x1000_0000 (2 ^ 896) (2 ^ k)
-      ∙ ap (λ (m : ℕ). m * 2 ^ 924) (mid-next k c (significand-lt g) (inr (omega arith)) ∙ ap (λ (p : ℕ). value (p + 1) + value p) (parts g)) in
+      rw (z, pow-add 2 896 k, regroup (2 * c + 1) 0x1000_0000 (2 ^ 896) (2 ^ k), mid-next k c (significand-lt g) (inr (omega arith)), parts g) in
       rw (ofBits-is binary64 b, s, x, y) (rw (← n) (fields-normal binary64 false (896 + k) t (omega arith)))
     where
       regroup : (m a b c : ℕ) → m * a * (b * c) ≡ m * c * (a * b)
@@ -148,13 +147,13 @@ module _ (g : ℕ) (least : 0x80_0000 ≤ g) (most : g < 0x7f80_0000) where
 
   -- the root is above the midpoint, or below it
   over : (n : ℕ) → T (lt (squareOf (midpointOf (0x1_c000_0000 + g))) (round binary64 false n (L * L))) → mid (g + 1) g < 4 * n
-  over n h = cancel (value (g + 1) + value g) (2 ^ 924) L n (round-lt binary64 _ (2 ^ 1074 * 2 ^ 1074) n (L * L) (pow-pos 2148) (pow-pos 298) (subst (λ (x : Float). T (lt x (round binary64 false n (L * L)))) midpoint-square h))
+  over n h = cancel (value (g + 1) + value g) (2 ^ 924) L n (round-lt binary64 _ (2 ^ 1074 * 2 ^ 1074) n (L * L) (pow-pos 2148) (pow-pos 298) (rw midpoint-square at h))
     where
       cancel : (h w l n : ℕ) → h * w * (h * w) * (l * l) < n * (w * (2 * l) * (w * (2 * l))) → h * h < 4 * n
       cancel h w l n k = lt-of-mul-lt-mul-right (w * w * (l * l)) (omega arith)
 
   under : (n : ℕ) → T (lt (round binary64 false n (L * L)) (squareOf (midpointOf (0x1_c000_0000 + g)))) → 4 * n < mid (g + 1) g
-  under n h = cancel (value (g + 1) + value g) (2 ^ 924) L n (round-lt binary64 n (L * L) _ (2 ^ 1074 * 2 ^ 1074) (pow-pos 298) (pow-pos 2148) (subst (λ (x : Float). T (lt (round binary64 false n (L * L)) x)) midpoint-square h))
+  under n h = cancel (value (g + 1) + value g) (2 ^ 924) L n (round-lt binary64 n (L * L) _ (2 ^ 1074 * 2 ^ 1074) (pow-pos 298) (pow-pos 2148) (rw midpoint-square at h))
     where
       cancel : (h w l n : ℕ) → n * (w * (2 * l) * (w * (2 * l))) < h * w * (h * w) * (l * l) → 4 * n < h * h
       cancel h w l n k = lt-of-mul-lt-mul-right (w * w * (l * l)) (omega arith)

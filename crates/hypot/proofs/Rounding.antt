@@ -1,5 +1,5 @@
 -- Which pattern is nearest, by its neighbours; and no other is.
-use mathlib.Core.Path.{_≡_, refl, sym, ap, _∙_, subst}
+use mathlib.Core.Path.{_≡_, refl, sym, ap, _∙_}
 use mathlib.Core.Logic.{_⊎_, inl, inr}
 use Prim.Native.Nat.{ℕ, _+_, _*_, _%_, _^_, _≤_, _<_, Ordering, Ordering·lt, Ordering·eq, Ordering·gt}
 use native.Mathlib.Nat.{le-trans, le-of-eq, le-of-lt, lt-of-lt-of-le, lt-of-le-of-lt, le-refl, lt-irrefl, le-antisymm, eq-or-lt-of-le, add-comm, add-assoc, add-le-add, add-lt-add-of-lt-of-le}
@@ -19,7 +19,7 @@ mid-lt : (g : ℕ) {p q : ℕ} → p < q → mid p g < mid q g
 mid-lt g {p} {q} h = square-lt {a = value p + value g} {b = value q + value g} (add-lt-add-of-lt-of-le (value-lt h) (le-refl (value g)))
 
 mid-swap : (p q : ℕ) → mid p q ≡ mid q p
-mid-swap p q = ap (λ (x : ℕ). x * x) (add-comm (value p) (value q))
+mid-swap p q = rw (add-comm (value p) (value q))
 
 mid-same : (p : ℕ) → mid p p ≡ 4 * (value p * value p)
 mid-same p = double (value p)
@@ -42,10 +42,10 @@ module _ (n g : ℕ) where
   strict lo hi = made (λ p h. le-of-lt (lo p h)) (le-of-lt hi) (λ p d e. absurd (none p d e (lt-or-ge p g)))
     where
       none : (p : ℕ) → (value p ≡ value g → ⊥) → mid p g ≡ 4 * n → (p < g) ⊎ (g ≤ p) → ⊥
-      none p d e (inl h) = lt-irrefl (4 * n) (subst (λ (x : ℕ). x < 4 * n) e (lo p h))
+      none p d e (inl h) = lt-irrefl (4 * n) (rw e at (lo p h))
       none p d e (inr h) = elim (eq-or-lt-of-le h) [
         | inl s ↦ d (ap value (sym s))
-        | inr s ↦ lt-irrefl (4 * n) (subst (λ (x : ℕ). 4 * n < x) e (lt-of-lt-of-le hi (mid-le g (add-one-le s))))
+        | inr s ↦ lt-irrefl (4 * n) (rw e at (lt-of-lt-of-le hi (mid-le g (add-one-le s))))
       ]
 
   -- the root is not below g, or is below it
@@ -74,12 +74,10 @@ module _ (n b : ℕ) where
 
   nearest-at : value b * value b ≤ n → n < value (b + 1) * value (b + 1) → (o : Ordering) → Cmp o (4 * n) (mid (b + 1) b) → Nearest n (nearest b o)
   nearest-at l u Ordering·lt h = lower n b l h
-  nearest-at l u Ordering·gt h = subst (λ (r : ℕ). Nearest n r) (add-one b) (upper h (rest-above n (b + 1) u))
+  nearest-at l u Ordering·gt h = rw (add-one b) at (upper h (rest-above n (b + 1) u))
   nearest-at l u Ordering·eq h = elim (lt-or-ge (b % 2) 1) [
-    | inl z ↦ subst (λ (r : ℕ). Nearest n r) (kept z) (made n b (λ p g. le-of-lt (rest-below n b l p g)) (le-of-eq h) (λ p d e. zero z))
-    | inr z ↦
-        subst (λ (r : ℕ). Nearest n r) (moved z)
-        (made n (b + 1) (λ p g. le-trans (mid-last p g) (le-of-eq (sym h))) (le-of-lt (rest-above n (b + 1) u)) (λ p d e. even z))
+    | inl z ↦ rw (← (kept z)) (made n b (λ p g. le-of-lt (rest-below n b l p g)) (le-of-eq h) (λ p d e. zero z))
+    | inr z ↦ rw (← (moved z)) (made n (b + 1) (λ p g. le-trans (mid-last p g) (le-of-eq (sym h))) (le-of-lt (rest-above n (b + 1) u)) (λ p d e. even z))
   ]
     where
       zero : b % 2 < 1 → b % 2 ≡ 0
@@ -104,7 +102,7 @@ module _ (k q : ℕ) (h : q < 0x100_0000) (l : (k ≡ 0) ⊎ (0x80_0000 ≤ q)) 
       lead (inr z) = inr (omega arith)
 
   pub mid-next : (2 * q + 1) * 2 ^ k ≡ value (k * 0x80_0000 + q + 1) + value (k * 0x80_0000 + q)
-  mid-next = halves q (2 ^ k) ∙ sym (ap (λ (x : ℕ). x + value (k * 0x80_0000 + q)) value-next ∙ ap (λ (x : ℕ). (q + 1) * 2 ^ k + x) (value-at k q (le-of-lt h) l))
+  mid-next = rw (value-next, value-at k q (le-of-lt h) l) (halves q (2 ^ k))
     where
       halves : (q K : ℕ) → (2 * q + 1) * K ≡ (q + 1) * K + q * K
       halves q K = omega arith
@@ -117,14 +115,12 @@ module _ (k q : ℕ) (h : q < 0x100_0000) (l : (k ≡ 0) ⊎ (0x80_0000 ≤ q)) 
   pub nearest-digits : (n : ℕ) (o : Ordering) → q * 2 ^ k * (q * 2 ^ k) ≤ n → n < (q + 1) * 2 ^ k * ((q + 1) * 2 ^ k) → Cmp o (4 * n) ((2 * q + 1) * 2 ^ k * ((2 * q + 1) * 2 ^ k))
       → Nearest n (k * 0x80_0000 + nearest q o)
   nearest-digits n o lo hi c =
-      subst (λ (r : ℕ). Nearest n r) (shift o)
-      (nearest-at n (k * 0x80_0000 + q) (subst (λ (x : ℕ). x * x ≤ n) (sym (value-at k q (le-of-lt h) l)) lo) (subst (λ (x : ℕ). n < x * x) (sym value-next) hi) o
-      (subst (λ (x : ℕ). Cmp o (4 * n) (x * x)) mid-next c))
+      rw (shift o) at (nearest-at n (k * 0x80_0000 + q) (rw (value-at k q (le-of-lt h) l) lo) (rw value-next hi) o (rw mid-next at c))
 
 -- ---- no other pattern is nearest: two that are lie on either side of a tie, so both are even, and one between them would be nearer
 not-less : (n r s : ℕ) → Nearest n r → Nearest n s → r < s → ⊥
 not-less n r s a b h =
-    let d : value r ≡ value s → ⊥ = λ (e : value r ≡ value s). lt-irrefl (value s) (subst (λ (x : ℕ). x < value s) e (value-lt h)) in
+    let d : value r ≡ value s → ⊥ = λ (e : value r ≡ value s). lt-irrefl (value s) (rw e at (value-lt h)) in
     let e : mid r s ≡ 4 * n = le-antisymm (b .below r (value-lt h)) (le-trans (a .above s (value-lt h)) (le-of-eq (mid-swap s r))) in
     let even-r : r % 2 ≡ 0 = a .tie s (λ (x : value s ≡ value r). d (sym x)) (mid-swap s r ∙ e) in
     let even-s : s % 2 ≡ 0 = b .tie r d e in

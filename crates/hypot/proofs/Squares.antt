@@ -1,5 +1,5 @@
 -- The square of x against s * s + n * n, by the difference d = x - s; and what fits in 64 bits.
-use mathlib.Core.Path.{_≡_, sym, ap, _∙_}
+use mathlib.Core.Path.{_≡_, sym, _∙_}
 use mathlib.Core.Logic.{inl, inr}
 use Prim.Native.Nat.{ℕ, _+_, _-_, _*_, _≤_, _<_}
 use native.Mathlib.Nat.{lt-of-lt-of-le, le-add-right, mul-le-mul}
@@ -16,7 +16,7 @@ module _ (s n x : ℕ) where
   square-above h = omega (arith, square-le {a = s + n + 1} {b = x} (omega arith))
 
   pub square-split : s ≤ x → x * x ≡ s * s + (x - s) * (x - s + 2 * s)
-  square-split h = let e : x ≡ s + (x - s) = omega arith in ap (λ (z : ℕ). z * z) e ∙ expand (x - s)
+  square-split h = let e : s + (x - s) ≡ x = omega arith in rw e at (expand (x - s))
     where
       expand : (d : ℕ) → (s + d) * (s + d) ≡ s * s + d * (d + 2 * s)
       expand d = omega arith

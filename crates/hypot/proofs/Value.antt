@@ -1,5 +1,5 @@
 -- The value of a pattern: it grows with the pattern, and t * 2 ^ k units have the pattern k * 2 ^ 23 + t.
-use mathlib.Core.Path.{_≡_, sym, ap, _∙_, subst}
+use mathlib.Core.Path.{_≡_, sym, ap, _∙_}
 use mathlib.Core.Logic.{_⊎_, inl, inr}
 use Prim.Native.Nat.{ℕ, suc, _+_, _*_, _^_, _≤_, _<_}
 use native.Mathlib.Nat.{le-trans, le-of-eq, le-of-lt, lt-of-lt-of-le, lt-of-not-le, not-le-of-lt, eq-or-lt-of-le, mul-le-mul, mul-lt-mul-of-pos-right, pow-succ'}
@@ -16,17 +16,11 @@ carried k = omega (arith, pow-succ' 2 k)
 
 pub value-lt : {p q : ℕ} → p < q → value p < value q
 value-lt {p} {q} h = elim (eq-or-lt-of-le {n = exponentOf p} {m = exponentOf q} (omega arith)) [
-  | inl e ↦ subst (λ (k : ℕ). value p < significandOf q * 2 ^ k) e (mul-lt-mul-of-pos-right (within e) (pow-pos (exponentOf p)))
+  | inl e ↦ rw (← e) (mul-lt-mul-of-pos-right (omega arith) (pow-pos (exponentOf p)))
   | inr g ↦
       lt-of-lt-of-le (mul-lt-mul-of-pos-right (significand-lt p) (pow-pos (exponentOf p)))
-      (le-trans (le-of-eq (sym (carried (exponentOf p)))) (mul-le-mul (leads g) (pow-mono g)))
+      (le-trans (le-of-eq (sym (carried (exponentOf p)))) (mul-le-mul (omega arith) (pow-mono g)))
 ]
-  where
-    within : exponentOf p ≡ exponentOf q → significandOf p < significandOf q
-    within e = omega arith
-
-    leads : exponentOf p < exponentOf q → 0x80_0000 ≤ significandOf q
-    leads g = omega arith
 
 pub value-le : {p q : ℕ} → p ≤ q → value p ≤ value q
 value-le {p} {q} h = elim (eq-or-lt-of-le h) [ inl e ↦ le-of-eq (ap value e) | inr g ↦ le-of-lt (value-lt g) ]
@@ -35,11 +29,11 @@ pub pattern-lt : {p q : ℕ} → value p < value q → p < q
 pattern-lt {p} {q} h = lt-of-not-le (λ (g : q ≤ p). not-le-of-lt h (value-le g))
 
 parts : (p k t : ℕ) → exponentOf p ≡ k → significandOf p ≡ t → value p ≡ t * 2 ^ k
-parts p k t e s = ap (λ (x : ℕ). significandOf p * 2 ^ x) e ∙ ap (λ (x : ℕ). x * 2 ^ k) s
+parts p k t e s = rw (s, e)
 
 pub value-at : (k t : ℕ) → t ≤ 0x100_0000 → (k ≡ 0) ⊎ (0x80_0000 ≤ t) → value (k * 0x80_0000 + t) ≡ t * 2 ^ k
 value-at k t h l = elim (eq-or-lt-of-le h) [
-  | inl e ↦ parts (k * 0x80_0000 + t) (suc k) 0x80_0000 (omega arith) (omega arith) ∙ carried k ∙ ap (λ (x : ℕ). x * 2 ^ k) (sym e)
+  | inl e ↦ parts (k * 0x80_0000 + t) (suc k) 0x80_0000 (omega arith) (omega arith) ∙ rw e (carried k)
   | inr g ↦ elim l [
     | inl z ↦ parts (k * 0x80_0000 + t) k t (omega arith) (omega arith)
     | inr z ↦ parts (k * 0x80_0000 + t) k t (omega arith) (omega arith)

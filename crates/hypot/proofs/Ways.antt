@@ -1,5 +1,5 @@
 -- The two ways of `finite`: the larger side by itself, and the root rounded.
-use mathlib.Core.Path.{_≡_, sym, ap, _∙_, subst}
+use mathlib.Core.Path.{_≡_, sym, _∙_}
 use mathlib.Core.Logic.{_⊎_, inl, inr}
 use Prim.Native.Nat.{ℕ, suc, _+_, _-_, _*_, _/_, _^_, _≤_, _<_, compare, Ordering, Ordering·lt, Ordering·eq, Ordering·gt}
 use native.Mathlib.Nat.{le-trans, le-of-eq, le-of-lt, lt-of-lt-of-le, lt-of-not-le, lt-irrefl, le-of-suc-le-suc, le-add-right, min-eq-left, mul-le-mul, mul-le-mul-left, mul-le-mul-right, mul-lt-mul-of-pos-right, mul-assoc, mul-comm, mul-pos, one-mul, eq-zero-or-pos}
@@ -20,7 +20,7 @@ pub parts : (p : ℕ) → exponentOf p * 0x80_0000 + significandOf p ≡ p
 parts p = omega arith
 
 pub finite-nearest : (n p : ℕ) → p < 0x7f80_0000 → Nearest n p → ofBits binary32 p ≡ nearestRoot n
-finite-nearest n p h a = ap (ofBits binary32) (sym (min-eq-left (le-of-lt h))) ∙ nearest-is n p a
+finite-nearest n p h a = rw (min-eq-left (le-of-lt h)) at (nearest-is n p a)
 
 -- ---- far apart: with c * K the larger side and v the smaller, v * v is less than c * K * K
 square-less : (c K J v : ℕ) → 0x80_0000 ≤ c → 8192 * J ≤ K → 0 < J * J → v < 0x100_0000 * J → v * v < c * (K * K)
@@ -41,8 +41,7 @@ far p q h g =
     let top : 0x80_0000 ≤ c = leads p (exponentOf q) g in
     let scale : 8192 * 2 ^ j ≤ 2 ^ k = le-trans (le-of-eq (sym (pow-add 2 13 j))) (pow-mono (apart k j g)) in
     let less = square-less c (2 ^ k) (2 ^ j) (value q) top scale (mul-pos (pow-pos j) (pow-pos j)) (mul-lt-mul-of-pos-right (significand-lt q) (pow-pos j)) in
-    let near : 4 * n < mid (p + 1) p =
-    subst (λ (r : ℕ). 4 * n < mid (r + 1) r) (parts p) (subst (λ (x : ℕ). 4 * n < x * x) (mid-next k c (significand-lt p) (inr top)) (under-mid c (2 ^ k) (value q) less)) in
+    let near : 4 * n < mid (p + 1) p = rw (mid-next k c (significand-lt p) (inr top), parts p) at (under-mid c (2 ^ k) (value q) less) in
     finite-nearest n p h (lower n p (le-add-right (value p * value p) (value q * value q)) near)
   where
     apart : (k j : ℕ) → 12 < k - j → 13 + j ≤ k
@@ -54,29 +53,19 @@ far p q h g =
 -- ---- near: both sides counted in units of 2 ^ f, as the code has them
 module _ (p q e f a b s : ℕ) (ee : e ≡ exponentOf p) (ff : f ≡ exponentOf q) (aa : a ≡ significandOf p) (bb : b ≡ significandOf q) (ss : s ≡ a * 2 ^ (e - f)) (le : q ≤ p) where
   larger-side : s * 2 ^ f ≡ value p
-  larger-side =
-      ap (λ (x : ℕ). x * 2 ^ f) ss
-      ∙ mul-assoc a (2 ^ (e - f)) (2 ^ f)
-      ∙ ap (λ (x : ℕ). a * x) (sym (pow-add 2 (e - f) f) ∙ ap (λ (x : ℕ). 2 ^ x) (back ∙ ee))
-      ∙ ap (λ (x : ℕ). x * 2 ^ exponentOf p) aa
-    where
-      back : e - f + f ≡ e
-      back = omega arith
+  larger-side = let back : e - f + f ≡ e = omega arith in rw (ss, mul-assoc a (2 ^ (e - f)) (2 ^ f), ← (pow-add 2 (e - f) f), back, ee, aa)
 
   smaller-side : b * 2 ^ f ≡ value q
-  smaller-side = ap (λ (x : ℕ). b * 2 ^ x) ff ∙ ap (λ (x : ℕ). x * 2 ^ exponentOf q) bb
+  smaller-side = rw (ff, bb)
 
   pub near : (4 * (value p * value p + value q * value q) ≡ (2 * s * (2 * s) + 2 * b * (2 * b)) * (2 ^ f * 2 ^ f)) × ((f ≡ 0) ⊎ (0x200_0000 ≤ rootOf (2 * s * (2 * s) + 2 * b * (2 * b))))
   near = (
-    sym
-        (regroup s b (2 ^ f)
-        ∙ ap (λ (x : ℕ). 4 * (x * x + b * 2 ^ f * (b * 2 ^ f))) larger-side
-        ∙ ap (λ (x : ℕ). 4 * (value p * value p + x * x)) smaller-side),
+    rw (regroup s b (2 ^ f), larger-side, smaller-side),
     elim (eq-zero-or-pos f) [
       | inl z ↦ inl z
       | inr g ↦
           let m : 0x80_0000 ≤ a = leads g in
-          let k : 0x80_0000 * 1 ≤ s = subst (λ (x : ℕ). 0x80_0000 * 1 ≤ x) (sym ss) (mul-le-mul m (pow-pos (e - f))) in
+          let k : 0x80_0000 * 1 ≤ s = rw ss (mul-le-mul m (pow-pos (e - f))) in
           inr (omega (arith, isqrt-from (2 * s) (2 * b), root-within (2 * s * (2 * s) + 2 * b * (2 * b))))
     ],
   )
@@ -96,21 +85,21 @@ shifted-lt m d h l = lt-of-lt-of-le (mul-lt-mul-of-pos-right h (pow-pos d)) (mul
 -- ---- how m compares with a square is how 4 n does, in units of 2 ^ f
 module _ (n m f u k : ℕ) (e : 4 * n ≡ m * (2 ^ f * 2 ^ f)) (scale : u * 2 ^ f ≡ 2 ^ k) where
   regroup : (x : ℕ) → x * u * (x * u) * (2 ^ f * 2 ^ f) ≡ x * 2 ^ k * (x * 2 ^ k)
-  regroup x = square x u (2 ^ f) ∙ ap (λ (z : ℕ). x * z * (x * z)) scale
+  regroup x = rw (← scale) (square x u (2 ^ f))
     where
       square : (x u F : ℕ) → x * u * (x * u) * (F * F) ≡ x * (u * F) * (x * (u * F))
       square x u F = omega arith
 
   scaled-cmp : (x : ℕ) (o : Ordering) → Cmp o m (x * u * (x * u)) → Cmp o (4 * n) (x * 2 ^ k * (x * 2 ^ k))
-  scaled-cmp x o c = subst (λ (z : ℕ). Cmp o z (x * 2 ^ k * (x * 2 ^ k))) (sym e) (subst (λ (z : ℕ). Cmp o (m * (2 ^ f * 2 ^ f)) z) (regroup x) (times o c))
+  scaled-cmp x o c = rw (e, ← (regroup x)) (times o c)
     where
       times : (o : Ordering) → Cmp o m (x * u * (x * u)) → Cmp o (m * (2 ^ f * 2 ^ f)) (x * u * (x * u) * (2 ^ f * 2 ^ f))
       times Ordering·lt h = mul-lt-mul-of-pos-right h (mul-pos (pow-pos f) (pow-pos f))
-      times Ordering·eq h = ap (λ (z : ℕ). z * (2 ^ f * 2 ^ f)) h
+      times Ordering·eq h = rw h
       times Ordering·gt h = mul-lt-mul-of-pos-right h (mul-pos (pow-pos f) (pow-pos f))
 
   scaled-le : (x : ℕ) → x * u * (x * u) ≤ m → x * 2 ^ k * (x * 2 ^ k) ≤ 4 * n
-  scaled-le x h = subst (λ (z : ℕ). x * 2 ^ k * (x * 2 ^ k) ≤ z) (sym e) (subst (λ (z : ℕ). z ≤ m * (2 ^ f * 2 ^ f)) (regroup x) (mul-le-mul-right (2 ^ f * 2 ^ f) h))
+  scaled-le x h = rw (e, ← (regroup x)) (mul-le-mul-right (2 ^ f * 2 ^ f) h)
 
 -- ---- the root rounded: c is what is left of w / 4 with k - f places dropped, and u is 2 ^ (k - f)
 pub record Kept (w f c u k : ℕ) : Type 0 where
@@ -128,10 +117,10 @@ rounds n m w f c u k r e i small =
     let below : 2 * c * 2 ^ k * (2 * c * 2 ^ k) ≤ 4 * n = scaled-le n m f u k e (i .scale) (2 * c) (root-ge m (2 * c * u) (omega (arith, i .lo, r))) in
     let above : 4 * n < 2 * (c + 1) * 2 ^ k * (2 * (c + 1) * 2 ^ k) =
     scaled-cmp n m f u k e (i .scale) (2 * (c + 1)) Ordering·lt (root-cmp m (2 * (c + 1) * u) Ordering·lt (omega (arith, i .hi, r))) in
-    let side : Cmp o w (2 * ((2 * c + 1) * u)) = subst (λ (x : ℕ). Cmp o w x) (twice c u) (cmp w ((2 * c + 1) * (2 * u))) in
+    let side : Cmp o (rootOf m) (2 * ((2 * c + 1) * u)) = rw (← r, ← (twice c u)) (cmp w ((2 * c + 1) * (2 * u))) in
     nearest-is n (k * 0x80_0000 + nearest c o)
     (nearest-digits k c small (i .lead) n o (omega (arith, below)) (omega (arith, above))
-    (scaled-cmp n m f u k e (i .scale) (2 * c + 1) o (root-cmp m ((2 * c + 1) * u) o (subst (λ (x : ℕ). Cmp o x (2 * ((2 * c + 1) * u))) r side))))
+    (scaled-cmp n m f u k e (i .scale) (2 * c + 1) o (root-cmp m ((2 * c + 1) * u) o side)))
   where
     twice : (c u : ℕ) → (2 * c + 1) * (2 * u) ≡ 2 * ((2 * c + 1) * u)
     twice c u = omega arith

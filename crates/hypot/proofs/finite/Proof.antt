@@ -1,6 +1,6 @@
 -- `finite` meets its contract, on each of its two ways.
 use native.Mathlib.Omega.{arith}
-use mathlib.Core.Path.{_≡_, sym, subst}
+use mathlib.Core.Path.{_≡_}
 use mathlib.Core.Logic.{_⊎_}
 use Prim.Native.Nat.{ℕ, _+_, _-_, _*_, _^_, _<_, _≤_}
 use Rattle.hypot.specs.Pattern.{value}
@@ -17,7 +17,7 @@ small : (c : tie.After-shifted) → c .shifted .result < 0x10_0000_0000
 small c =
     let a = c .before .significand .result in
     let d = c .before .before .before .before .exponent .result - c .before .before .before .exponent2 .result in
-    subst (λ (x : ℕ). x < 0x10_0000_0000) (sym (c .shifted .ensures)) (shifted-lt a d (omega arith) (c .before .before .if1 .left))
+    rw (c .shifted .ensures) (shifted-lt a d (omega arith) (c .before .before .if1 .left))
 
 abbrev sum : tie.After-significand2 → ℕ
 sum c = let a = c .before .before .before .before .before .before .args in value (a .p) * value (a .p) + value (a .q) * value (a .q)
@@ -51,13 +51,8 @@ root-requires c κs = (omega (arith, small (c .before)), omega arith)
 
 rounded-requires : tie.Need-rounded-requires
 rounded-requires c κs =
-    let b = c .before in (
-      subst (λ (w : ℕ). w < 0x100_0000_0000) (sym (c .root .ensures)) (root-small _ _ (omega (arith, small (b .before))) (omega arith)),
-      (
-        omega arith,
-        subst (λ (w : ℕ). (place b ≡ 0) ⊎ (0x200_0000 ≤ w)) (sym (c .root .ensures)) (sides b .1),
-      ),
-    )
+    let b = c .before in
+    (rw (c .root .ensures) (root-small _ _ (omega (arith, small (b .before))) (omega arith)), (omega arith, rw (c .root .ensures) (sides b .1)))
 
 returns-2 : tie.Need-returns-2
 returns-2 c =

@@ -2,8 +2,7 @@
 use denote.Floats.{passes}
 use borrow.Author.Needs.{needs}
 use native.Mathlib.Omega.{arith}
-use mathlib.Core.Path.{subst}
-use lib.Ieee.{Float, binary32}
+use lib.Ieee.{binary32}
 use Rattle.hypot.specs.Parts.{sumOfSquaresOf, Settled}
 use Rattle.float.proofs.Nan.{no-nan}
 use Rattle.hypot.proofs.Floats.{no-nan-bits}
@@ -12,7 +11,7 @@ use Rattle.hypot.proofs.hypot.Statement.{statement}
 use Rattle.hypot.proofs.hypot.Tie as tie
 
 certain : (c : tie.Then3) → Settled (sumOfSquaresOf (c .before .before .before .before .before .before .before .args .a) (c .before .before .before .before .before .before .before .args .b)) (c .before .before .candidate .result)
-certain c = subst (λ (t : Float). Settled t (c .before .before .candidate .result)) (c .before .before .before .before .sum-of-squares .ensures) (c .before .settled .ensures (passes _ (c .if3 .taken)))
+certain c = rw (c .before .before .before .before .sum-of-squares .ensures) at (c .before .settled .ensures (passes _ (c .if3 .taken)))
 
 returns : tie.Need-returns
 returns c = c .exact .ensures

@@ -1,27 +1,21 @@
-use mathlib.Core.Path.{sym, ap, _∙_}
 use borrow.Author.Needs.{needs}
 use native.Mathlib.Numerals.{add-one}
 use native.Mathlib.Omega.{arith}
-use Prim.Native.Nat.{Ordering, Ordering·lt, Ordering·eq, Ordering·gt}
-use lib.Ieee.{nearest}
+use Prim.Native.Nat.{Ordering·lt, Ordering·eq, Ordering·gt}
 use Rattle.hypot.proofs.Order.{cmp-is}
 use Rattle.hypot.proofs.nearer.Statement.{statement}
 use Rattle.hypot.proofs.nearer.Tie as tie
 
 returns : tie.Need-returns
-returns c =
-    let a = c .before .args in
-    sym (ap (λ (o : Ordering). nearest (a .c) o) (cmp-is Ordering·lt (a .w) (a .h) (c .if1 .taken)))
+returns c = rw (cmp-is Ordering·lt _ _ (c .if1 .taken))
 
 returns-2 : tie.Need-returns-2
-returns-2 c =
-    let a = c .before .before .args in
-    sym (ap (λ (o : Ordering). nearest (a .c) o) (cmp-is Ordering·eq (a .w) (a .h) (c .if2 .taken)))
+returns-2 c = rw (cmp-is Ordering·eq _ _ (c .if2 .taken))
 
 returns-3 : tie.Need-returns-3
 returns-3 c =
     let a = c .before .before .args in
-    add-one (a .c) ∙ sym (ap (λ (o : Ordering). nearest (a .c) o) (cmp-is Ordering·gt (a .w) (a .h) (omega arith)))
+    rw (cmp-is Ordering·gt (a .w) (a .h) (omega arith)) (add-one (a .c))
 
 pub nearer-spec : {M : Type 1} → statement M
 nearer-spec = tie.close (tie.spec returns (λ c. search needs) (λ c. search needs) returns-2 returns-3)

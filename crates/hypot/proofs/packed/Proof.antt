@@ -1,8 +1,7 @@
-use mathlib.Core.Path.{sym, ap}
 use Prim.Native.Nat.{_+_, _*_}
 use borrow.Author.Needs.{needs}
 use native.Mathlib.Nat.{le-of-lt, min-eq-left, min-eq-right}
-use lib.Ieee.{binary32, ofBits}
+use lib.Ieee.{binary32}
 use Rattle.hypot.proofs.Floats.{no-nan-bits}
 use native.Mathlib.Omega.{arith}
 use Rattle.hypot.proofs.packed.Statement.{statement}
@@ -15,10 +14,10 @@ float-from-bits-result-2 : tie.Need-float-from-bits-result-2
 float-from-bits-result-2 c = no-nan-bits binary32 0x7f80_0000 (omega arith)
 
 returns : tie.Need-returns
-returns c = ap (ofBits binary32) (sym (min-eq-left (le-of-lt (c .if1 .taken))))
+returns c = rw (min-eq-left (le-of-lt (c .if1 .taken)))
 
 returns-2 : tie.Need-returns-2
-returns-2 c = ap (ofBits binary32) (sym (min-eq-right (c .if1 .left)))
+returns-2 c = rw (min-eq-right (c .if1 .left))
 
 pub packed-spec : {M : Type 1} → statement M
 packed-spec =

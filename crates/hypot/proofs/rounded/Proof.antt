@@ -1,8 +1,6 @@
 -- `rounded` meets its contract. The loop's invariant is `Kept`.
-use mathlib.Core.Path.{ap, _∙_}
 use native.Mathlib.Omega.{arith}
-use Prim.Native.Nat.{ℕ, _+_, _*_, compare}
-use Rattle.hypot.specs.Pattern.{f32At}
+use Prim.Native.Nat.{_+_, _*_, compare}
 use lib.Ieee.Fits.{nearest-le}
 use Rattle.hypot.proofs.Ways.{Kept, kept-start, kept-next, kept-places, rounds}
 use Rattle.hypot.proofs.rounded.Statement.{statement}
@@ -38,9 +36,7 @@ returns c =
     let i = c .before .before .before .loop in
     let a = c .before .before .before .before .args in
     λ n m r e.
-    c .packed .ensures
-    ∙ ap (λ (t : ℕ). f32At (i .k * 0x80_0000 + t)) (c .before .nearer .ensures)
-    ∙ rounds n m (a .w) (a .f) (i .c) (i .u) (i .k) r e (i .inv) (c .before .before .loop-test .left)
+    rw (c .packed .ensures, c .before .nearer .ensures) (rounds n m (a .w) (a .f) (i .c) (i .u) (i .k) r e (i .inv) (c .before .before .loop-test .left))
 
 pub rounded-spec : {M : Type 1} → statement M
 rounded-spec =

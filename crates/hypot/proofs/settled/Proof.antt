@@ -1,9 +1,5 @@
-use mathlib.Core.Path.{subst}
 use denote.Floats.{passes}
 use borrow.Author.Needs.{needs}
-use lib.Dec.{T}
-use lib.Ieee.{Float, lt}
-use Rattle.hypot.specs.Parts.{squareOf}
 use Rattle.hypot.proofs.settled.Statement.{statement}
 use Rattle.hypot.proofs.settled.Tie as tie
 
@@ -14,14 +10,12 @@ returns-2 : tie.Need-returns-2
 returns-2 c = λ h. absurd h
 
 returns-3 : tie.Need-returns-3
-returns-3 c =
-    let s = c .before .before .before .before .before in
-    λ h. record {
-      least = c .before .before .before .before .if1 .left;
-      most = c .before .before .before .if2 .left;
-      low = subst (λ (x : Float). T (lt (squareOf x) (s .args .t))) (c .before .before .midpoint .ensures) (passes _ (c .if3 .taken));
-      high = subst (λ (x : Float). T (lt (s .args .t) (squareOf x))) (c .before .midpoint2 .ensures) h;
-    }
+returns-3 c = λ h. record {
+  least = c .before .before .before .before .if1 .left;
+  most = c .before .before .before .if2 .left;
+  low = rw (c .before .before .midpoint .ensures) at (passes _ (c .if3 .taken));
+  high = rw (c .before .midpoint2 .ensures) at h;
+}
 
 returns-4 : tie.Need-returns-4
 returns-4 c = λ h. absurd h

@@ -1,8 +1,8 @@
 -- `whole_root` meets its contract. The root lies from `low` to below `high`.
 use borrow.Author.Needs.{needs}
 use native.Mathlib.Omega.{arith}
-use mathlib.Core.Path.{_≡_, sym, _∙_, subst}
-use Prim.Native.Nat.{ℕ, _+_, _-_, _*_, _<_, _≤_}
+use mathlib.Core.Path.{_≡_, sym, _∙_}
+use Prim.Native.Nat.{_+_, _-_, _*_, _<_, _≤_}
 use borrow.Author.Tests.{ltb-true, ltb-false}
 use Rattle.hypot.proofs.Isqrt.{isqrt-is}
 use Rattle.hypot.proofs.whole_root.Statement.{statement}
@@ -27,9 +27,8 @@ loop-again-2 c =
 returns : tie.Need-returns Inv-loop μ-loop
 returns c =
     let l = c .before .loop in
-    let a = c .before .before .args in
     let e : l .high ≡ l .low + 1 = omega arith in
-    isqrt-is _ _ (l .inv .2, subst (λ (h : ℕ). a .s * a .s + a .n * a .n < h * h) e (l .inv .3))
+    isqrt-is _ _ (l .inv .2, rw e at (l .inv .3))
 
 pub whole-root-spec : {M : Type 1} → statement M
 whole-root-spec =
