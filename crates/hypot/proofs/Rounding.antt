@@ -2,7 +2,7 @@
 use mathlib.Core.Path.{_≡_, refl, sym, ap, _∙_}
 use mathlib.Core.Logic.{_⊎_, inl, inr}
 use Prim.Native.Nat.{ℕ, _+_, _*_, _%_, _^_, _≤_, _<_, Ordering, Ordering·lt, Ordering·eq, Ordering·gt}
-use native.Mathlib.Nat.{le-trans, le-of-eq, le-of-lt, lt-of-lt-of-le, lt-of-le-of-lt, le-refl, lt-irrefl, le-antisymm, eq-or-lt-of-le, add-comm, add-assoc, add-le-add, add-lt-add-of-lt-of-le}
+use native.Mathlib.Nat.{le-trans, le-of-eq, le-of-lt, lt-of-lt-of-le, lt-of-le-of-lt, le-refl, lt-irrefl, le-add-right, zero-lt-suc, mul-le-mul-left, mul-lt-mul-of-pos-left, le-antisymm, eq-or-lt-of-le, add-zero, add-comm, add-assoc, add-le-add, add-lt-add-of-lt-of-le}
 use native.Mathlib.Numerals.{add-one, add-one-le, lt-add-one}
 use native.Mathlib.Omega.{arith}
 use lib.Ieee.{nearest}
@@ -22,16 +22,7 @@ mid-swap : (p q : ℕ) → mid p q ≡ mid q p
 mid-swap p q = rw (add-comm (value p) (value q))
 
 mid-same : (p : ℕ) → mid p p ≡ 4 * (value p * value p)
-mid-same p = double (value p)
-  where
-    double : (x : ℕ) → (x + x) * (x + x) ≡ 4 * (x * x)
-    double x = omega arith
-
-four-le : {a b : ℕ} → a ≤ b → 4 * a ≤ 4 * b
-four-le h = omega arith
-
-four-lt : {a b : ℕ} → a < b → 4 * a < 4 * b
-four-lt h = omega arith
+mid-same p = omega arith
 
 -- ---- by the neighbours of g
 module _ (n g : ℕ) where
@@ -50,13 +41,10 @@ module _ (n g : ℕ) where
 
   -- the root is not below g, or is below it
   rest-below : value g * value g ≤ n → (p : ℕ) → p < g → mid p g < 4 * n
-  rest-below l p h = lt-of-lt-of-le (mid-lt g h) (le-trans (le-of-eq (mid-same g)) (four-le l))
+  rest-below l p h = lt-of-lt-of-le (mid-lt g h) (le-trans (le-of-eq (mid-same g)) (mul-le-mul-left 4 l))
 
   rest-above : n < value g * value g → 4 * n < mid (g + 1) g
-  rest-above u = lt-of-lt-of-le (four-lt u) (le-trans (le-of-eq (sym (mid-same g))) (mid-le g (at-next g)))
-    where
-      at-next : (g : ℕ) → g ≤ g + 1
-      at-next g = omega arith
+  rest-above u = lt-of-lt-of-le (mul-lt-mul-of-pos-left u (zero-lt-suc 3)) (le-trans (le-of-eq (sym (mid-same g))) (mid-le g (le-add-right g 1)))
 
   pub lower : value g * value g ≤ n → 4 * n < mid (g + 1) g → Nearest n g
   lower l m = strict (rest-below l) m
@@ -64,10 +52,7 @@ module _ (n g : ℕ) where
 -- ---- b and b + 1
 module _ (n b : ℕ) where
   mid-last : (p : ℕ) → p < b + 1 → mid p (b + 1) ≤ mid (b + 1) b
-  mid-last p h = le-trans (mid-le (b + 1) (last p b h)) (le-of-eq (mid-swap b (b + 1)))
-    where
-      last : (p b : ℕ) → p < b + 1 → p ≤ b
-      last p b h = omega arith
+  mid-last p h = le-trans (mid-le (b + 1) (omega arith)) (le-of-eq (mid-swap b (b + 1)))
 
   pub upper : mid (b + 1) b < 4 * n → 4 * n < mid (b + 1 + 1) (b + 1) → Nearest n (b + 1)
   upper lo hi = strict n (b + 1) (λ p h. lt-of-le-of-lt (mid-last p h) lo) hi
@@ -76,36 +61,21 @@ module _ (n b : ℕ) where
   nearest-at l u Ordering·lt h = lower n b l h
   nearest-at l u Ordering·gt h = rw (add-one b) at (upper h (rest-above n (b + 1) u))
   nearest-at l u Ordering·eq h = elim (lt-or-ge (b % 2) 1) [
-    | inl z ↦ rw (← (kept z)) (made n b (λ p g. le-of-lt (rest-below n b l p g)) (le-of-eq h) (λ p d e. zero z))
-    | inr z ↦ rw (← (moved z)) (made n (b + 1) (λ p g. le-trans (mid-last p g) (le-of-eq (sym h))) (le-of-lt (rest-above n (b + 1) u)) (λ p d e. even z))
+    | inl z ↦
+        let e : b % 2 ≡ 0 = omega arith in
+        rw (e, add-zero b) (made n b (λ p g. le-of-lt (rest-below n b l p g)) (le-of-eq h) (λ p d k. e))
+    | inr z ↦
+        let e : b % 2 ≡ 1 = omega arith in
+        rw e (made n (b + 1) (λ p g. le-trans (mid-last p g) (le-of-eq (sym h))) (le-of-lt (rest-above n (b + 1) u)) (λ p d k. omega arith))
   ]
-    where
-      zero : b % 2 < 1 → b % 2 ≡ 0
-      zero z = omega arith
-
-      even : 1 ≤ b % 2 → (b + 1) % 2 ≡ 0
-      even z = omega arith
-
-      kept : b % 2 < 1 → b ≡ b + b % 2
-      kept z = omega arith
-
-      moved : 1 ≤ b % 2 → b + 1 ≡ b + b % 2
-      moved z = omega arith
 
 -- ---- by the digits q of a number q * 2 ^ k
 module _ (k q : ℕ) (h : q < 0x100_0000) (l : (k ≡ 0) ⊎ (0x80_0000 ≤ q)) where
   value-next : value (k * 0x80_0000 + q + 1) ≡ (q + 1) * 2 ^ k
-  value-next = ap value (add-assoc (k * 0x80_0000) q 1) ∙ value-at k (q + 1) (omega arith) (lead l)
-    where
-      lead : (k ≡ 0) ⊎ (0x80_0000 ≤ q) → (k ≡ 0) ⊎ (0x80_0000 ≤ q + 1)
-      lead (inl z) = inl z
-      lead (inr z) = inr (omega arith)
+  value-next = rw (add-assoc (k * 0x80_0000) q 1) (value-at k (q + 1) (omega arith) (elim l [ inl z ↦ inl z | inr z ↦ inr (omega arith) ]))
 
   pub mid-next : (2 * q + 1) * 2 ^ k ≡ value (k * 0x80_0000 + q + 1) + value (k * 0x80_0000 + q)
-  mid-next = rw (value-next, value-at k q (le-of-lt h) l) (halves q (2 ^ k))
-    where
-      halves : (q K : ℕ) → (2 * q + 1) * K ≡ (q + 1) * K + q * K
-      halves q K = omega arith
+  mid-next = rw (value-next, value-at k q (le-of-lt h) l) (omega arith)
 
   shift : (o : Ordering) → nearest (k * 0x80_0000 + q) o ≡ k * 0x80_0000 + nearest q o
   shift Ordering·lt = refl

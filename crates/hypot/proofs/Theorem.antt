@@ -1,7 +1,7 @@
 -- `nearestRoot n` is the f32 nearest the root of n, ties to even, and no other is.
 use mathlib.Core.Path.{_≡_, refl, sym, ap, _∙_}
 use mathlib.Core.Logic.{_⊎_, inl, inr}
-use Prim.Native.Nat.{ℕ, _+_, _-_, _*_, _/_, _^_, _≤_, _<_, compare, Ordering}
+use Prim.Native.Nat.{ℕ, _+_, _-_, _*_, _/_, _^_, _≤_, _<_, compare}
 use native.Mathlib.Nat.{le-trans, le-of-eq, lt-of-lt-of-le, le-div-iff-mul-le, div-mul-le-self, lt-div-mul-add}
 use native.Mathlib.Omega.{arith}
 use mathlib.Core.Bool.{false}
@@ -42,21 +42,14 @@ root-is-nearest n =
     let o = compare (4 * n) (h * h) in
     let small : q < 0x100_0000 = kept-lt 24 r in
     let low : q * 2 ^ k * (q * 2 ^ k) ≤ n = le-trans (square-le (div-mul-le-self r (2 ^ k))) (is-root n .0) in
-    let high : n < (q + 1) * 2 ^ k * ((q + 1) * 2 ^ k) = lt-of-lt-of-le (is-root n .1) (square-le (next r (2 ^ k) q (lt-div-mul-add (pow-pos k)))) in
+    let high : n < (q + 1) * 2 ^ k * ((q + 1) * 2 ^ k) = lt-of-lt-of-le (is-root n .1) (square-le (omega (arith, lt-div-mul-add {a = r} (pow-pos k)))) in
     let near : Nearest n (k * 0x80_0000 + nearest q o) = nearest-digits k q small (leads r) n o low high (cmp (4 * n) (h * h)) in
     record {
       r = k * 0x80_0000 + nearest q o;
       is = near;
       only = λ s a. unique n s (k * 0x80_0000 + nearest q o) a near;
-      root = opened n ∙ units-at k (nearest q o) (le-trans (nearest-le q o) small) (rounded-leads q k o (leads r));
+      root = opened n ∙ units-at k (nearest q o) (le-trans (nearest-le q o) small) (elim (leads r) [ inl z ↦ inl z | inr g ↦ inr (le-trans g (nearest-ge q o)) ]);
     }
-  where
-    next : (r K q : ℕ) → r < q * K + K → r + 1 ≤ (q + 1) * K
-    next r K q h = omega arith
-
-    rounded-leads : (q k : ℕ) (o : Ordering) → (k ≡ 0) ⊎ (0x80_0000 ≤ q) → (k ≡ 0) ⊎ (0x80_0000 ≤ nearest q o)
-    rounded-leads q k o (inl z) = inl z
-    rounded-leads q k o (inr g) = inr (le-trans g (nearest-ge q o))
 
 pub nearest-is : (n r : ℕ) → Nearest n r → f32At r ≡ nearestRoot n
 nearest-is n r a = let t = root-is-nearest n in ap f32At (t .only r a) ∙ sym (t .root)

@@ -38,17 +38,11 @@ far p q h g =
     let j = exponentOf q in
     let c = significandOf p in
     let n = value p * value p + value q * value q in
-    let top : 0x80_0000 ≤ c = leads p (exponentOf q) g in
-    let scale : 8192 * 2 ^ j ≤ 2 ^ k = le-trans (le-of-eq (sym (pow-add 2 13 j))) (pow-mono (apart k j g)) in
+    let top : 0x80_0000 ≤ c = omega arith in
+    let scale : 8192 * 2 ^ j ≤ 2 ^ k = le-trans (le-of-eq (sym (pow-add 2 13 j))) (pow-mono (omega arith)) in
     let less = square-less c (2 ^ k) (2 ^ j) (value q) top scale (mul-pos (pow-pos j) (pow-pos j)) (mul-lt-mul-of-pos-right (significand-lt q) (pow-pos j)) in
     let near : 4 * n < mid (p + 1) p = rw (mid-next k c (significand-lt p) (inr top), parts p) at (under-mid c (2 ^ k) (value q) less) in
     finite-nearest n p h (lower n p (le-add-right (value p * value p) (value q * value q)) near)
-  where
-    apart : (k j : ℕ) → 12 < k - j → 13 + j ≤ k
-    apart k j g = omega arith
-
-    leads : (p j : ℕ) → 12 < exponentOf p - j → 0x80_0000 ≤ significandOf p
-    leads p j g = omega arith
 
 -- ---- near: both sides counted in units of 2 ^ f, as the code has them
 module _ (p q e f a b s : ℕ) (ee : e ≡ exponentOf p) (ff : f ≡ exponentOf q) (aa : a ≡ significandOf p) (bb : b ≡ significandOf q) (ss : s ≡ a * 2 ^ (e - f)) (le : q ≤ p) where
@@ -60,21 +54,15 @@ module _ (p q e f a b s : ℕ) (ee : e ≡ exponentOf p) (ff : f ≡ exponentOf 
 
   pub near : (4 * (value p * value p + value q * value q) ≡ (2 * s * (2 * s) + 2 * b * (2 * b)) * (2 ^ f * 2 ^ f)) × ((f ≡ 0) ⊎ (0x200_0000 ≤ rootOf (2 * s * (2 * s) + 2 * b * (2 * b))))
   near = (
-    rw (regroup s b (2 ^ f), larger-side, smaller-side),
+    rw (← larger-side, ← smaller-side) (omega arith),
     elim (eq-zero-or-pos f) [
       | inl z ↦ inl z
       | inr g ↦
-          let m : 0x80_0000 ≤ a = leads g in
+          let m : 0x80_0000 ≤ a = omega arith in
           let k : 0x80_0000 * 1 ≤ s = rw ss (mul-le-mul m (pow-pos (e - f))) in
           inr (omega (arith, isqrt-from (2 * s) (2 * b), root-within (2 * s * (2 * s) + 2 * b * (2 * b))))
     ],
   )
-    where
-      regroup : (s b F : ℕ) → (2 * s * (2 * s) + 2 * b * (2 * b)) * (F * F) ≡ 4 * (s * F * (s * F) + b * F * (b * F))
-      regroup s b F = omega arith
-
-      leads : 0 < f → 0x80_0000 ≤ a
-      leads g = omega arith
 
 pub root-small : (s n : ℕ) → s < 0x20_0000_0000 → n < 0x200_0000 → rootOf (s * s + n * n) < 0x100_0000_0000
 root-small s n h k = omega (arith, root-within (s * s + n * n), isqrt-to s n)
@@ -85,10 +73,7 @@ shifted-lt m d h l = lt-of-lt-of-le (mul-lt-mul-of-pos-right h (pow-pos d)) (mul
 -- ---- how m compares with a square is how 4 n does, in units of 2 ^ f
 module _ (n m f u k : ℕ) (e : 4 * n ≡ m * (2 ^ f * 2 ^ f)) (scale : u * 2 ^ f ≡ 2 ^ k) where
   regroup : (x : ℕ) → x * u * (x * u) * (2 ^ f * 2 ^ f) ≡ x * 2 ^ k * (x * 2 ^ k)
-  regroup x = rw (← scale) (square x u (2 ^ f))
-    where
-      square : (x u F : ℕ) → x * u * (x * u) * (F * F) ≡ x * (u * F) * (x * (u * F))
-      square x u F = omega arith
+  regroup x = rw (← scale) (omega arith)
 
   scaled-cmp : (x : ℕ) (o : Ordering) → Cmp o m (x * u * (x * u)) → Cmp o (4 * n) (x * 2 ^ k * (x * 2 ^ k))
   scaled-cmp x o c = rw (e, ← (regroup x)) (times o c)
@@ -117,13 +102,11 @@ rounds n m w f c u k r e i small =
     let below : 2 * c * 2 ^ k * (2 * c * 2 ^ k) ≤ 4 * n = scaled-le n m f u k e (i .scale) (2 * c) (root-ge m (2 * c * u) (omega (arith, i .lo, r))) in
     let above : 4 * n < 2 * (c + 1) * 2 ^ k * (2 * (c + 1) * 2 ^ k) =
     scaled-cmp n m f u k e (i .scale) (2 * (c + 1)) Ordering·lt (root-cmp m (2 * (c + 1) * u) Ordering·lt (omega (arith, i .hi, r))) in
-    let side : Cmp o (rootOf m) (2 * ((2 * c + 1) * u)) = rw (← r, ← (twice c u)) (cmp w ((2 * c + 1) * (2 * u))) in
+    let twice : (2 * c + 1) * (2 * u) ≡ 2 * ((2 * c + 1) * u) = omega arith in
+    let side : Cmp o (rootOf m) (2 * ((2 * c + 1) * u)) = rw (← r, ← twice) (cmp w ((2 * c + 1) * (2 * u))) in
     nearest-is n (k * 0x80_0000 + nearest c o)
     (nearest-digits k c small (i .lead) n o (omega (arith, below)) (omega (arith, above))
     (scaled-cmp n m f u k e (i .scale) (2 * c + 1) o (root-cmp m ((2 * c + 1) * u) o side)))
-  where
-    twice : (c u : ℕ) → (2 * c + 1) * (2 * u) ≡ 2 * ((2 * c + 1) * u)
-    twice c u = omega arith
 
 pub kept-start : (w f : ℕ) → (f ≡ 0) ⊎ (0x200_0000 ≤ w) → Kept w f (w / 4) 1 f
 kept-start w f l = record {
@@ -132,11 +115,8 @@ kept-start w f l = record {
   scale = one-mul (2 ^ f);
   few = omega arith;
   most = omega arith;
-  lead = elim l [ inl z ↦ inl z | inr g ↦ inr (quarter g) ];
+  lead = elim l [ inl z ↦ inl z | inr g ↦ inr (omega arith) ];
 }
-  where
-    quarter : 0x200_0000 ≤ w → 0x80_0000 ≤ w / 4
-    quarter g = omega arith
 
 pub kept-next : (w f c u k : ℕ) → Kept w f c u k → w < 0x100_0000_0000 → 0x100_0000 ≤ c → Kept w f (c / 2) (u * 2) (k + 1)
 kept-next w f c u k i small big =
@@ -144,19 +124,13 @@ kept-next w f c u k i small big =
     let down : e * 2 ≤ c = omega arith in
     let up : c + 1 ≤ (e + 1) * 2 = omega arith in
     record {
-      lo = less e down;
-      hi = more e up;
+      lo = omega (arith, mul-le-mul-right (4 * u) down, i .lo);
+      hi = omega (arith, mul-le-mul-right (4 * u) up, i .hi);
       scale = omega (arith, i .scale, pow-add 2 k 1);
       few = omega (arith, mul-le-mul-right (4 * u) big, i .lo);
       most = omega arith;
       lead = inr (omega arith);
     }
-  where
-    less : (e : ℕ) → e * 2 ≤ c → e * (4 * (u * 2)) ≤ w
-    less e h = omega (arith, mul-le-mul-right (4 * u) h, i .lo)
-
-    more : (e : ℕ) → c + 1 ≤ (e + 1) * 2 → w < (e + 1) * (4 * (u * 2))
-    more e h = omega (arith, mul-le-mul-right (4 * u) h, i .hi)
 
 -- at most 15 places are dropped
 pub kept-places : (w f c u k : ℕ) → Kept w f c u k → k ≤ f + 15
