@@ -10,6 +10,7 @@ use lib.IntN.{ℤ}
 use lib.Pow.{pow-pos}
 use lib.Ieee.{Float, nan, inf, fin, binary32, fits, lt, le, eq, ofBits}
 use lib.Ieee.Order.{le-of-values}
+use Rattle.float.specs.MinMax.{absOf}
 use Rattle.float.proofs.Order.{lt-le-trans}
 use Rattle.hypot.specs.Hypot.{hypotOf}
 use Rattle.hypot.specs.Pattern.{patternOf, value}
@@ -42,9 +43,12 @@ finite-sides t s u m n e d A B l =
       | inr g ↦ rw (min-eq-right g, inf-bits) (unfold le in tt)
     ]))
 
--- the finite side a = ± m * 2 ^ e
-pub at-least : (t b : Float) (s : Bool) (m : ℕ) (e : ℤ) → T (fits binary32 (fin s m e)) → T (fits binary32 b) → T (eq b b) → T (lt t (fin false m e)) → T (lt t (hypotOf (fin s m e) b))
-unfolding hypotOf eq
-at-least t nan s m e A B k l = absurd k
-at-least t (inf u) s m e A B k l = lt-le-trans t (fin false m e) (inf false) l (unfold le in tt)
-at-least t (fin u n d) s m e A B k l = finite-sides t s u m n e d A B l
+pub at-least : (t a b : Float) → T (fits binary32 a) → T (fits binary32 b) → T (lt t (absOf a)) → T (eq b b) → T (lt t (hypotOf a b))
+unfolding absOf hypotOf lt eq
+at-least nan nan b A B l k = absurd l
+at-least (inf s) nan b A B l k = absurd l
+at-least (fin s m e) nan b A B l k = absurd l
+at-least t (inf s) b A B l k = l
+at-least t (fin s m e) nan A B l k = absurd k
+at-least t (fin s m e) (inf u) A B l k = lt-le-trans t (fin false m e) (inf false) l (unfold le in tt)
+at-least t (fin s m e) (fin u n d) A B l k = finite-sides t s u m n e d A B l

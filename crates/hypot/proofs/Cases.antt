@@ -1,31 +1,34 @@
--- The cases of `hypotOf`, by the patterns of the two sides.
-use mathlib.Core.Path.{_≡_, refl, sym, ap, _∙_}
+-- `hypotOf` with its sides exchanged, and its cases, by the patterns of the two sides.
+use mathlib.Core.Path.{_≡_, refl, sym}
 use mathlib.Core.Logic.{inl, inr}
 use Prim.Native.Nat.{ℕ, _+_, _*_, _<_, min, max}
 use native.Mathlib.Nat.{le-of-lt, add-comm, min-eq-left, min-eq-right, max-eq-left, max-eq-right}
 use mathlib.Core.Bool.{Bool, true, false}
 use lib.Dec.{T}
 use lib.Ieee.{Float, nan, inf, fin, binary32, fits, toBits}
-use Rattle.hypot.specs.Hypot.{nearestRoot, hypotOf}
+use Rattle.hypot.specs.Hypot.{whole, nearestRoot, hypotOf}
 use Rattle.hypot.specs.Pattern.{patternOf, value}
 use Rattle.hypot.specs.Nearest.{HypotIsRoot}
 use Rattle.hypot.proofs.Order.{lt-or-ge}
 use Rattle.hypot.proofs.Floats.{Whole, finite-is, nan-is, inf-is}
 
+pub hypot-comm : (a b : Float) → hypotOf a b ≡ hypotOf b a
+unfolding hypotOf
+hypot-comm nan nan = refl
+hypot-comm nan (inf t) = refl
+hypot-comm nan (fin t n d) = refl
+hypot-comm (inf s) nan = refl
+hypot-comm (inf s) (inf t) = refl
+hypot-comm (inf s) (fin t n d) = refl
+hypot-comm (fin s m e) nan = refl
+hypot-comm (fin s m e) (inf t) = refl
+hypot-comm (fin s m e) (fin t n d) = rw (add-comm (whole m e * whole m e) (whole n d * whole n d))
+
+-- ---- the first side, infinite or NaN
 inf-pattern : (s : Bool) → patternOf (inf s) ≡ 0x7f80_0000
 unfolding toBits
 inf-pattern true = refl
 inf-pattern false = refl
-
-inf-left : (s : Bool) (b : Float) → hypotOf (inf s) b ≡ inf false
-unfolding hypotOf
-inf-left s b = refl
-
-inf-right : (a : Float) (t : Bool) → hypotOf a (inf t) ≡ inf false
-unfolding hypotOf
-inf-right nan t = refl
-inf-right (inf s) t = refl
-inf-right (fin s m e) t = refl
 
 nan-left : (b : Float) → (patternOf b ≡ 0x7f80_0000 → ⊥) → hypotOf nan b ≡ nan
 unfolding hypotOf
@@ -33,12 +36,14 @@ nan-left nan h = refl
 nan-left (inf t) h = absurd (h (inf-pattern t))
 nan-left (fin t n d) h = refl
 
-nan-right : (a : Float) → (patternOf a ≡ 0x7f80_0000 → ⊥) → hypotOf a nan ≡ nan
+pub first-inf : (a b : Float) → T (fits binary32 a) → patternOf a ≡ 0x7f80_0000 → inf false ≡ hypotOf a b
 unfolding hypotOf
-nan-right nan h = refl
-nan-right (inf t) h = absurd (h (inf-pattern t))
-nan-right (fin t n d) h = refl
+first-inf a b A h = rw (inf-is a A h .1)
 
+pub first-nan : (a b : Float) → T (fits binary32 a) → 0x7f80_0000 < patternOf a → (patternOf b ≡ 0x7f80_0000 → ⊥) → a ≡ hypotOf a b
+first-nan a b A h k = rw (nan-is a A h) (sym (nan-left b k))
+
+-- ---- both finite
 both : (a b : Float) (m n : ℕ) → Whole a m → Whole b n → hypotOf a b ≡ nearestRoot (m * m + n * n)
 unfolding hypotOf
 both nan b m n h k = absurd h
@@ -56,21 +61,7 @@ sorted p q = elim (lt-or-ge p q) [
   | inr h ↦ rw (max-eq-left h, min-eq-right h)
 ]
 
-module _ (a b : Float) (A : T (fits binary32 a)) (B : T (fits binary32 b)) where
-  pub first-inf : patternOf a ≡ 0x7f80_0000 → inf false ≡ hypotOf a b
-  first-inf h = let i = inf-is a A h in sym (ap (λ (x : Float). hypotOf x b) (i .1) ∙ inf-left (i .0) b)
-
-  pub second-inf : patternOf b ≡ 0x7f80_0000 → inf false ≡ hypotOf a b
-  second-inf h = let i = inf-is b B h in sym (ap (λ (x : Float). hypotOf a x) (i .1) ∙ inf-right a (i .0))
-
-  pub first-nan : 0x7f80_0000 < patternOf a → (patternOf b ≡ 0x7f80_0000 → ⊥) → a ≡ hypotOf a b
-  first-nan h k = let i = nan-is a A h in i ∙ sym (ap (λ (x : Float). hypotOf x b) i ∙ nan-left b k)
-
-  pub second-nan : 0x7f80_0000 < patternOf b → (patternOf a ≡ 0x7f80_0000 → ⊥) → b ≡ hypotOf a b
-  second-nan h k = let i = nan-is b B h in i ∙ sym (ap (λ (x : Float). hypotOf a x) i ∙ nan-right a k)
-
-  -- p and q are the patterns, h and l the larger and the smaller of them
-  pub finite-both : (p q h l : ℕ) → p ≡ patternOf a → q ≡ patternOf b → h ≡ max p q → l ≡ min p q → p < 0x7f80_0000 → q < 0x7f80_0000
-      → nearestRoot (value h * value h + value l * value l) ≡ hypotOf a b
-  finite-both p q h l pp qq hh ll P Q =
-      rw (hh, ll, sorted p q, pp, qq) (sym (hypot-is-root a b A B (rw pp at P) (rw qq at Q)))
+-- p and q are the patterns, h and l the larger and the smaller of them
+pub finite-both : (a b : Float) → T (fits binary32 a) → T (fits binary32 b) → (p q h l : ℕ) → p ≡ patternOf a → q ≡ patternOf b → h ≡ max p q → l ≡ min p q → p < 0x7f80_0000 → q < 0x7f80_0000
+    → nearestRoot (value h * value h + value l * value l) ≡ hypotOf a b
+finite-both a b A B p q h l pp qq hh ll P Q = rw (hh, ll, sorted p q, pp, qq) (sym (hypot-is-root a b A B (rw pp at P) (rw qq at Q)))

@@ -5,7 +5,7 @@ mod Rounding
 mod Floats
 mod Theorem
 mod Ways
-mod Cases
+pub mod Cases
 mod Midpoints
 mod Squares
 pub mod AtLeast

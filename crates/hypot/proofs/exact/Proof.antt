@@ -5,7 +5,7 @@ use lib.Dec.{T}
 use lib.Ieee.{binary32, fits}
 use borrow.Author.Needs.{needs}
 use Rattle.hypot.proofs.Floats.{no-nan-bits, inf-bits}
-use Rattle.hypot.proofs.Cases.{first-inf, second-inf, first-nan, second-nan, finite-both}
+use Rattle.hypot.proofs.Cases.{hypot-comm, first-inf, first-nan, finite-both}
 use Rattle.hypot.proofs.exact.Statement.{statement}
 use Rattle.hypot.proofs.exact.Tie as tie
 
@@ -21,7 +21,7 @@ float-from-bits-result c = no-nan-bits binary32 0x7f80_0000 (omega arith)
 returns : tie.Need-returns
 returns c =
     let s = c .before .before .before in
-    inf-bits ∙ first-inf (s .args .a) (s .args .b) (held-a s) (held-b s) (sym (c .before .before .pattern .ensures) ∙ c .if1 .taken)
+    inf-bits ∙ first-inf (s .args .a) (s .args .b) (held-a s) (sym (c .before .before .pattern .ensures) ∙ c .if1 .taken)
 
 float-from-bits-result-2 : tie.Need-float-from-bits-result-2
 float-from-bits-result-2 c = no-nan-bits binary32 0x7f80_0000 (omega arith)
@@ -29,20 +29,20 @@ float-from-bits-result-2 c = no-nan-bits binary32 0x7f80_0000 (omega arith)
 returns-2 : tie.Need-returns-2
 returns-2 c =
     let s = c .before .before .before .before in
-    inf-bits ∙ second-inf (s .args .a) (s .args .b) (held-a s) (held-b s) (sym (c .before .before .pattern2 .ensures) ∙ c .if2 .taken)
+    inf-bits ∙ first-inf (s .args .b) (s .args .a) (held-b s) (sym (c .before .before .pattern2 .ensures) ∙ c .if2 .taken) ∙ hypot-comm (s .args .b) (s .args .a)
 
 returns-3 : tie.Need-returns-3
 returns-3 c =
     let q = c .before .before .before in
     let s = q .before .before in
-    first-nan (s .args .a) (s .args .b) (held-a s) (held-b s) (omega (arith, q .before .pattern .ensures, c .if3 .taken)) (λ h. c .before .if2 .left (q .pattern2 .ensures ∙ h))
+    first-nan (s .args .a) (s .args .b) (held-a s) (omega (arith, q .before .pattern .ensures, c .if3 .taken)) (λ h. c .before .if2 .left (q .pattern2 .ensures ∙ h))
 
 returns-4 : tie.Need-returns-4
 returns-4 c =
     let q = c .before .before .before .before in
     let s = q .before .before in
-    second-nan (s .args .a) (s .args .b) (held-a s) (held-b s) (omega (arith, q .pattern2 .ensures, c .if4 .taken))
-    (λ h. c .before .before .before .if1 .left (q .before .pattern .ensures ∙ h))
+    first-nan (s .args .b) (s .args .a) (held-b s) (omega (arith, q .pattern2 .ensures, c .if4 .taken)) (λ h. c .before .before .before .if1 .left (q .before .pattern .ensures ∙ h))
+    ∙ hypot-comm (s .args .b) (s .args .a)
 
 returns-5 : tie.Need-returns-5
 returns-5 c =

@@ -1,41 +1,20 @@
 -- `off_centre`: a distance is at least each of its sides.
 use borrow.Author.Needs.{needs}
-use mathlib.Core.Path.{_≡_, refl, sym, ap, _∙_}
+use mathlib.Core.Path.{_≡_, sym, ap, _∙_}
 use mathlib.Core.Bool.{Bool, true, _&&_}
-use Prim.Native.Nat.{_*_}
-use native.Mathlib.Nat.{add-comm}
 use lib.Dec.{T}
-use lib.Ieee.{Float, nan, inf, fin, binary32, fits, lt, eq}
+use lib.Ieee.{Float, binary32, fits, lt, eq}
 use denote.Floats.{passes, is-true}
 use Rattle.float.specs.MinMax.{absOf}
 use Rattle.geometry.specs.Choice.{both}
-use Rattle.hypot.specs.Hypot.{nearestRoot, whole, hypotOf}
+use Rattle.hypot.specs.Hypot.{hypotOf}
+use Rattle.hypot.proofs.Cases.{hypot-comm}
 use Rattle.hypot.proofs.AtLeast.{at-least}
 use Rattle.touch.proofs.off_centre.Statement.{statement}
 use Rattle.touch.proofs.off_centre.Tie as tie
 
-side : (t a b : Float) → T (fits binary32 a) → T (fits binary32 b) → T (lt t (absOf a)) → T (eq b b) → T (lt t (hypotOf a b))
-unfolding absOf hypotOf lt
-side nan nan b A B h k = absurd h
-side (inf s) nan b A B h k = absurd h
-side (fin s m e) nan b A B h k = absurd h
-side t (inf s) b A B h k = h
-side t (fin s m e) b A B h k = at-least t b s m e A B k h
-
 over : (t a b : Float) {r : Bool} → T (fits binary32 a) → T (fits binary32 b) → r ≡ (lt t (absOf a) && eq b b) → r ≡ true → true ≡ lt t (hypotOf a b)
-over t a b A B p q = let h = both (lt t (absOf a)) (eq b b) (sym p ∙ q) in sym (is-true (lt t (hypotOf a b)) (side t a b A B (passes _ (h .0)) (passes _ (h .1))))
-
-swapped : (a b : Float) → hypotOf a b ≡ hypotOf b a
-unfolding hypotOf
-swapped nan nan = refl
-swapped nan (inf t) = refl
-swapped nan (fin t n d) = refl
-swapped (inf s) nan = refl
-swapped (inf s) (inf t) = refl
-swapped (inf s) (fin t n d) = refl
-swapped (fin s m e) nan = refl
-swapped (fin s m e) (inf t) = refl
-swapped (fin s m e) (fin t n d) = ap nearestRoot (add-comm (whole m e * whole m e) (whole n d * whole n d))
+over t a b A B p q = let h = both (lt t (absOf a)) (eq b b) (sym p ∙ q) in sym (is-true (lt t (hypotOf a b)) (at-least t a b A B (passes _ (h .0)) (passes _ (h .1))))
 
 returns : tie.Need-returns
 returns c =
@@ -46,7 +25,7 @@ returns-2 : tie.Need-returns-2
 returns-2 c =
     let s = c .before .before .before .before in
     over (s .args .radius) (s .args .dy) (s .args .dx) (passes _ (s .good .1 .0 .1)) (passes _ (s .good .0 .1)) (c .before .beyond2 .ensures) (c .if2 .taken)
-    ∙ ap (lt (s .args .radius)) (swapped (s .args .dy) (s .args .dx))
+    ∙ ap (lt (s .args .radius)) (hypot-comm (s .args .dy) (s .args .dx))
 
 returns-3 : tie.Need-returns-3
 returns-3 c = ap (lt (c .before .before .before .before .before .args .radius)) (c .hypot .ensures)
