@@ -1,17 +1,18 @@
 -- Between the floats of lib.Ieee and their patterns: values, `units`, NaN and the infinity.
-use mathlib.Core.Path.{_≡_, refl, sym, _∙_, subst}
+use mathlib.Core.Path.{_≡_, refl, sym, _∙_}
 use mathlib.Core.Logic.{_⊎_, inl, inr}
 use Prim.Native.Nat.{ℕ, zero, suc, _+_, _-_, _*_, _/_, _%_, _^_, _≤_, _<_}
-use native.Mathlib.Nat.{le-trans, le-of-lt, eq-or-lt-of-le, mod-le, mul-div-cancel, min-eq-left, min-eq-right}
+use native.Mathlib.Nat.{le-of-lt, eq-or-lt-of-le, mul-div-cancel, min-eq-left, min-eq-right}
 use native.Mathlib.Omega.{arith}
-use mathlib.Core.Bool.{Bool, true, false, not, true≢false}
+use mathlib.Core.Bool.{Bool, true, false, true≢false}
 use lib.Dec.{T, leb, ltb, lt→ltb}
 use lib.Arith.{le→nltb, lt→nleb}
-use lib.Ieee.{Float, nan, inf, fin, Format, binary32, hid, ones, top, size, odd, units, fits, isNan, ofFields, ofBits, toBits, nanBits}
+use lib.Ieee.{Float, nan, inf, fin, binary32, size, odd, units, fits, ofFields, ofBits, toBits}
 use lib.Ieee.Exact.{HasValue, odd-sign, units-val}
 use lib.Ieee.Fits.{odd-fits, down-pos}
-use lib.Ieee.Bits.{ofBits-toBits, ofBits-fits, cond-no, is-true, is-false, nanBits-is, nanBits-above}
+use lib.Ieee.Bits.{ofBits-toBits, ofBits-fits, cond-no, is-true, is-false}
 use lib.Ieee.Scale.{finite}
+use Rattle.float.proofs.Nan.{nan-bits}
 use Rattle.float.proofs.Patterns.{ofBits-is, fields-normal}
 use Rattle.hypot.specs.Hypot.{whole}
 use Rattle.hypot.specs.Pattern.{patternOf, value, f32At}
@@ -91,20 +92,8 @@ units-at k t h l =
     ]
 
 -- ---- NaN
-only : (x : Float) → T (isNan x) → x ≡ nan
-unfolding isNan
-only nan t = refl
-only (inf s) t = absurd t
-only (fin s m e) t = absurd t
-
 pub nan-is : (x : Float) → T (fits binary32 x) → 0x7f80_0000 < patternOf x → x ≡ nan
-nan-is x held h =
-    let b = toBits binary32 x in
-    let t : T (isNan (ofBits binary32 b)) = subst T (sym (nanBits-above binary32 b) ∙ nanBits-is binary32 b) (lt→ltb 0x7f80_0000 (b % 0x8000_0000) h) in
-    only x (subst (λ (y : Float). T (isNan y)) (ofBits-toBits binary32 x held) t)
-
-pub no-nan-bits : (f : Format) (b : ℕ) → b ≤ ones f * hid f → T (not (nanBits f b))
-no-nan-bits f b h = subst (λ (t : Bool). T (not t)) (sym (nanBits-above f b)) (le→nltb (ones f * hid f) (b % top f) (le-trans (mod-le b (top f)) h))
+nan-is x held h = sym (ofBits-toBits binary32 x held) ∙ nan-bits binary32 _ h
 
 -- ---- the infinity
 pub inf-is : (x : Float) → T (fits binary32 x) → patternOf x ≡ 0x7f80_0000 → (s : Bool) × (x ≡ inf s)

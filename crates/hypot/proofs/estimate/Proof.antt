@@ -2,8 +2,7 @@
 use borrow.Author.Needs.{needs}
 use lib.Ieee.{binary64}
 use native.Mathlib.Omega.{arith}
-use Rattle.float.proofs.Nan.{no-nan}
-use Rattle.hypot.proofs.Floats.{no-nan-bits}
+use Rattle.float.proofs.Nan.{no-nan, no-nan-bits}
 use Rattle.hypot.proofs.estimate.Statement.{statement}
 use Rattle.hypot.proofs.estimate.Tie as tie
 

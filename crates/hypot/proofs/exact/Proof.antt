@@ -4,7 +4,8 @@ use native.Mathlib.Omega.{arith}
 use lib.Dec.{T}
 use lib.Ieee.{binary32, fits}
 use borrow.Author.Needs.{needs}
-use Rattle.hypot.proofs.Floats.{no-nan-bits, inf-bits}
+use Rattle.float.proofs.Nan.{no-nan-bits}
+use Rattle.hypot.proofs.Floats.{inf-bits}
 use Rattle.hypot.proofs.Cases.{hypot-comm, first-inf, first-nan, finite-both}
 use Rattle.hypot.proofs.exact.Statement.{statement}
 use Rattle.hypot.proofs.exact.Tie as tie

@@ -6,7 +6,7 @@ use Prim.Native.Nat.{ℕ, _+_, _-_, _*_, _^_, _<_, _≤_}
 use Rattle.hypot.specs.Pattern.{value}
 use Rattle.hypot.specs.Parts.{rootOf}
 use lib.Ieee.{binary32}
-use Rattle.hypot.proofs.Floats.{no-nan-bits}
+use Rattle.float.proofs.Nan.{no-nan-bits}
 use Rattle.hypot.proofs.Ways.{far, near, shifted-lt, root-small}
 use borrow.Author.Needs.{needs}
 use Rattle.hypot.proofs.finite.Statement.{statement}

@@ -4,8 +4,7 @@ use borrow.Author.Needs.{needs}
 use native.Mathlib.Omega.{arith}
 use lib.Ieee.{binary32}
 use Rattle.hypot.specs.Parts.{sumOfSquaresOf, Settled}
-use Rattle.float.proofs.Nan.{no-nan}
-use Rattle.hypot.proofs.Floats.{no-nan-bits}
+use Rattle.float.proofs.Nan.{no-nan, no-nan-bits}
 use Rattle.hypot.proofs.Midpoints.{settled}
 use Rattle.hypot.proofs.hypot.Statement.{statement}
 use Rattle.hypot.proofs.hypot.Tie as tie

@@ -1,7 +1,7 @@
 use borrow.Author.Needs.{needs}
 use lib.Ieee.{binary64}
 use native.Mathlib.Omega.{arith}
-use Rattle.hypot.proofs.Floats.{no-nan-bits}
+use Rattle.float.proofs.Nan.{no-nan-bits}
 use Rattle.hypot.proofs.midpoint.Statement.{statement}
 use Rattle.hypot.proofs.midpoint.Tie as tie
 

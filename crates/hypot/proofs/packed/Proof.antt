@@ -2,8 +2,8 @@ use Prim.Native.Nat.{_+_, _*_}
 use borrow.Author.Needs.{needs}
 use native.Mathlib.Nat.{le-of-lt, min-eq-left, min-eq-right}
 use lib.Ieee.{binary32}
-use Rattle.hypot.proofs.Floats.{no-nan-bits}
 use native.Mathlib.Omega.{arith}
+use Rattle.float.proofs.Nan.{no-nan-bits}
 use Rattle.hypot.proofs.packed.Statement.{statement}
 use Rattle.hypot.proofs.packed.Tie as tie
 
