@@ -1,12 +1,12 @@
 -- A turn of the loop over fields: what is left of the bytes, and what it gives.
-use mathlib.Core.Path.{_≡_, refl, ap, sym, _∙_}
+use mathlib.Core.Path.{_≡_, refl, sym, _∙_}
 use mathlib.Core.Bool.{Bool, false, _&&_, _||_}
 use mathlib.Core.List.{List, [], _∷_}
-use Prim.Native.Nat.{ℕ, zero, suc, _+_, _-_, _<_, _≤_}
+use Prim.Native.Nat.{ℕ, suc, _+_, _-_, _<_, _≤_}
 use native.Mathlib.Omega.{arith}
 use borrow.Author.Tests.{lt-ltb, le-ltb, le-leb, lt-leb, eq-eqb, ne-eqb}
 use lib.Dec.{eqb, ltb, leb}
-use lib.ListN.{length, getD, take, drop, length-drop}
+use lib.ListN.{length, getD, take, drop, length-drop, drop-of-length-le}
 use lib.Seq.{drop-cons, drop-drop}
 use Rattle.geometry.specs.Answer.{accepted, refused, must, andThen}
 use Rattle.settings.specs.declared.Settings.{Settings}
@@ -21,46 +21,30 @@ three-left l i h =
     let c : i + 3 ≡ suc (suc (suc i)) = omega arith in
     rw (a, b, c, drop-cons l i 0 (omega arith), drop-cons l (suc i) 0 (omega arith), drop-cons l (suc (suc i)) 0 (omega arith))
 
--- the bytes from `at` on give the order's answer, in as many turns as tags may follow
+-- the bytes from `at` on give the order's answer, in one turn and as many more as tags may follow
 pub record Left (bytes : List ℕ) (at last : ℕ) (screen : Bool) (s : Settings) : Type 0 where
-  pub turns : ℕ
-  pub enough : 7 < turns + last
-  pub small : last ≤ 7
-  pub gives : fields turns last screen s (drop at bytes) ≡ readOrderOf bytes
+  pub more : ℕ
+  pub enough : 6 < more + last
+  pub gives : fields (suc more) last screen s (drop at bytes) ≡ readOrderOf bytes
 
 pub at-start : (bytes : List ℕ) {s : Settings} → s ≡ blankOf → Left bytes 0 0 false s
 unfolding readOrderOf
-at-start bytes e = record { turns = 8; enough = omega arith; small = omega arith; gives = rw e }
+at-start bytes e = record { more = 7; enough = omega arith; gives = rw e }
 
 module _ {bytes : List ℕ} {at last : ℕ} {screen : Bool} {s : Settings} (left : Left bytes at last screen s) where
-  all-read : (k : ℕ) (l : List ℕ) → 0 < k → length l ≡ 0 → fields k last screen s l ≡ must screen 4 (accepted s)
-  unfolding fields
-  all-read zero l h e = absurd (let z : ⊥ = omega arith in z)
-  all-read (suc k) [] h e = refl
-  all-read (suc k) (x ∷ l) h e = absurd (let z : ⊥ = omega arith in z)
-
   pub at-end : length bytes ≤ at → must screen 4 (accepted s) ≡ readOrderOf bytes
-  at-end h = sym (all-read (left .turns) (drop at bytes) (omega arith) (simp length-drop (omega arith))) ∙ left .gives
-
-  short-header : (k : ℕ) (l : List ℕ) → 0 < k → 0 < length l → length l < 3 → fields k last screen s l ≡ refused 1
   unfolding fields
-  short-header zero l h i j = absurd (let z : ⊥ = omega arith in z)
-  short-header (suc k) [] h i j = absurd (let z : ⊥ = omega arith in z)
-  short-header (suc k) (a ∷ []) h i j = refl
-  short-header (suc k) (a ∷ b ∷ []) h i j = refl
-  short-header (suc k) (a ∷ b ∷ c ∷ l) h i j = absurd (let z : ⊥ = omega arith in z)
+  at-end h = rw (drop-of-length-le bytes h) at (left .gives)
+
+  short-header : (l : List ℕ) → 0 < length l → length l < 3 → fields (suc (left .more)) last screen s l ≡ refused 1
+  unfolding fields
+  short-header [] h i = absurd (let z : ⊥ = omega arith in z)
+  short-header (a ∷ []) h i = refl
+  short-header (a ∷ b ∷ []) h i = refl
+  short-header (a ∷ b ∷ c ∷ l) h i = absurd (let z : ⊥ = omega arith in z)
 
   pub cut-header : at < length bytes → length bytes - at < 3 → refused 1 ≡ readOrderOf bytes
-  cut-header h i =
-      sym (short-header (left .turns) (drop at bytes) (omega arith) (simp length-drop (omega arith)) (simp length-drop (omega arith)))
-      ∙ left .gives
-
-  one-turn : (k tag high low : ℕ) (rest : List ℕ) → 0 < k → fields k last screen s (tag ∷ high ∷ low ∷ rest)
-      ≡ must (ltb last tag && leb tag 7) 2 (must (leb (shortOf high low) (length rest)) 1
-      (andThen (readFieldOf (fromByteOf tag) (take (shortOf high low) rest) s) (λ t. fields (k - 1) tag (screen || eqb tag 1) t (drop (shortOf high low) rest))))
-  unfolding fields
-  one-turn zero tag high low rest h = absurd (let z : ⊥ = omega arith in z)
-  one-turn (suc k) tag high low rest h = let e : suc k - 1 ≡ k = omega arith in rw e
+  cut-header h i = sym (short-header (drop at bytes) (simp length-drop (omega arith)) (simp length-drop (omega arith))) ∙ left .gives
 
   -- a whole header stands at `at`
   module _ (header : at + 3 ≤ length bytes) where
@@ -74,10 +58,9 @@ module _ {bytes : List ℕ} {at last : ℕ} {screen : Bool} {s : Settings} (left
     rest = drop (at + 3) bytes
 
     turn : readOrderOf bytes ≡ must (ltb last tag && leb tag 7) 2 (must (leb n (length rest)) 1
-        (andThen (readFieldOf (fromByteOf tag) (take n rest) s) (λ t. fields (left .turns - 1) tag (screen || eqb tag 1) t (drop n rest))))
-    turn =
-        sym (left .gives) ∙ ap (fields (left .turns) last screen s) (three-left bytes at header)
-        ∙ one-turn (left .turns) tag (getD bytes (at + 1) 0) (getD bytes (at + 2) 0) rest (omega arith)
+        (andThen (readFieldOf (fromByteOf tag) (take n rest) s) (λ t. fields (left .more) tag (screen || eqb tag 1) t (drop n rest))))
+    unfolding fields
+    turn = sym (left .gives) ∙ rw (three-left bytes at header)
 
     pub not-above : tag ≤ last → refused 2 ≡ readOrderOf bytes
     unfolding must
@@ -95,7 +78,7 @@ module _ {bytes : List ℕ} {at last : ℕ} {screen : Bool} {s : Settings} (left
       -- the value is whole, and r is what reading it gave
       module _ (r : Reading) {t : Tag} {k : ℕ} (short : k ≡ n) (whole : k ≤ length bytes - (at + 3)) (named : t ≡ fromByteOf tag)
           (read : answerOf r ≡ readFieldOf t (take (at + 3 + k - (at + 3)) rest) s) where
-        read-on : readOrderOf bytes ≡ andThen (answerOf r) (λ t. fields (left .turns - 1) tag (screen || eqb tag 1) t (drop k rest))
+        read-on : readOrderOf bytes ≡ andThen (answerOf r) (λ t. fields (left .more) tag (screen || eqb tag 1) t (drop k rest))
         unfolding must
         read-on =
             let e : at + 3 + k - (at + 3) ≡ k = omega arith in
@@ -108,9 +91,6 @@ module _ {bytes : List ℕ} {at last : ℕ} {screen : Bool} {s : Settings} (left
 
         pub next-field : r .refusal ≡ 0 → Left bytes (at + 3 + k) tag (screen || eqb tag 1) (r .settings)
         unfolding answerOf
-        next-field h = record {
-          turns = left .turns - 1;
-          enough = omega arith;
-          small = known;
-          gives = rw (← drop-drop k (at + 3) bytes) (sym (read-on ∙ rw (eq-eqb (r .refusal) 0 h)));
-        }
+        next-field h =
+            let e : suc (left .more - 1) ≡ left .more = omega arith in
+            record { more = left .more - 1; enough = omega arith; gives = rw (e, ← drop-drop k (at + 3) bytes) (sym (read-on ∙ rw (eq-eqb (r .refusal) 0 h))) }
