@@ -6,7 +6,7 @@ use Prim.Native.Nat.{ℕ}
 use lib.Ieee.{Float, lt}
 use Rattle.float.specs.Float.{k122}
 use Rattle.geometry.specs.declared.Rect.{Rect}
-use Rattle.geometry.specs.Choice.{either}
+use Rattle.float.proofs.Booleans.{either}
 use Rattle.layout.specs.declared.Label.{Label}
 use Rattle.layout.specs.declared.Layout.{Layout}
 use Rattle.layout.specs.Labels.{standardLabels, Formed}

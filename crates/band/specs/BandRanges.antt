@@ -8,7 +8,7 @@ use lib.Ieee.{Float}
 use lib.ListN.{set}
 use Rattle.float.specs.Float.{k1, k122}
 use Rattle.geometry.specs.declared.Rect.{Rect}
-use Rattle.geometry.specs.Choice.{either}
+use Rattle.float.proofs.Booleans.{either}
 use Rattle.layout.specs.declared.Label.the-variants.{L3, R3}
 use Rattle.layout.specs.declared.Layout.{Layout}
 use Rattle.numerics.specs.Value.{Le}

@@ -9,7 +9,7 @@ use lib.Ieee.{Float, lt}
 use Rattle.float.specs.Float.{_⊖_, _⊗_, _⊘_, k0, k1, k2, k3, k4, k48, k122, k184, k272, k480}
 use Rattle.float.specs.MinMax.{minOf}
 use Rattle.geometry.specs.declared.Rect.{Rect}
-use Rattle.geometry.specs.Choice.{either}
+use Rattle.float.proofs.Booleans.{either}
 use Rattle.layout.specs.declared.Layout.{Layout}
 use Rattle.layout.specs.Lists.{filterMap}
 use Rattle.numerics.specs.Value.{P, N, E}

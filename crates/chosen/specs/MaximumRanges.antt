@@ -9,7 +9,7 @@ use Rattle.float.specs.Float.{_⊕_, _⊖_, _⊗_, _⊘_, k0}
 use Rattle.float.specs.MinMax.{minOf, maxOf}
 use Rattle.geometry.specs.declared.Rect.{Rect}
 use Rattle.geometry.specs.Rect.{emptyRect}
-use Rattle.geometry.specs.Choice.{either}
+use Rattle.float.proofs.Booleans.{either}
 use Rattle.layout.specs.declared.Layout.{Layout}
 use Rattle.numerics.specs.Value.{Whole, AtMost, P, N, E, Le}
 use Rattle.numerics.specs.Rects.{maxArea, Area, Key}

@@ -11,7 +11,7 @@ use lib.Ieee.{Float}
 use lib.ListN.{length, take, drop, getD, set, length-append, take-append-drop}
 use lib.Seq.{getD-take, length-take-le, take-all, take-set-lt, take-suc-set}
 use Rattle.geometry.specs.declared.Rect.{Rect}
-use Rattle.geometry.specs.Choice.{either, both}
+use Rattle.float.proofs.Booleans.{either, both}
 use Rattle.geometry.specs.Rect.{overlapsOf}
 use Rattle.layout.specs.Elements.{countFrom, range}
 use Rattle.layout.specs.declared.Control.{Control}

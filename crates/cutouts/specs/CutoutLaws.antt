@@ -11,7 +11,7 @@ use lib.Ieee.Fits.{add-fits}
 use lib.Ieee.Bits.{is-true}
 use lib.ListN.{length, getD, set}
 use Rattle.geometry.specs.declared.Rect.{Rect}
-use Rattle.geometry.specs.Choice.{either, by-test, both}
+use Rattle.float.proofs.Booleans.{either, by-test, both}
 use Rattle.layout.specs.declared.Layout.{Layout}
 use Rattle.layout.specs.Actions.{actionElementsOf}
 use Rattle.layout.specs.ElementLaws.{length-elements}

@@ -26,9 +26,8 @@ use Rattle.numerics.specs.Operations.{fits-whole, size-is, less}
 use Rattle.numerics.specs.Bounds.{eps-pos, most-magnitude, between-most, le-law, zero-most, zero-parts}
 use Rattle.numerics.specs.Ranges.{add-in, most-in, moved-in, range-most, tested}
 use Rattle.numerics.specs.Literals.{i8192}
-use Rattle.geometry.specs.Choice.{either, by-test}
+use Rattle.float.proofs.Booleans.{either, by-test, all-four}
 use Rattle.search.specs.Bounded.{Bounded}
-use Rattle.search.proofs.Placement.{all-four}
 use Rattle.search.proofs.Layouts.{elements-in}
 use Rattle.search.proofs.Changes.{set-elements-in}
 use Rattle.cutouts.specs.Cutouts.{withAreaOf, avoidCutoutsOf}

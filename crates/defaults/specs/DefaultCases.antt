@@ -6,7 +6,7 @@ use mathlib.Core.Option.{Option, some, none}
 use lib.Ieee.{Float, lt, le}
 use Rattle.float.specs.Float.{_⊕_, _⊖_, _⊗_, _⊘_, k0·01, k1·35, k2, k8, k16, k160, k304}
 use Rattle.geometry.specs.declared.Rect.{Rect}
-use Rattle.geometry.specs.Choice.{either}
+use Rattle.float.proofs.Booleans.{either}
 use Rattle.layout.specs.declared.Layout.{Layout}
 use Rattle.arranged.specs.Arranged.{arrangedOf, sideRailsOf}
 use Rattle.band.specs.Band.{controllerBandOf}

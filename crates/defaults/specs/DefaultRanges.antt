@@ -11,7 +11,7 @@ use Rattle.float.specs.Float.{_⊗_, _⊘_, k0, k1, k1·35, k3, k4, k360}
 use Rattle.float.specs.MinMax.{maxOf}
 use Rattle.geometry.specs.declared.Rect.{Rect}
 use Rattle.geometry.specs.Rect.{newOf}
-use Rattle.geometry.specs.Choice.{either}
+use Rattle.float.proofs.Booleans.{either}
 use Rattle.layout.specs.declared.Layout.{Layout}
 use Rattle.numerics.specs.Value.{eps, limit}
 use Rattle.numerics.specs.Rects.{Element, maxArea, Area, OnScreen, Key, margin}

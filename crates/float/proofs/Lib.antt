@@ -1,3 +1,4 @@
+pub mod Booleans
 pub mod Magnitude
 pub mod Literals
 pub mod Order

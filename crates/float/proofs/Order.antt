@@ -1,7 +1,7 @@
 -- The order of floats: `<` goes on over `<=` and excludes itself turned round and `==`; what lies below a value stays below it under `min`.
-use mathlib.Core.Path.{_≡_, refl, sym, subst}
+use mathlib.Core.Path.{_≡_, sym}
 use mathlib.Core.Logic.{_⊎_, inl, inr}
-use mathlib.Core.Bool.{Bool, true, false, cond, _&&_, _||_, Bool·beq}
+use mathlib.Core.Bool.{Bool, true, false, _&&_, _||_, Bool·beq}
 use Prim.Native.Nat.{ℕ, zero, suc, _+_, _*_, _≤_, _<_}
 use native.Mathlib.Nat.{le-of-lt, le-of-eq, lt-of-lt-of-le, eq-zero-or-pos, mul-le-mul-right, mul-lt-mul-of-pos-right, lt-of-mul-lt-mul-right, mul-pos}
 use native.Mathlib.Omega.{arith}
@@ -11,15 +11,12 @@ use lib.Ieee.Compare.{differs-from-itself}
 use lib.Ieee.Fits.{down-pos, and-l, and-r}
 use lib.Ieee.Bits.{is-true}
 use Rattle.float.specs.MinMax.{minOf}
+use Rattle.float.proofs.Booleans.{by-test, or-case}
 
 -- the factor of a product that is above something
 above : (a x d g : ℕ) → 0 < g → a < x * d → 0 < x * g
 above a zero d g G h = absurd (omega arith)
 above a (suc x) d g G h = mul-pos {m = suc x} {n = g} (omega arith) G
-
-at-most : (c v : Bool) {a b : ℕ} → (T c → a < b) → (T v → a ≡ b) → T (c || v) → a ≤ b
-at-most true v f g t = le-of-lt (f tt)
-at-most false v f g t = le-of-eq (g t)
 
 -- ---- x / e, y / d and z / g, each with a sign
 module _ (x y z e d g : ℕ) (E : 0 < e) (D : 0 < d) (G : 0 < g) where
@@ -30,10 +27,10 @@ module _ (x y z e d g : ℕ) (E : 0 < e) (D : 0 < d) (G : 0 < g) where
   level-is v = eqb→eq (y * g) (z * d) (and-l (eqb (y * g) (z * d)) true v)
 
   upper : T (ltb (y * g) (z * d) || (eqb (y * g) (z * d) && true)) → y * g ≤ z * d
-  upper = at-most (ltb (y * g) (z * d)) (eqb (y * g) (z * d) && true) (ltb→lt (y * g) (z * d)) level-is
+  upper = or-case (ltb (y * g) (z * d)) (eqb (y * g) (z * d) && true) (λ t. le-of-lt (ltb→lt (y * g) (z * d) t)) (λ v. le-of-eq (level-is v))
 
   lower : T (ltb (z * d) (y * g) || (eqb (y * g) (z * d) && true)) → z * d ≤ y * g
-  lower = at-most (ltb (z * d) (y * g)) (eqb (y * g) (z * d) && true) (ltb→lt (z * d) (y * g)) (λ v. sym (level-is v))
+  lower = or-case (ltb (z * d) (y * g)) (eqb (y * g) (z * d) && true) (λ t. le-of-lt (ltb→lt (z * d) (y * g) t)) (λ v. le-of-eq (sym (level-is v)))
 
   below-most : (s t u : Bool) → T (below s (x * d) t (y * e)) → T (below t (y * g) u (z * d) || level t (y * g) u (z * d)) → T (below s (x * g) u (z * e))
   below-most false true u p q = absurd p
@@ -113,15 +110,8 @@ lt-not-eq (fin s m e) (fin t n d) p q =
     go true false {a} {b} e p q = omega (arith, ltb→lt 0 (a + b) p, eqb→eq a 0 q)
     go true true {a} {b} e p q = omega (arith, ltb→lt b a p)
 
-nan-not-below : (b : Float) → T (lt nan b) → ⊥
-unfolding lt
-nan-not-below b p = p
-
 pub min-below : (a c b : Float) → T (lt a b) → T (lt (minOf a c) b)
-unfolding minOf
-min-below a c b p = go (ne a a) refl (lt c a) refl
-  where
-    go : (n : Bool) → ne a a ≡ n → (l : Bool) → lt c a ≡ l → T (lt (cond n c (cond l c a)) b)
-    go true e l f = absurd (nan-not-below b (subst (λ (x : Float). T (lt x b)) (differs-from-itself a (rw e tt)) p))
-    go false e true f = lt-trans c a b (rw f tt) p
-    go false e false f = p
+unfolding minOf lt
+min-below a c b p =
+    let C : Float → Type 0 = λ x. T (lt x b) in
+    by-test C (ne a a) (λ t. absurd (rw (differs-from-itself a t) at p)) (λ t. by-test C (lt c a) (λ u. lt-trans c a b u p) (λ u. p))

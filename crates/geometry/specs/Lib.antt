@@ -1,4 +1,3 @@
 pub mod Rect
 pub mod Answer
 pub mod AnswerLaws
-pub mod Choice

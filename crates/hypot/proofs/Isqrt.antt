@@ -11,17 +11,14 @@ use lib.Ieee.Digits.{size-lt}
 use Rattle.hypot.specs.Hypot.{grow, rootBelow, isqrt}
 use Rattle.hypot.specs.Parts.{rootOf}
 use Rattle.float.specs.Compare.{Cmp}
+use Rattle.float.proofs.Booleans.{either, by-test}
 use Rattle.hypot.proofs.Order.{lt-or-ge, square-le, square-lt}
 
 abbrev pub IsRoot : ℕ → ℕ → Type 0
 IsRoot n r = (r * r ≤ n) × (n < (r + 1) * (r + 1))
 
 grown : (n r : ℕ) → r * r ≤ n → n < (r + 2) * (r + 2) → IsRoot n (grow n r)
-grown n r h k = go (leb ((r + 1) * (r + 1)) n) (leb→le ((r + 1) * (r + 1)) n) (nleb→lt ((r + 1) * (r + 1)) n)
-  where
-    go : (b : Bool) → (T b → (r + 1) * (r + 1) ≤ n) → (T (not b) → n < (r + 1) * (r + 1)) → IsRoot n (cond b (r + 1) r)
-    go true a b = (a tt, omega arith)
-    go false a b = (h, b tt)
+grown n r h k = by-test (IsRoot n) (leb ((r + 1) * (r + 1)) n) (λ t. (leb→le ((r + 1) * (r + 1)) n t, omega arith)) (λ t. (h, nleb→lt ((r + 1) * (r + 1)) n t))
 
 below : (d n : ℕ) → n < 4 ^ d → IsRoot n (rootBelow d n)
 unfolding rootBelow
@@ -57,11 +54,7 @@ pub root-is : (m x : ℕ) (b : Bool) → x ≡ isqrt m → ltb (x * x) m ≡ b �
 root-is m x b e t = rw (← t, e)
 
 pub root-within : (m : ℕ) → (2 * isqrt m ≤ rootOf m) × (rootOf m ≤ 2 * isqrt m + 1)
-root-within m = go (ltb (isqrt m * isqrt m) m)
-  where
-    go : (b : Bool) → (2 * isqrt m ≤ cond b (2 * isqrt m + 1) (2 * isqrt m)) × (cond b (2 * isqrt m + 1) (2 * isqrt m) ≤ 2 * isqrt m + 1)
-    go true = omega arith
-    go false = omega arith
+root-within m = either (λ r. (2 * isqrt m ≤ r) × (r ≤ 2 * isqrt m + 1)) (ltb (isqrt m * isqrt m) m) (omega arith) (omega arith)
 
 pub root-ge : (m g : ℕ) → 2 * g ≤ rootOf m → g * g ≤ m
 root-ge m g h = le-trans (square-le {a = g} {b = isqrt m} (omega (arith, root-within m))) (is-root m .0)

@@ -8,7 +8,7 @@ use lib.Ieee.{Float, le}
 use lib.ListN.{length, set, length-set}
 use Rattle.float.specs.Float.{_⊕_, _⊗_, k0·01, k1·35}
 use Rattle.geometry.specs.declared.Rect.{Rect}
-use Rattle.geometry.specs.Choice.{either}
+use Rattle.float.proofs.Booleans.{either}
 use Rattle.layout.specs.declared.Label.{Label}
 use Rattle.layout.specs.declared.Layout.{Layout}
 use Rattle.layout.specs.Labels.{Formed}

@@ -8,7 +8,7 @@ use lib.Dec.{ltb, ltb→lt, nltb→le}
 use lib.ListN.{length, take, drop, getD, length-append, length-map, List·getD-append, List·getD-map}
 use lib.Seq.{drop-cons, getD-append-add, getD-take, length-take-le, take-at, take-all, drop-append-add}
 use Rattle.geometry.specs.declared.Rect.{Rect}
-use Rattle.geometry.specs.Choice.{by-test}
+use Rattle.float.proofs.Booleans.{by-test}
 use Rattle.layout.specs.declared.Control.{Control}
 use Rattle.layout.specs.declared.Layout.{Layout}
 use Rattle.layout.specs.Layout.{anyRect, anyControl, controlList, stickList, elementCountOf, elementOf, boundsOf, elementsOf}

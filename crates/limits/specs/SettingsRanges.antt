@@ -13,7 +13,7 @@ use lib.Ieee.Bits.{ofBits-fits}
 use lib.Ieee.Fits.{down-pos}
 use Rattle.float.specs.Float.{k0, k1, k8192}
 use Rattle.geometry.specs.declared.Rect.{Rect}
-use Rattle.geometry.specs.Choice.{both}
+use Rattle.float.proofs.Booleans.{both}
 use Rattle.layout.specs.Layout.{cutoutList}
 use Rattle.layout.specs.Lists.{allOf}
 use Rattle.numerics.specs.Range.{In, at, minus}

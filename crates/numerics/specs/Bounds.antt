@@ -4,14 +4,14 @@ use mathlib.Core.Path.{_≡_, refl, sym, ap, subst}
 use Prim.Native.Nat.{ℕ, suc, _+_, _*_, _≤_, _<_}
 use native.Mathlib.Nat.{le-of-mul-le-mul-right, le-trans, le-of-eq, le-of-lt, mul-le-mul-right, mul-le-mul-left, mul-pos, le-refl, zero-lt-suc, zero-mul}
 use native.Mathlib.Omega.{arith}
-use mathlib.Core.Bool.{Bool, true, false, not, _||_}
+use mathlib.Core.Bool.{false, not}
 use mathlib.Core.Logic.{_⊎_, inl, inr}
 use lib.Dec.{T, leb, ltb, leb→le, ltb→lt, lit≤, not-T}
 use lib.Pow.{pow-pos}
 use lib.Ieee.{Float, ofBits, lt, le, eq, ne}
 use lib.Ieee.Compare.{differs-from-itself}
 use lib.Ieee.Bits.{is-false}
-use Rattle.geometry.specs.Choice.{by-test}
+use Rattle.float.proofs.Booleans.{by-test, or-case, nor-l}
 use Rattle.float.specs.Float.{_⊕_, _⊖_, _⊗_, _⊘_, k0}
 use Rattle.float.specs.MinMax.{minOf, maxOf}
 use Rattle.numerics.specs.Value.{magnitude, Whole, posPart, negPart, eps, top, limit, AtMost, Fraction, P, N, E, Le}
@@ -156,26 +156,6 @@ eq-law' d x y p q t = le-over d y x (le-of-eq (sym (eq-true x y p q t)))
 pub E-pos : (d : ℕ) → 0 < d → 0 < E d
 unfolding E
 E-pos d h = mul-pos eps-pos h
-
-pub or-case : (a b : Bool) → {C : Type 0} → (T a → C) → (T b → C) → T (a || b) → C
-or-case true b f g t = f tt
-or-case false b f g t = g t
-
-pub or-l : (a b : Bool) → T a → T (a || b)
-or-l true b t = tt
-or-l false b t = absurd t
-
-pub or-r : (a b : Bool) → T b → T (a || b)
-or-r true b t = tt
-or-r false b t = t
-
-pub nor-l : (a b : Bool) → T (not (a || b)) → T (not a)
-nor-l true b t = t
-nor-l false b t = tt
-
-pub nor-r : (a b : Bool) → T (not (a || b)) → T (not b)
-nor-r true b t = absurd t
-nor-r false b t = t
 
 pub le-law : (d : ℕ) (x y : Float) → Whole x → Whole y → T (le x y) → Le d x y
 unfolding le

@@ -15,7 +15,8 @@ use Rattle.numerics.specs.Range.{In, at, reach}
 use Rattle.numerics.specs.Rects.{maxCorner, maxArea}
 use Rattle.numerics.specs.Operations.{Rounded, round-within, mul-rounded, div-rounded, size-is, one-zero}
 use Rattle.numerics.specs.Bounds.{eps-pos, top-eps, near-magnitude, most-magnitude, most-more}
-use Rattle.numerics.specs.Ranges.{and-four, in-reach, most-in}
+use Rattle.float.proofs.Booleans.{all-four}
+use Rattle.numerics.specs.Ranges.{in-reach, most-in}
 
 -- the size of a rounded fraction Z / W units
 pub record Sized (r : Float) (Z W e : ℕ) : Type 0 where
@@ -104,12 +105,12 @@ scaled-most j {x} {y} z {n} f K K' g q below large =
     magnitude-most (s .whole) (third (magnitude (x ⊗ y ⊘ z)) (magnitude x) (magnitude z) eps n j (magnitude (x ⊗ y) * 2 ^ 149) D (s .most) b X)
 
 abbrev pub scaledable : ℕ → ℕ → ℕ → ℕ → ℕ → ℕ → Bool
-scaledable j a b c d e = (leb (reach a b) maxCorner && leb (reach a b * j) (limit - 11)) && (leb (reach c d) maxArea && leb (at 205) e)
+scaledable j a b c d e = leb (reach a b) maxCorner && (leb (reach a b * j) (limit - 11) && (leb (reach c d) maxArea && leb (at 205) e))
 
 pub scaled-in : (j : ℕ) {x y z : Float} {a b c d e f : ℕ} → In x a b → In y c d → In z e f → magnitude y ≤ j * magnitude z → T (scaledable j a b c d e)
     → In (x ⊗ y ⊘ z) (limit - (reach a b * j + 11)) (limit + (reach a b * j + 11))
 scaled-in j {x} {y} {z} {a} {b} {c} {d} {e} {f} u v w below t =
-    let s = and-four (leb (reach a b) maxCorner) (leb (reach a b * j) (limit - 11)) (leb (reach c d) maxArea) (leb (at 205) e) t in
+    let s = all-four (leb (reach a b) maxCorner) (leb (reach a b * j) (limit - 11)) (leb (reach c d) maxArea) (leb (at 205) e) t in
     let k = leb→le (reach a b * j) (limit - 11) (s .1) in
     most-in
     (scaled-most j z (in-reach u) (leb→le (reach a b) maxCorner (s .0)) k (most-more (in-reach v) maxArea (s .2)) (w .whole) below

@@ -18,7 +18,7 @@ use Rattle.float.specs.MinMax.{minOf, maxOf, clampOf}
 use Rattle.numerics.specs.Value.{magnitude, sign, Whole, posPart, negPart, eps, limit, AtMost, Fraction, P, N, Le}
 use Rattle.numerics.specs.Rects.{maxCorner, maxSide, Element, maxArea, Placed}
 use Rattle.numerics.specs.Range.{In, at, minus, reach}
-use Rattle.geometry.specs.Choice.{either, by-test}
+use Rattle.float.proofs.Booleans.{either, by-test, and-three, all-four}
 use Rattle.numerics.specs.Rounding.{round-ind}
 use Rattle.numerics.specs.Operations.{Near, fits-whole, neg-whole, neg-swaps, one-zero, mul-flip}
 use Rattle.numerics.specs.Bounds.{add-bounded, sub-bounded, mul-bounded, div-bounded, lt-not, le-law, min-ind, max-ind, zero-most, most-more}
@@ -54,12 +54,6 @@ most-in {x} {n} f t =
     let k = f .size in
     let l : eps * (limit - n) + eps * n ≤ eps * limit = le-trans (le-of-eq (sym (mul-add eps (limit - n) n))) (mul-le-mul-left eps (le-of-eq (sub-add-cancel (leb→le n limit t)))) in
     record { whole = f .whole; lo = omega arith; hi = omega arith }
-
-pub and-three : (a b c : Bool) → T (a && (b && c)) → T a × T b × T c
-and-three a b c t = (and-l a (b && c) t, and-l b c (and-r a (b && c) t), and-r b c (and-r a (b && c) t))
-
-pub and-four : (a b c d : Bool) → T ((a && b) && (c && d)) → T a × T b × T c × T d
-and-four a b c d t = let s = and-l (a && b) (c && d) t in (and-l a b s, and-r a b s, and-l c d (and-r (a && b) (c && d) t), and-r c d (and-r (a && b) (c && d) t))
 
 -- ---- the sum and the difference
 times-sub : (e c k : ℕ) → k ≤ c → e * (c - k) + e * k ≡ e * c
@@ -270,9 +264,9 @@ neg-in {x} {a} {b} i t =
 
 -- ---- a rectangle by the ranges of its numbers
 pub element-in : {x y w h : Float} {a b a' b' c d c' d' : ℕ} → In x a b → In y a' b' → In w c d → In h c' d'
-    → T ((small maxCorner a b && small maxCorner a' b') && (small maxSide c d && small maxSide c' d')) → Element (newOf x y w h)
+    → T (small maxCorner a b && (small maxCorner a' b' && (small maxSide c d && small maxSide c' d'))) → Element (newOf x y w h)
 element-in {a = a} {b = b} {a' = a'} {b' = b'} {c = c} {d = d} {c' = c'} {d' = d'} i j k l t =
-    let s = and-four (small maxCorner a b) (small maxCorner a' b') (small maxSide c d) (small maxSide c' d') t in
+    let s = all-four (small maxCorner a b) (small maxCorner a' b') (small maxSide c d) (small maxSide c' d') t in
     record { x = range-most maxCorner i (s .0); y = range-most maxCorner j (s .1); w = range-most maxSide k (s .2); h = range-most maxSide l (s .3) }
 
 abbrev pub inside : ℕ → ℕ → ℕ → ℕ → Bool
@@ -283,16 +277,12 @@ in-wide {a = a} {b = b} {a' = a'} {b' = b'} i t = in-more a' b' i (and-l (leb a'
 
 -- the same for an element of an arrangement
 pub placed-in : {above m : ℕ} {x y w h : Float} {a b a' b' c d c' d' : ℕ} → In x a b → In y a' b' → In w c d → In h c' d'
-    → T ((inside (minus m) (at (8192 + m)) a b && inside (minus (above + m)) (at (8192 + m)) a' b') && (small (maxArea + m) c d && small (maxArea + m) c' d')) → Placed above m (newOf x y w h)
+    → T (inside (minus m) (at (8192 + m)) a b && (inside (minus (above + m)) (at (8192 + m)) a' b' && (small (maxArea + m) c d && small (maxArea + m) c' d'))) → Placed above m (newOf x y w h)
 placed-in {above} {m} {a = a} {b = b} {a' = a'} {b' = b'} {c = c} {d = d} {c' = c'} {d' = d'} i j k l t =
-    let s = and-four (inside (minus m) (at (8192 + m)) a b) (inside (minus (above + m)) (at (8192 + m)) a' b') (small (maxArea + m) c d) (small (maxArea + m) c' d') t in
+    let s = all-four (inside (minus m) (at (8192 + m)) a b) (inside (minus (above + m)) (at (8192 + m)) a' b') (small (maxArea + m) c d) (small (maxArea + m) c' d') t in
     record { x = in-wide i (s .0); y = in-wide j (s .1); w = range-most (maxArea + m) k (s .2); h = range-most (maxArea + m) l (s .3) }
 
-pub placed-element : {above m : ℕ} {e : Rect} → Placed above m e → T ((small maxCorner (minus m) (at (8192 + m)) && small maxCorner (minus (above + m)) (at (8192 + m))) && leb (maxArea + m) maxSide) → Element e
+pub placed-element : {above m : ℕ} {e : Rect} → Placed above m e → T (small maxCorner (minus m) (at (8192 + m)) && (small maxCorner (minus (above + m)) (at (8192 + m)) && leb (maxArea + m) maxSide)) → Element e
 placed-element {above} {m} P t =
-    let t1 : Bool = small maxCorner (minus m) (at (8192 + m)) in
-    let t2 : Bool = small maxCorner (minus (above + m)) (at (8192 + m)) in
-    let t3 : Bool = leb (maxArea + m) maxSide in
-    let s = and-l (t1 && t2) t3 t in
-    let u = and-r (t1 && t2) t3 t in
-    record { x = range-most maxCorner (P .x) (and-l t1 t2 s); y = range-most maxCorner (P .y) (and-r t1 t2 s); w = most-more (P .w) maxSide u; h = most-more (P .h) maxSide u }
+    let s = and-three (small maxCorner (minus m) (at (8192 + m))) (small maxCorner (minus (above + m)) (at (8192 + m))) (leb (maxArea + m) maxSide) t in
+    record { x = range-most maxCorner (P .x) (s .0); y = range-most maxCorner (P .y) (s .1); w = most-more (P .w) maxSide (s .2); h = most-more (P .h) maxSide (s .2) }

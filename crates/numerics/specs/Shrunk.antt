@@ -17,7 +17,8 @@ use Rattle.numerics.specs.Rects.{maxArea, Placed, margin}
 use Rattle.numerics.specs.Rounding.{round-ind}
 use Rattle.numerics.specs.Operations.{Rounded, fits-whole, mul-rounded, div-rounded}
 use Rattle.numerics.specs.Bounds.{eps-pos, most-more}
-use Rattle.numerics.specs.Ranges.{and-four, in-more, most-in, range-most}
+use Rattle.float.proofs.Booleans.{all-four}
+use Rattle.numerics.specs.Ranges.{in-more, most-in, range-most}
 use Rattle.numerics.specs.Products.{scaledable, scaled-in, le-magnitude}
 
 -- ---- signs
@@ -111,11 +112,11 @@ shrunkMargin = 1024
 
 -- both ends of a range, shrunk, lie in another
 abbrev shrinksInto : ℕ → ℕ → ℕ → ℕ → Bool
-shrinksInto a b a' b' = (shrinkable a limit && shrinkable limit b) && (leb a' (limit - (reach a limit * 1 + 11)) && leb (limit + (reach limit b * 1 + 11)) b')
+shrinksInto a b a' b' = shrinkable a limit && (shrinkable limit b && (leb a' (limit - (reach a limit * 1 + 11)) && leb (limit + (reach limit b * 1 + 11)) b'))
 
 shrunk-into : {x y z : Float} {a b : ℕ} (a' b' : ℕ) → Shrinks y z → In x a b → T (shrinksInto a b a' b') → In (x ⊗ y ⊘ z) a' b'
 shrunk-into {a = a} {b = b} a' b' S i t =
-    let s = and-four (shrinkable a limit) (shrinkable limit b) (leb a' (limit - (reach a limit * 1 + 11))) (leb (limit + (reach limit b * 1 + 11)) b') t in
+    let s = all-four (shrinkable a limit) (shrinkable limit b) (leb a' (limit - (reach a limit * 1 + 11))) (leb (limit + (reach limit b * 1 + 11)) b') t in
     in-more a' b' (shrunk-in S i (s .0) (s .1)) (s .2) (s .3)
 
 pub shrunk-placed : {above : ℕ} {r : Rect} {w h w' h' : Float} → Shrinks w w' → Shrinks h h' → Placed above margin r → T (shrinksInto (minus (above + margin)) (at (8192 + margin)) (minus (above + shrunkMargin)) (at (8192 + shrunkMargin)))

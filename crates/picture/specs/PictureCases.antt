@@ -7,7 +7,7 @@ use lib.Dec.{T}
 use lib.Ieee.{Float, lt}
 use Rattle.float.specs.Float.{_⊖_, k96, k124}
 use Rattle.geometry.specs.declared.Rect.{Rect}
-use Rattle.geometry.specs.Choice.{either}
+use Rattle.float.proofs.Booleans.{either}
 use Rattle.layout.specs.declared.Layout.{Layout}
 use Rattle.numerics.specs.Each.{Each}
 use Rattle.fits.specs.Fits.{fitsOf}

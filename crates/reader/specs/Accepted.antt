@@ -14,7 +14,7 @@ use Rattle.float.specs.Float.{k0, k1}
 use Rattle.float.specs.MinMax.{maxOf}
 use Rattle.geometry.specs.declared.Rect.{Rect}
 use Rattle.geometry.specs.Answer.{Answer, accepted, refused, must, andThen}
-use Rattle.geometry.specs.Choice.{either, both}
+use Rattle.float.proofs.Booleans.{either, both}
 use Rattle.geometry.specs.Rect.{newOf, emptyRect}
 use Rattle.layout.specs.declared.Cutouts.{Cutouts}
 use Rattle.layout.specs.Layout.{cutoutList}

@@ -8,6 +8,7 @@ use lib.Dec.{T, leb, leb→le, le→leb}
 use lib.Ieee.{Float, le, ofBits}
 use lib.Ieee.Fits.{and-l, and-r}
 use Rattle.float.specs.Float.{_⊕_, k0, k0·01}
+use Rattle.float.proofs.Booleans.{and-three, last-fails}
 use Rattle.numerics.specs.Value.{AtMost, P, N, E, Le}
 use Rattle.numerics.specs.Rects.{maxArea}
 use Rattle.numerics.specs.Each.{Each}
@@ -26,12 +27,6 @@ Good d Y0 y = P d y ≤ Y0 + N d y + E d * 2
 -- b is no better than y: if it is a candidate and good, it is not past y
 abbrev pub Under : ℕ → ℕ → Float → Float → Float → Type 0
 Under d Y0 h y b = T (withinOf b h) → Good d Y0 b → Le d b y
-
--- of three tests that do not all pass, the last fails where the others pass
-last-fails : (a b c : Bool) → T (not (a && (b && c))) → T a → T b → T (not c)
-last-fails true true c n s t = n
-last-fails true false c n s t = absurd t
-last-fails false b c n s t = absurd s
 
 -- the place 0 is a candidate
 pub zero-within : (h : Float) → T (le k0 h) → T (withinOf k0 h)
@@ -80,10 +75,8 @@ module _ (d : ℕ) (D : 0 < d) {h : Float} (hm : AtMost h maxArea) (Y0 : ℕ) wh
     where
       yes : T (withinOf x h && (leb (P d x) (Y0 + N d x + E d * 2) && le y x)) → T (withinOf x h) × Good d Y0 x × Le d y x
       yes s =
-          let v : Bool = withinOf x h in
-          let b : Bool = leb (P d x) (Y0 + N d x + E d * 2) in
-          let u = and-r v (b && le y x) s in
-          (and-l v (b && le y x) s, leb→le (P d x) (Y0 + N d x + E d * 2) (and-l b (le y x) u), le-law d y x (f .whole) (e .0 .whole) (and-r b (le y x) u))
+          let k = and-three (withinOf x h) (leb (P d x) (Y0 + N d x + E d * 2)) (le y x) s in
+          (k .0, leb→le (P d x) (Y0 + N d x + E d * 2) (k .1), le-law d y x (f .whole) (e .0 .whole) (k .2))
 
       no : T (not (withinOf x h && (leb (P d x) (Y0 + N d x + E d * 2) && le y x))) → T (withinOf x h) → Good d Y0 x → Le d x y
       no s v b = le-not d y x (f .whole) (e .0 .whole) (last-fails (withinOf x h) (leb (P d x) (Y0 + N d x + E d * 2)) (le y x) s v (le→leb (P d x) (Y0 + N d x + E d * 2) b))

@@ -12,21 +12,21 @@ use lib.Signed.{leZ, ltZ}
 use lib.Ieee.{Float, lt}
 use Rattle.float.specs.Float.{k0, k1}
 use Rattle.geometry.specs.declared.Rect.{Rect}
-use Rattle.geometry.specs.Choice.{by-test}
+use Rattle.float.proofs.Booleans.{by-test, all-four, one-fails, or-l, or-r}
 use Rattle.numerics.specs.Value.{Whole, posPart, negPart, value, above, below, eps, P, N, E}
 use Rattle.numerics.specs.Rects.{WholeRect, Element, Area}
 use Rattle.numerics.specs.Each.{Each}
 use Rattle.numerics.specs.Lists.{each-imp, each-both}
 use Rattle.numerics.specs.Integers.{le-parts, parts-le, nle-parts, nlt-parts, add-parts, neg-parts, mul-parts, eq-parts, value-parts, scaled-parts}
 use Rattle.numerics.specs.Operations.{lt-true}
-use Rattle.numerics.specs.Bounds.{or-l, or-r, zero-most}
+use Rattle.numerics.specs.Bounds.{zero-most}
 use Rattle.search.specs.declared.Offset.{Offset}
 use Rattle.search.specs.Search.{gameOf, obstaclesOf}
 use Rattle.search.specs.Widest.{Exact, over, rightEdge, lowerEdge, meets, middle, lesser, greater, meetAcross, meetDown, sixteenth, centredWidth, Rival, Widest}
 use Rattle.search.proofs.Shapes.{Shape}
 use Rattle.search.proofs.Clearance as O
 use Rattle.search.proofs.Clearance.{Misses, isLeft, isRight, isAbove, isBelow, Apart, narrow, flat}
-use Rattle.search.proofs.Placement.{all-four, one-fails, obstacles-fair, centred-width, the-game, game-apart, game-wide}
+use Rattle.search.proofs.Placement.{obstacles-fair, centred-width, the-game, game-apart, game-wide}
 
 -- ---- the numbers of a rectangle over d
 abbrev Scaled : ℕ → Float → Type 0

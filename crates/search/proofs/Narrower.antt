@@ -11,7 +11,7 @@ use Rattle.float.specs.Float.{_⊕_, _⊘_, k0·01}
 use Rattle.float.proofs.Order.{lt-trans, lt-irrefl, lt-not-eq, min-below}
 use Rattle.geometry.specs.declared.Rect.{Rect}
 use Rattle.geometry.specs.Rect.{newOf}
-use Rattle.geometry.specs.Choice.{either}
+use Rattle.float.proofs.Booleans.{either}
 use Rattle.layout.specs.Layout.{anyRect}
 use Rattle.layout.proofs.Loops.{next-of, none-left}
 use Rattle.search.specs.Search.{bottomOf, rightOf, narrowOf, narrowSideOf, betterOf}

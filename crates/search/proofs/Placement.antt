@@ -2,24 +2,23 @@
 use mathlib.Core.Path.{_≡_, refl, sym, ap}
 use mathlib.Core.Logic.{_⊎_, inl, inr}
 use mathlib.Core.List.{List, [], _∷_}
-use mathlib.Core.Bool.{Bool, true, false, not, _&&_, cond}
+use mathlib.Core.Bool.{Bool, true, false, not, cond}
 use Prim.Native.Nat.{ℕ, _+_, _*_, _≤_, _<_}
 use native.Mathlib.Omega.{arith}
 use lib.Dec.{T, lit≤}
 use lib.Ieee.{Float, lt, eq, sub, ofBits}
-use lib.Ieee.Fits.{and-l, and-r}
 use Rattle.float.specs.Float.{_⊕_, _⊖_, _⊗_, _⊘_, k0, k0·01, k0·25, k1, k3, k4}
 use Rattle.float.specs.MinMax.{clampOf}
 use Rattle.geometry.specs.declared.Rect.{Rect}
 use Rattle.geometry.specs.Rect.{newOf, overlapsOf}
-use Rattle.geometry.specs.Choice.{either, by-test}
+use Rattle.float.proofs.Booleans.{either, by-test, one-fails}
 use Rattle.layout.specs.Lists.{filterMap}
 use Rattle.numerics.specs.Value.{Whole, magnitude, posPart, negPart, eps, AtMost, P, N, E}
 use Rattle.numerics.specs.Rects.{WholeRect, Element, Area}
 use Rattle.numerics.specs.Each.{Each}
 use Rattle.numerics.specs.Operations.{zero-times, times-zero}
 use Rattle.numerics.specs.Bounds.{add-law, add-most, sub-law, sub-most, mul-law, mul-most, most-size, lt-not}
-use Rattle.numerics.specs.Ranges.{and-three, range-most, clamp-whole-in}
+use Rattle.numerics.specs.Ranges.{range-most, clamp-whole-in}
 use Rattle.numerics.specs.Literals.{i0, i1, f1, hundredth-most, hundredth}
 use Rattle.search.specs.declared.Offset.{Offset}
 use Rattle.search.specs.Search.{centeredOf, sideOf, clearPictureAspectOf, obstaclesOf, gameOf}
@@ -154,17 +153,6 @@ game-law d {b} {g} ox oy B I p q =
     }
 
 -- ---- an element that the search saw, and one that it did not
-pub all-four : (s t u v : Bool) → T (s && (t && (u && v))) → T s × T t × T u × T v
-all-four s t u v h = let k = and-three s t (u && v) h in (k .0, k .1, and-l u v (k .2), and-r u v (k .2))
-
--- of four tests that do not all pass, one fails
-pub one-fails : (s t u v : Bool) {C : Type 0} → (T (not s) → C) → (T (not t) → C) → (T (not u) → C) → (T (not v) → C) → T (not (s && (t && (u && v)))) → C
-one-fails true true true true i j k l h = absurd h
-one-fails true true true false i j k l h = l tt
-one-fails true true false v i j k l h = k tt
-one-fails true false u v i j k l h = j tt
-one-fails false t u v i j k l h = i tt
-
 module _ (d : ℕ) {b g G : Rect} (B : Area b) (I : Inside d (b .w) (b .h) g) (L : Game d b g G) where
   seen : (e : Rect) → Element e → Apart d 5 g (newOf (e .x ⊖ b .x) (e .y ⊖ b .y) (e .w) (e .h)) → Apart d 16 G e
   seen e f (left l) = left (omega (arith, sub-law d (f .x) (B .x) tt, L .x-over, L .w-over))

@@ -16,7 +16,8 @@ use Rattle.numerics.specs.Value.{AtMost, P, N, Le}
 use Rattle.numerics.specs.Rects.{maxArea}
 use Rattle.numerics.specs.Each.{Each}
 use Rattle.numerics.specs.Lists.{each-imp, each-both, each-unmap, fold-ind, fold-each}
-use Rattle.numerics.specs.Bounds.{sub-law, sub-most, most-more, le-law, or-case, nor-l, nor-r, max-ind, max-law, max-most, zero-most, zero-parts}
+use Rattle.float.proofs.Booleans.{or-case, nor-l, nor-r}
+use Rattle.numerics.specs.Bounds.{sub-law, sub-most, most-more, le-law, max-ind, max-law, max-most, zero-most, zero-parts}
 use Rattle.search.specs.Search.{bottomOf, rightOf, bottoms, rights, withinOf, narrowSideOf, sideWidthAt, trySideAt, tryColumn, sideOf}
 use Rattle.search.proofs.Shapes.{width, left-end, Shape, times-most, over-most, falls}
 use Rattle.search.proofs.Candidates.{Edge, Good, Under, within-low, within-high, zero-within, find-last}

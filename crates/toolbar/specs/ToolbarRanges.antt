@@ -9,7 +9,7 @@ use lib.Ieee.Fits.{and-l}
 use lib.ListN.{length}
 use Rattle.float.specs.Float.{_⊕_, _⊖_, _⊘_, k0, k0·01, k2, k8, k320}
 use Rattle.geometry.specs.declared.Rect.{Rect}
-use Rattle.geometry.specs.Choice.{either, by-test}
+use Rattle.float.proofs.Booleans.{either, by-test, and-three, all-four}
 use Rattle.geometry.specs.Rect.{overlapsOf}
 use Rattle.layout.specs.declared.Layout.{Layout}
 use Rattle.layout.specs.Layout.{elementOf, stickList, boundsOf}
@@ -21,11 +21,10 @@ use Rattle.numerics.specs.Range.{In, at, minus}
 use Rattle.numerics.specs.Each.{Each, _&_}
 use Rattle.numerics.specs.Lists.{each-take, each-append}
 use Rattle.numerics.specs.Bounds.{lt-law}
-use Rattle.numerics.specs.Ranges.{and-three, in-reach, in-more, most-in, add-in, sub-in, sub-back, times-in, mul-in, div-in, min-in, max-in, clamp-in, cond-in, neg-in, raise, moved-in, placed-in}
+use Rattle.numerics.specs.Ranges.{in-reach, in-more, most-in, add-in, sub-in, sub-back, times-in, mul-in, div-in, min-in, max-in, clamp-in, cond-in, neg-in, raise, moved-in, placed-in}
 use Rattle.numerics.specs.Products.{product-most}
 use Rattle.numerics.specs.Literals.{i0, i0·01, i1, i1·4, i8, i18, i28, i40, f0·01, f0·055, f2, f3, f4}
 use Rattle.search.specs.Bounded.{Every, Bounded}
-use Rattle.search.proofs.Placement.{all-four}
 use Rattle.search.proofs.Layouts.{bounds-in}
 use Rattle.toolbar.specs.Toolbar.{besideOf, roomOf, belowOf, moved, pass, pairOf, avoidedOf, anchorToolbarOf}
 

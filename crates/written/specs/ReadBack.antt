@@ -15,7 +15,7 @@ use lib.ListN.{length, getD}
 use lib.Seq.{getD-append-add, take-at, drop-at}
 use Rattle.float.specs.Float.{k0}
 use Rattle.geometry.specs.declared.Rect.{Rect}
-use Rattle.geometry.specs.Choice.{by-test, both}
+use Rattle.float.proofs.Booleans.{by-test, both}
 use Rattle.layout.specs.declared.Layout.{Layout}
 use Rattle.layout.specs.Layout.{elementsOf}
 use Rattle.layout.specs.Lists.{flatMap}

@@ -1,7 +1,7 @@
 use mathlib.Core.Bool.{_||_}
 use Rattle.chosen.proofs.Kept.{holds}
 use Rattle.layout.specs.Layout.{cutoutList}
-use Rattle.numerics.specs.Bounds.{or-r}
+use Rattle.float.proofs.Booleans.{or-r}
 use Rattle.chosen.specs.ChosenLabels.{OfMode, arrangement-mode, first-mode}
 use borrow.Author.Tests.{not-true, not-false}
 use borrow.Author.Needs.{needs}

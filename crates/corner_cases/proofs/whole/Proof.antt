@@ -7,7 +7,7 @@ use mir.Syntax.{w32}
 use mir.Val.{SFits}
 use mir.Facts.{toZ-pos}
 use borrow.Author.Needs.{needs, sfits-of}
-use Rattle.geometry.specs.Choice.{either}
+use Rattle.float.proofs.Booleans.{either}
 use Rattle.corner_cases.proofs.whole.Statement.{statement}
 use Rattle.corner_cases.proofs.whole.Tie as tie
 

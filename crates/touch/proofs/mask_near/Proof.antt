@@ -7,7 +7,7 @@ use Prim.Native.Nat.{_-_, _<_, _≤_}
 use lib.Bits.{bitOr}
 use lib.Ieee.{Float, nanBits}
 use lib.ListN.{length, take, length-map}
-use Rattle.geometry.specs.Choice.{both}
+use Rattle.float.proofs.Booleans.{both}
 use Rattle.geometry.specs.Rect.{containsOf}
 use Rattle.layout.specs.declared.Layout.{Layout}
 use Rattle.layout.specs.Layout.{controlList}

@@ -6,7 +6,7 @@ use lib.Dec.{T}
 use lib.Ieee.{Float, binary32, fits, lt, eq}
 use denote.Floats.{passes, is-true}
 use Rattle.float.specs.MinMax.{absOf}
-use Rattle.geometry.specs.Choice.{both}
+use Rattle.float.proofs.Booleans.{both}
 use Rattle.hypot.specs.Hypot.{hypotOf}
 use Rattle.hypot.proofs.Cases.{hypot-comm}
 use Rattle.hypot.proofs.AtLeast.{at-least}
