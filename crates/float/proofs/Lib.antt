@@ -1,4 +1,5 @@
 pub mod Booleans
+pub mod Compare
 pub mod Magnitude
 pub mod Literals
 pub mod Order

@@ -1,3 +1,2 @@
 pub mod Float
 pub mod MinMax
-pub mod Compare

@@ -10,7 +10,7 @@ use lib.Ieee.{size}
 use lib.Ieee.Digits.{size-lt}
 use Rattle.hypot.specs.Hypot.{grow, rootBelow, isqrt}
 use Rattle.hypot.specs.Parts.{rootOf}
-use Rattle.float.specs.Compare.{Cmp}
+use Rattle.float.proofs.Compare.{Cmp}
 use Rattle.float.proofs.Booleans.{either, by-test}
 use Rattle.hypot.proofs.Order.{lt-or-ge, square-le, square-lt}
 

@@ -8,7 +8,7 @@ use native.Mathlib.Omega.{arith}
 use lib.Ieee.{nearest}
 use Rattle.hypot.specs.Pattern.{value}
 use Rattle.hypot.specs.Nearest.{mid, Nearest}
-use Rattle.float.specs.Compare.{Cmp}
+use Rattle.float.proofs.Compare.{Cmp}
 use Rattle.hypot.proofs.Order.{lt-or-ge, square-le, square-lt}
 use Rattle.hypot.proofs.Value.{value-lt, value-le, pattern-lt, value-at}
 

@@ -10,7 +10,7 @@ use Rattle.hypot.specs.Hypot.{nearestRoot}
 use Rattle.hypot.specs.Pattern.{exponentOf, significandOf, value, f32At}
 use Rattle.hypot.specs.Nearest.{mid, Nearest}
 use Rattle.hypot.specs.Parts.{rootOf}
-use Rattle.float.specs.Compare.{Cmp, cmp}
+use Rattle.float.proofs.Compare.{Cmp, cmp}
 use Rattle.hypot.proofs.Isqrt.{isqrt-from, isqrt-to, root-within, root-ge, root-cmp}
 use Rattle.hypot.proofs.Value.{significand-lt}
 use Rattle.hypot.proofs.Rounding.{lower, mid-next, nearest-digits}

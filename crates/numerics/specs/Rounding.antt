@@ -14,7 +14,7 @@ use lib.Ieee.Exact.{HasValue, units-val}
 use lib.Ieee.Nearest.{closest}
 use lib.Ieee.Order.{drop, kept}
 use lib.Ieee.Scale.{grid, overflow}
-use Rattle.float.specs.Compare.{Cmp, cmp}
+use Rattle.float.proofs.Compare.{Cmp, cmp}
 use Rattle.float.proofs.Booleans.{either}
 
 -- what holds of any rounded number: it is finite with the sign s, or the infinity
