@@ -13,7 +13,7 @@ use Rattle.layout.specs.declared.Layout.{Layout}
 use Rattle.numerics.specs.Rects.{Element, Area, Key, margin}
 use Rattle.numerics.specs.Range.{In, at, minus}
 use Rattle.numerics.specs.Each.{Each}
-use Rattle.numerics.specs.Ranges.{in-more, most-in, max-in, neg-in}
+use Rattle.numerics.specs.Ranges.{in-more, most-in, max-in, neg-in, sized}
 use Rattle.numerics.specs.Literals.{i0}
 use Rattle.search.specs.Bounded.{Every, Bounded, Shrunk}
 use Rattle.search.proofs.Changes.{shrunk-bounded, arranged-shrunk, anchored-shrunk}
@@ -32,7 +32,7 @@ use Rattle.picture.specs.PictureRanges.{controls-in}
 use Rattle.chosen.specs.Chosen.{startOf, reusableTop, aroundOf, besideOf, firstOf, areaOf, arrangementOf}
 use Rattle.chosen.specs.ChosenCases.{found-case, beside-case}
 use Rattle.chosen.specs.ChosenLabels.{OfMode, few}
-use Rattle.chosen.specs.MaximumRanges.{largest-in, sized, below-toolbar-in}
+use Rattle.chosen.specs.MaximumRanges.{largest-in, below-toolbar-in}
 
 -- a layout's arrays hold what is counted
 pub record Holds (l : Layout) : Type 0 where

@@ -3,21 +3,20 @@ use mathlib.Core.Bool.{Bool, true, false, cond, _&&_, _||_}
 use mathlib.Core.List.{List, [], _∷_, map, foldl}
 use Prim.Native.Nat.{ℕ, _+_, _*_, _≤_}
 use native.Mathlib.Omega.{arith}
-use lib.Dec.{T}
-use lib.Ieee.{Float, lt, le, eq}
+use lib.Ieee.{Float, lt, eq}
 use Rattle.float.specs.Float.{_⊕_, _⊖_, _⊗_, _⊘_, k0}
 use Rattle.float.specs.MinMax.{minOf, maxOf}
 use Rattle.geometry.specs.declared.Rect.{Rect}
 use Rattle.geometry.specs.Rect.{emptyRect}
 use Rattle.float.proofs.Booleans.{either}
 use Rattle.layout.specs.declared.Layout.{Layout}
-use Rattle.numerics.specs.Value.{Whole, AtMost, P, N, E, Le}
+use Rattle.numerics.specs.Value.{Whole, P, N, E, Le}
 use Rattle.numerics.specs.Rects.{maxArea, Area, Key}
 use Rattle.numerics.specs.Range.{In, at, minus}
 use Rattle.numerics.specs.Each.{Each, _&_}
 use Rattle.numerics.specs.Lists.{fold-ind}
-use Rattle.numerics.specs.Bounds.{add-law, sub-law, min-ind, max-law, le-law, add-most, most-more}
-use Rattle.numerics.specs.Ranges.{in-more, in-reach, most-in, add-in, sub-in, mul-in, div-in, min-in, max-in, raise, clamp-whole-in, range-most}
+use Rattle.numerics.specs.Bounds.{add-law, sub-law, min-ind, max-law, add-most, most-more}
+use Rattle.numerics.specs.Ranges.{in-more, in-reach, most-in, add-in, sub-in, mul-in, div-in, min-in, max-in, sized, clamp-whole-in, range-most}
 use Rattle.numerics.specs.Products.{product-most}
 use Rattle.numerics.specs.Literals.{i0, i0·25, i1, f2, f4/3, f480/272}
 use Rattle.numerics.specs.Shrunk.{shrunkMargin}
@@ -116,9 +115,6 @@ lowered-game-in psp {b} B factor fw offset ox oy =
     })
 
 -- ---- the area below the toolbar
-pub sized : {x : Float} → AtMost x maxArea → T (le k0 x) → In x (at 0) (at 8192)
-sized {x} m t = let i = most-in m tt in raise i i0 (le-law 1 k0 x (i0 .whole) (i .whole) t)
-
 lowest-in : {y : Float} (bottoms : List Float) → In y (minus 8192) (at 8192) → Each (λ b. In b (minus 17500) (at 17500)) bottoms → In (foldl maxOf y bottoms) (minus 8192) (at 17500) × Le 1 y (foldl maxOf y bottoms)
 lowest-in {y} bottoms Y B =
     fold-ind (λ z. In z (minus 8192) (at 17500) × Le 1 y z) (λ b. In b (minus 17500) (at 17500)) maxOf (λ z b Z i. (max-in (Z .0) i, omega (arith, Z .1, max-law 1 z b (Z .0 .whole) (i .whole) .first))) bottoms y

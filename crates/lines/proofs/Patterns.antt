@@ -1,7 +1,7 @@
 -- Ten times an f32, rounded, is a sum and a shift of the parts of its bit pattern.
 use mathlib.Core.Path.{_≡_, refl, sym, ap, _∙_}
 use mathlib.Core.Logic.{inl, inr}
-use mathlib.Core.Bool.{Bool, true, false, not, cond}
+use mathlib.Core.Bool.{Bool, true, false, cond}
 use Prim.Native.Nat.{ℕ, zero, suc, _+_, _-_, _*_, _/_, _%_, _^_, _<_, _≤_}
 use native.Mathlib.Nat.{sub-zero, div-eq-of-lt, mul-assoc, add-mul, one-mul, mul-le-mul, lt-of-lt-of-le, lt-of-not-le, eq-or-lt-of-le}
 use native.Mathlib.Omega.{arith}
@@ -9,7 +9,7 @@ use borrow.Author.Tests.{lt-leb, le-leb, leb-true, leb-false}
 use lib.Arith.{mul-pred, digits-div}
 use lib.Dec.{T, lit≤, lit<, leb, eqb}
 use lib.IntN.{pos, negℤ}
-use lib.Ieee.{Float, nan, inf, fin, binary32, ofBits, toBits, ofFields, odd, fits, isNan}
+use lib.Ieee.{Float, nan, inf, binary32, ofBits, toBits, ofFields, odd, fits}
 use lib.Ieee.Bits.{ofBits-toBits}
 use lib.Ieee.Exact.{HasValue, odd-sign}
 use lib.Pow.{pow-pos, pow-mono, pow-add, shl-lt, shl-exact, shl-shr, shr-shr, ones-lt}
@@ -127,12 +127,6 @@ sign-fields : (s : Bool) (e t : ℕ) → e < 150 → sign (ofFields binary32 s e
 unfolding ofFields
 sign-fields s zero t h = value-is (odd 24 s t 0 149) s (t * 2 ^ 0) (odd-sign 24 s t 0 149) .2
 sign-fields s (suc x) t h = value-is (ofFields binary32 s (suc x) t) s ((0x80_0000 + t) * 2 ^ x) (fields-normal binary32 s x t (omega arith)) .2
-
-pub not-nan : (x : Float) → Whole x → T (not (isNan x))
-unfolding isNan
-not-nan nan w = absurd w
-not-nan (inf s) w = absurd w
-not-nan (fin s m e) w = tt
 
 module _ (x : Float) (held : T (fits binary32 x)) (a : AtMost x most) where
   abbrev n : ℕ

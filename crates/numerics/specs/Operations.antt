@@ -9,7 +9,7 @@ use lib.IntN.{ℤ, pos, negsuc}
 use lib.Dec.{T, leb, ltb, eqb, leb→le, ltb→lt, nltb→le, eqb→eq, lit≤}
 use lib.Pow.{pow-add, pow-pos, pow-lt}
 use borrow.Author.Tests.{ne-eqb}
-use lib.Ieee.{Float, nan, inf, fin, binary32, up, down, unlike, round, neg, sum, add, sub, mul, div, lt, eq, fits, below, level}
+use lib.Ieee.{Float, nan, inf, fin, binary32, up, down, unlike, round, neg, sum, add, sub, mul, div, lt, eq, fits, isNan, below, level}
 use lib.Ieee.Fits.{up-pos, down-pos, and-l, and-r}
 use lib.Ieee.Exact.{HasValue, round-exact}
 use lib.Ieee.Scale.{grid, finite, overflow}
@@ -45,6 +45,18 @@ fits-whole (fin s (suc m) (pos k)) f t = exact (suc m * 2 ^ k * 2 ^ 149) 1 (suc 
 fits-whole (fin s (suc m) (negsuc k)) f t =
     let h : suc k ≤ 149 = expo (suc k) 149 (low-enough m s (negsuc k) t) in
     exact (suc m * 1 * 2 ^ 149) (2 ^ suc k) (suc m * 1 * 2 ^ (149 - suc k)) (down-pos (negsuc k)) (ap (λ (x : ℕ). suc m * 1 * x) (split (suc k) 149 h) ∙ sym (mul-assoc (suc m * 1) (2 ^ (149 - suc k)) (2 ^ suc k)))
+
+pub whole-ind : (C : Float → Type 0) → ((s : Bool) (m : ℕ) (e : ℤ) → C (fin s m e)) → (x : Float) → Whole x → C x
+whole-ind C f nan p = absurd p
+whole-ind C f (inf s) p = absurd p
+whole-ind C f (fin s m e) p = f s m e
+
+pub whole-finite : (x : Float) → Whole x → T (finite x)
+whole-finite = whole-ind (λ x. T (finite x)) (λ s m e. tt)
+
+pub whole-not-nan : (x : Float) → Whole x → T (not (isNan x))
+unfolding isNan
+whole-not-nan = whole-ind (λ x. T (not (isNan x))) (λ s m e. tt)
 
 -- ---- x is (P - Q) / W units but for e
 pub record Near (x : Float) (P Q W e : ℕ) : Type 0 where

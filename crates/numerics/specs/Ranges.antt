@@ -1,13 +1,12 @@
 -- Ranges of formulas: a rule for each operation, so that a proof has the formula's own shape. A side condition is a closed test, answered by `tt`.
 -- Each operation widens a range by 1/256 at most; `in-more` rounds one off.
 use mathlib.Core.Path.{_≡_, refl, sym, ap, _∙_, subst}
-use Prim.Native.Nat.{ℕ, zero, _+_, _-_, _*_, _/_, _^_, _≤_, _<_, min, max}
+use Prim.Native.Nat.{ℕ, _+_, _-_, _*_, _/_, _^_, _≤_, _<_, min, max}
 use native.Mathlib.Nat.{min-le-left, min-le-right, le-max-left, le-max-right, mul-add, sub-add-cancel, le-trans, le-of-eq, mul-le-mul-left, mul-le-mul-right, le-of-mul-le-mul-right}
 use native.Mathlib.Omega.{arith, min-cases, max-cases}
 use mathlib.Core.Bool.{Bool, true, false, not, _&&_, cond}
 use mathlib.Core.Logic.{_⊎_, inl, inr}
 use lib.Dec.{T, leb, ltb, leb→le}
-use lib.IntN.{ℤ}
 use lib.Ieee.{Float, nan, inf, fin, binary32, up, down, unlike, ofBits, neg, mul, lt, le, fits, isNan}
 use lib.Ieee.Fits.{and-l, and-r, mul-fits}
 use lib.Ieee.Scale.{finite}
@@ -20,7 +19,7 @@ use Rattle.numerics.specs.Rects.{maxCorner, maxSide, Element, maxArea, P
 use Rattle.numerics.specs.Range.{In, at, minus, reach}
 use Rattle.float.proofs.Booleans.{either, by-test, and-three, all-four}
 use Rattle.numerics.specs.Rounding.{round-ind}
-use Rattle.numerics.specs.Operations.{Near, fits-whole, neg-whole, neg-swaps, one-zero, mul-flip}
+use Rattle.numerics.specs.Operations.{Near, fits-whole, whole-ind, neg-whole, neg-swaps, one-zero, mul-flip}
 use Rattle.numerics.specs.Bounds.{add-bounded, sub-bounded, mul-bounded, div-bounded, lt-not, le-law, min-ind, max-ind, zero-most, most-more}
 
 in-most : (x : Float) (a b n : ℕ) → In x a b → limit ≤ a + n → b ≤ limit + n → AtMost x n
@@ -157,12 +156,11 @@ raise {x} {l} i j h = record { whole = i .whole; lo = omega (arith, j .lo, raw l
 pub lower : {x h : Float} {a b a' b' : ℕ} → In x a b → In h a' b' → Le 1 x h → In x a b'
 lower {x} {h} i j k = record { whole = i .whole; lo = i .lo; hi = omega (arith, j .hi, raw x h k) }
 
--- ---- between two others
-whole-ind : (C : Float → Type 0) → ((s : Bool) (m : ℕ) (e : ℤ) → C (fin s m e)) → (x : Float) → Whole x → C x
-whole-ind C f nan p = absurd p
-whole-ind C f (inf s) p = absurd p
-whole-ind C f (fin s m e) p = f s m e
+-- a side of an area
+pub sized : {x : Float} → AtMost x maxArea → T (le k0 x) → In x (at 0) (at 8192)
+sized {x} m t = let i = most-in m tt in raise i (most-in zero-most tt) (le-law 1 k0 x (zero-most .whole) (i .whole) t)
 
+-- ---- between two others
 pub between : {x l h : Float} {a b a' b' : ℕ} → Whole x → In l a b → In h a' b' → T (not (lt x l)) → T (not (lt h x)) → In x a b'
 between {x} {l} {h} p i j s t =
     record { whole = p; lo = omega (arith, i .lo, raw l x (lt-not 1 x l p (i .whole) s)); hi = omega (arith, j .hi, raw x h (lt-not 1 h x (j .whole) p t)) }

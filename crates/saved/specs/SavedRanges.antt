@@ -15,10 +15,10 @@ use Rattle.float.proofs.Booleans.{either}
 use Rattle.layout.specs.declared.Layout.{Layout}
 use Rattle.layout.specs.Layout.{elementsOf}
 use Rattle.layout.specs.ElementLaws.{length-elements}
-use Rattle.numerics.specs.Value.{Whole}
 use Rattle.numerics.specs.Rects.{Element}
 use Rattle.numerics.specs.Range.{In, at}
 use Rattle.numerics.specs.Each.{Each}
+use Rattle.numerics.specs.Operations.{whole-finite}
 use Rattle.numerics.specs.Ranges.{sub-in, min-in, element-in, saved-in}
 use Rattle.numerics.specs.Literals.{i0, i24}
 use Rattle.search.specs.Bounded.{Bounded}
@@ -32,11 +32,6 @@ unfolding isFiniteOf absOf lt
 is-finite nan t = t
 is-finite (inf s) t = t
 is-finite (fin s m e) t = tt
-
-whole-finite : (x : Float) → Whole x → T (finite x)
-whole-finite nan p = absurd p
-whole-finite (inf s) p = absurd p
-whole-finite (fin s m e) p = tt
 
 module _ {w h : Float} (W : In w (at 1) (at 8192)) (H : In h (at 1) (at 8192)) where
   on-screen-in : (r : Rect) → T (usableOf r) → Element (onScreenOf w h r)

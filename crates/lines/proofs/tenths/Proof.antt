@@ -1,4 +1,5 @@
-use Rattle.lines.proofs.Patterns.{not-nan, exponent, size-is, tenths-plus, tenths-minus}
+use Rattle.numerics.specs.Operations.{whole-not-nan}
+use Rattle.lines.proofs.Patterns.{exponent, size-is, tenths-plus, tenths-minus}
 use Rattle.geometry.proofs.Signed.{stored, minus-fits, minus-is}
 use Prim.Native.Nat.{ℕ}
 use mathlib.Core.Path.{sym, ap, _∙_}
@@ -8,7 +9,7 @@ use Rattle.lines.proofs.tenths.Statement.{statement}
 use Rattle.lines.proofs.tenths.Tie as tie
 
 float-to-bits-n : tie.Need-float-to-bits-n
-float-to-bits-n c = not-nan _ (c .pre .whole)
+float-to-bits-n c = whole-not-nan _ (c .pre .whole)
 
 tenths-size-requires : tie.Need-tenths-size-requires
 tenths-size-requires c κs = exponent (c .args .x) (search needs) (c .pre)
