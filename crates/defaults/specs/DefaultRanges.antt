@@ -1,11 +1,9 @@
 -- The default layouts are in range, on screens up to 8192 by 8192.
-use mathlib.Core.Bool.{Bool, true, false, not, _||_}
+use mathlib.Core.Bool.{true, false, _||_}
 use mathlib.Core.List.{List, []}
-use Prim.Native.Nat.{ℕ, suc, _*_, _≤_, _<_}
-use native.Mathlib.Nat.{mul-le-mul-left}
+use Prim.Native.Nat.{_≤_}
 use native.Mathlib.Omega.{arith}
-use lib.Dec.{T, ltb, ltb→lt}
-use lib.Ieee.{Float, lt, le, ne}
+use lib.Ieee.{Float, lt, ne}
 use lib.ListN.{length}
 use Rattle.float.specs.Float.{_⊗_, _⊘_, k0, k1, k1·35, k3, k4, k360}
 use Rattle.float.specs.MinMax.{maxOf}
@@ -13,12 +11,11 @@ use Rattle.geometry.specs.declared.Rect.{Rect}
 use Rattle.geometry.specs.Rect.{newOf}
 use Rattle.float.proofs.Booleans.{either}
 use Rattle.layout.specs.declared.Layout.{Layout}
-use Rattle.numerics.specs.Value.{eps, limit}
 use Rattle.numerics.specs.Rects.{Element, maxArea, Area, OnScreen, Key, margin}
 use Rattle.numerics.specs.Range.{In, at}
 use Rattle.numerics.specs.Each.{Each}
-use Rattle.numerics.specs.Bounds.{eps-pos, most-more, le-not, max-law, zero-most}
-use Rattle.numerics.specs.Ranges.{in-more, add-in, sub-in, div-in, max-in, lower, clamp-in, cond-in, range-most, placed-in}
+use Rattle.numerics.specs.Bounds.{most-more, max-law, zero-most}
+use Rattle.numerics.specs.Ranges.{in-more, add-in, sub-in, div-in, max-in, above-zero, clamp-in, cond-in, range-most, placed-in}
 use Rattle.numerics.specs.Literals.{i0, i8, i16, i20, i24, i32, i48, i56, i76, i88, i104, i122, i128, i184, i336, i360, f2}
 use Rattle.numerics.specs.Shrunk.{Shrinks, shrunkMargin, shrunk-placed, placed-shrunk}
 use Rattle.search.specs.Bounded.{Arranged, Shrunk}
@@ -44,16 +41,6 @@ default-in {w} {h} cutouts {picture} W H C A high =
     (λ band e. band-in false false W H A e)
 
 -- ---- the screen as the picture's area
-above-zero : {y : Float} {a b : ℕ} → In y a b → T (ltb limit a) → T (le k0 y)
-above-zero {y} {a} i t = go (le k0 y) (λ n. none (lower i i0 (le-not 1 k0 y (zero-most .whole) (i .whole) n)) (mul-le-mul-left eps (ltb→lt limit a t)) eps-pos)
-  where
-    none : In y a (at 0) → eps * suc limit ≤ eps * a → 0 < eps → ⊥
-    none j k e = omega (arith, j .lo, j .hi)
-
-    go : (c : Bool) → (T (not c) → ⊥) → T c
-    go true f = tt
-    go false f = absurd (f tt)
-
 screen-area : {w h : Float} → In w (at 1) (at 8192) → In h (at 1) (at 8192) → Area (newOf k0 k0 w h)
 screen-area W H =
     let zero = most-more zero-most maxArea tt in

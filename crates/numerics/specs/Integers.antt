@@ -1,12 +1,12 @@
 -- Whole numbers by their parts above and below zero, of which one is 0: laws that turn facts about ℤ into inequalities for `omega`.
 use mathlib.Core.Path.{_≡_, refl, sym, ap, _∙_, subst}
 use Prim.Native.Nat.{ℕ, zero, suc, _+_, _*_, _≤_}
-use native.Mathlib.Nat.{zero-mul}
+use native.Mathlib.Nat.{le-of-lt, lt-of-not-le, zero-mul}
 use native.Mathlib.Omega.{arith}
 use mathlib.Core.Bool.{true, false, not}
-use lib.Dec.{T, ltb, leb→le, le→leb, ltb→lt, nltb→le, nleb→lt}
+use lib.Dec.{T, T-not, ltb, leb→le, le→leb, ltb→lt, nltb→le}
 use lib.IntN.{ℤ, pos, negsuc, negℤ, subℕ, _+ℤ_, _*ℤ_}
-use lib.Signed.{leZ, ltZ}
+use lib.Signed.{leZ, ltZ, ltZ-no}
 use lib.Ieee.{Float, nan, inf, fin}
 use Rattle.float.proofs.Booleans.{by-test}
 use Rattle.numerics.specs.Value.{magnitude, Whole, posPart, negPart, value, above, below, P, N}
@@ -24,16 +24,10 @@ parts-le (negsuc a) (pos b) h = tt
 parts-le (negsuc a) (negsuc b) h = le→leb b a (omega arith)
 
 pub nle-parts : (a b : ℤ) → T (not (leZ a b)) → above b + below a ≤ above a + below b
-nle-parts (pos a) (pos b) t = let k = nleb→lt a b t in omega arith
-nle-parts (pos a) (negsuc b) t = omega arith
-nle-parts (negsuc a) (pos b) t = absurd t
-nle-parts (negsuc a) (negsuc b) t = let k = nleb→lt b a t in omega arith
+nle-parts a b t = le-of-lt (lt-of-not-le (λ h. T-not (leZ a b) t (parts-le a b h)))
 
 pub nlt-parts : (a b : ℤ) → T (not (ltZ a b)) → above b + below a ≤ above a + below b
-nlt-parts (pos a) (pos b) t = let k = nltb→le a b t in omega arith
-nlt-parts (pos a) (negsuc b) t = omega arith
-nlt-parts (negsuc a) (pos b) t = absurd t
-nlt-parts (negsuc a) (negsuc b) t = let k = nltb→le b a t in omega arith
+nlt-parts a b t = le-parts b a (ltZ-no {a = a} {b = b} t .le)
 
 sub-parts : (a b : ℕ) → above (subℕ a b) + b ≡ below (subℕ a b) + a
 sub-parts a b = by-test (λ z. above z + b ≡ below z + a) (ltb a b) (λ t. omega (arith, ltb→lt a b t)) (λ t. omega (arith, nltb→le a b t))

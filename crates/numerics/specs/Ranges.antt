@@ -1,13 +1,13 @@
 -- Ranges of formulas: a rule for each operation, so that a proof has the formula's own shape. A side condition is a closed test, answered by `tt`.
 -- Each operation widens a range by 1/256 at most; `in-more` rounds one off.
-use mathlib.Core.Path.{_≡_, refl, sym, ap, _∙_, subst}
+use mathlib.Core.Path.{_≡_, sym, ap, _∙_, subst}
 use Prim.Native.Nat.{ℕ, _+_, _-_, _*_, _/_, _^_, _≤_, _<_, min, max}
 use native.Mathlib.Nat.{min-le-left, min-le-right, le-max-left, le-max-right, mul-add, sub-add-cancel, le-trans, le-of-eq, mul-le-mul-left, mul-le-mul-right, le-of-mul-le-mul-right}
 use native.Mathlib.Omega.{arith, min-cases, max-cases}
-use mathlib.Core.Bool.{Bool, true, false, not, _&&_, cond}
+use mathlib.Core.Bool.{Bool, true, false, not, _&&_, cond, Bool·not-not}
 use mathlib.Core.Logic.{_⊎_, inl, inr}
-use lib.Dec.{T, leb, ltb, leb→le}
-use lib.Ieee.{Float, nan, inf, fin, binary32, up, down, unlike, ofBits, neg, mul, lt, le, fits, isNan}
+use lib.Dec.{T, not-T, leb, ltb, leb→le, ltb→lt}
+use lib.Ieee.{Float, nan, inf, fin, binary32, up, down, unlike, neg, mul, lt, le, fits, isNan}
 use lib.Ieee.Fits.{and-l, and-r, mul-fits}
 use lib.Ieee.Scale.{finite}
 use Rattle.float.specs.Float.{_⊕_, _⊖_, _⊗_, _⊘_, k0}
@@ -20,7 +20,7 @@ use Rattle.numerics.specs.Range.{In, at, minus, reach}
 use Rattle.float.proofs.Booleans.{either, by-test, and-three, all-four}
 use Rattle.numerics.specs.Rounding.{round-ind}
 use Rattle.numerics.specs.Operations.{Near, fits-whole, whole-ind, neg-whole, neg-swaps, one-zero, mul-flip}
-use Rattle.numerics.specs.Bounds.{add-bounded, sub-bounded, mul-bounded, div-bounded, lt-not, le-law, min-ind, max-ind, zero-most, most-more}
+use Rattle.numerics.specs.Bounds.{add-bounded, sub-bounded, mul-bounded, div-bounded, lt-not, le-law, le-not, min-ind, max-ind, eps-pos, zero-most, most-more}
 
 in-most : (x : Float) (a b n : ℕ) → In x a b → limit ≤ a + n → b ≤ limit + n → AtMost x n
 in-most x a b n i h k = record { whole = i .whole; size = go (one-zero x) (mul-le-mul-left eps h) (mul-le-mul-left eps k) }
@@ -156,6 +156,12 @@ raise {x} {l} i j h = record { whole = i .whole; lo = omega (arith, j .lo, raw l
 pub lower : {x h : Float} {a b a' b' : ℕ} → In x a b → In h a' b' → Le 1 x h → In x a b'
 lower {x} {h} i j k = record { whole = i .whole; lo = i .lo; hi = omega (arith, j .hi, raw x h k) }
 
+pub above-zero : {y : Float} {a b : ℕ} → In y a b → T (ltb limit a) → T (le k0 y)
+above-zero {y} {a} i t =
+    rw (Bool·not-not (le k0 y)) at (not-T (not (le k0 y)) (λ n.
+    let j = lower i (most-in zero-most tt) (le-not 1 k0 y (zero-most .whole) (i .whole) n) in
+    omega (arith, j .lo, j .hi, mul-le-mul-left eps (ltb→lt limit a t), eps-pos)))
+
 -- a side of an area
 pub sized : {x : Float} → AtMost x maxArea → T (le k0 x) → In x (at 0) (at 8192)
 sized {x} m t = let i = most-in m tt in raise i (most-in zero-most tt) (le-law 1 k0 x (zero-most .whole) (i .whole) t)
@@ -246,11 +252,7 @@ moved-in {x} {r} {w} {n} {a} {b} {c} {e} f i j t u s v =
     let l = raw (x ⊕ r) w (le-law 1 (x ⊕ r) w (k .whole) (j .whole) v) in
     let z = raw k0 x (le-law 1 k0 x (zero-most .whole) (f .whole) s) in
     let o = times-sub eps (e + (limit + 1)) a (leb→le a (e + (limit + 1)) u) in
-    let y = zero-raw in
-    record { whole = f .whole; lo = omega (arith, z, y); hi = omega (arith, k .under, l, i .lo, j .hi, o) }
-  where
-    zero-raw : (posPart k0 ≡ 0) × (negPart k0 ≡ 0)
-    zero-raw = unfold ofBits magnitude posPart negPart in (refl, refl)
+    record { whole = f .whole; lo = omega (arith, z, zero-most .size); hi = omega (arith, k .under, l, i .lo, j .hi, o) }
 
 -- ---- the sign turned
 pub neg-in : {x : Float} {a b : ℕ} → In x a b → T (leb a (limit + limit) && leb b (limit + limit)) → In (neg x) ((limit + limit) - b) ((limit + limit) - a)

@@ -135,14 +135,13 @@ one-in-limits : inLimitsOf k0 k1 ≡ true
 unfolding inLimitsOf le lt eq ofBits
 one-in-limits = refl
 
-raised : (x : Float) → inLimitsOf k0 x ≡ true → inLimitsOf k0 (maxOf x k1) ≡ true
+raised : (test : Float → Bool) (x : Float) → test k1 ≡ true → test x ≡ true → test (maxOf x k1) ≡ true
 unfolding maxOf
-raised x e =
-    either (λ y. inLimitsOf k0 y ≡ true) (ne x x) one-in-limits (either (λ y. inLimitsOf k0 y ≡ true) (lt x k1) one-in-limits e)
+raised test x one e = either (λ y. test y ≡ true) (ne x x) one (either (λ y. test y ≡ true) (lt x k1) one e)
 
 default-picture : (w h : Float) → screenInLimitsOf w h ≡ true → rectInLimitsOf k0 (newOf k0 k0 (maxOf w k1) (maxOf h k1)) ≡ true
 unfolding screenInLimitsOf rectInLimitsOf
-default-picture w h e = let b = both _ _ e in rw (zero-in-limits, raised w (b .0), raised h (b .1))
+default-picture w h e = let b = both _ _ e in rw (zero-in-limits, raised (inLimitsOf k0) w one-in-limits (b .0), raised (inLimitsOf k0) h one-in-limits (b .1))
 
 abbrev InLimits : Settings → Type 0
 InLimits = Parts (λ w h. screenInLimitsOf w h ≡ true) (λ r. rectInLimitsOf k0 r ≡ true) (λ scale offset. placeInLimitsOf scale offset ≡ true)
@@ -179,15 +178,9 @@ rect-f32 : (v : List ℕ) (i : ℕ) → rectIsF32 (rectAtOf v i) ≡ true
 unfolding rectIsF32 rectAtOf
 rect-f32 v i = rw (number-f32 v (4 * i), number-f32 v (4 * i + 1), number-f32 v (4 * i + 2), number-f32 v (4 * i + 3))
 
-raised-f32 : (x : Float) → fits binary32 x ≡ true → fits binary32 (maxOf x k1) ≡ true
-unfolding maxOf
-raised-f32 x e =
-    let one = bits-f32 0x3f80_0000 in
-    either (λ y. fits binary32 y ≡ true) (ne x x) one (either (λ y. fits binary32 y ≡ true) (lt x k1) one e)
-
 default-f32 : (w h : Float) → fits binary32 w ≡ true → fits binary32 h ≡ true → rectIsF32 (newOf k0 k0 (maxOf w k1) (maxOf h k1)) ≡ true
 unfolding rectIsF32
-default-f32 w h p q = rw (bits-f32 0, raised-f32 w p, raised-f32 h q)
+default-f32 w h p q = let one = bits-f32 0x3f80_0000 in rw (bits-f32 0, raised (fits binary32) w one p, raised (fits binary32) h one q)
 
 all-snoc : {A : Type 0} (p : A → Bool) (l : List A) (x : A) → allOf p l ≡ true → p x ≡ true → allOf p (l ++ (x ∷ [])) ≡ true
 unfolding allOf

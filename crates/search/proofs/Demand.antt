@@ -126,10 +126,7 @@ bound d x w p z h =
     let m = mul-parts a d in
     let v = value-parts x p in
     let e : above a + negPart x + 0 ≡ below a + posPart x + sixteenth = omega (arith, add-parts (value x) (pos sixteenth), v) in
-    parts-le w (a *ℤ pos d) (omega (arith, m, bound-go (above w) (above a) (below a) (posPart x) (negPart x) sixteenth eps d e sixteen-eps h, z))
-  where
-    sixteen-eps : eps * 16 ≡ sixteenth
-    sixteen-eps = unfold eps sixteenth in refl
+    parts-le w (a *ℤ pos d) (omega (arith, m, bound-go (above w) (above a) (below a) (posPart x) (negPart x) sixteenth eps d e (omega (arith, sixteen)) h, z))
 
 -- ---- a centred search that ends at width zero goes on to the sides
 no-width : (x : Float) → Whole x → value x ≡ pos 0 → T (not (lt k0 x))
