@@ -5,7 +5,7 @@ use mathlib.Core.List.{List, [], _∷_, _++_, map, foldl, foldl-append, append-n
 use Prim.Native.Nat.{ℕ, zero, suc, _+_, _-_, _<_, _≤_}
 use native.Mathlib.Numerals.{add-one}
 use native.Mathlib.Omega.{arith}
-use lib.ListN.{length, take, drop, getD, set, length-map, drop-of-length-le}
+use lib.ListN.{length, take, drop, getD, set, length-map, drop-of-length-le, List·getD-map}
 use lib.Seq.{take-suc, take-suc-set, drop-cons, getD-take, length-take-le}
 use borrow.Author.Needs.{length-unmapped}
 use Rattle.layout.specs.Lists.{anyOf, allOf, mapFirst, filterMap}
@@ -42,15 +42,10 @@ module _ {A B : Type 0} where
       → r ≡ foldl f z (take (i + 1) l)
   fold-next f z l i d h p e q = rw (add-one, take-suc l i d, foldl-append, ← p, ← e) q
 
-  pub getD-map : (f : A → B) (l : List A) (i : ℕ) (d : A) (e : B) → i < length l → f (getD l i d) ≡ getD (map f l) i e
-  getD-map f [] i d e h = absurd (let z : ⊥ = omega arith in z)
-  getD-map f (x ∷ l) zero d e h = refl
-  getD-map f (x ∷ l) (suc i) d e h = getD-map f l i d e (omega arith)
-
   -- the candidates of a search: x, and what f makes of each element
-  pub getD-first : (f : A → B) (x e : B) (l : List A) (k : ℕ) (d : A) → (k ≡ 0 → ⊥) → k ≤ length l → f (getD l (k - 1) d) ≡ getD (x ∷ map f l) k e
-  getD-first f x e l zero d n h = absurd (n refl)
-  getD-first f x e l (suc k) d n h = let q : suc k - 1 ≡ k = omega arith in rw q (getD-map f l k d e (omega arith))
+  pub getD-first : (f : A → B) (x : B) (l : List A) (k : ℕ) (d : A) → 0 < k → f (getD l (k - 1) d) ≡ getD (x ∷ map f l) k (f d)
+  getD-first f x l zero d h = absurd (let z : ⊥ = omega arith in z)
+  getD-first f x l (suc k) d h = let q : suc k - 1 ≡ k = omega arith in rw q (sym (List·getD-map f l k d))
 
   pub take-map : (f : A → B) (n : ℕ) (l : List A) → take n (map f l) ≡ map f (take n l)
   take-map f zero l = refl

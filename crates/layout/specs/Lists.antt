@@ -1,4 +1,4 @@
--- Loops over lists, as definitions write them: any, all, find, flat map, filter with map, retain, reduce, enumerate, and a change of the first elements in place. Definitions only.
+-- Loops over lists, as definitions write them: any, all, find, filter with map, retain, reduce, enumerate, and a change of the first elements in place. Definitions only.
 use mathlib.Core.Bool.{Bool, true, false, _&&_, _||_, cond}
 use mathlib.Core.List.{List, [], _∷_, _++_, foldl}
 use Prim.Native.Nat.{ℕ, zero, suc}
@@ -24,10 +24,6 @@ module _ {A B : Type 0} where
   abbrev pub find : (A → Bool) → (A → B) → B → List A → B
   find p hit none [] = none
   find p hit none (x ∷ l) = cond (p x) (hit x) (find p hit none l)
-
-  unfoldable pub flatMap : (A → List B) → List A → List B
-  flatMap f [] = []
-  flatMap f (x ∷ xs) = f x ++ flatMap f xs
 
   -- f of each element that passes the test
   abbrev pub filterMap : (A → Bool) → (A → B) → List A → List B

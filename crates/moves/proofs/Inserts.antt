@@ -1,7 +1,7 @@
 -- A move inserted into arrays: its place, each array opened there, the moves that the arrays then hold.
 use mathlib.Core.Path.{_≡_, refl, ap, sym, _∙_}
 use mathlib.Core.Bool.{Bool, true, false, cond}
-use mathlib.Core.List.{List, [], _∷_, map, foldl, foldl-append, zipWith}
+use mathlib.Core.List.{List, [], _∷_, map, foldl, foldl-append, flatMap, zipWith}
 use Prim.Native.Nat.{ℕ, zero, suc, _+_, _<_, _≤_}
 use native.Mathlib.Numerals.{add-one}
 use native.Mathlib.Omega.{arith}
@@ -10,7 +10,6 @@ use lib.ListN.{length, take, drop, getD, set, length-take, drop-of-length-le}
 use lib.Seq.{drop-cons, drop-at, getD-take, length-take-le, set-split, take-set-le, take-set-lt, take-take}
 use Rattle.geometry.specs.declared.Rect.{Rect}
 use Rattle.geometry.specs.Rect.{overlapsOf}
-use Rattle.layout.specs.Lists.{flatMap}
 use Rattle.moves.specs.declared.Move.{Move}
 use Rattle.moves.specs.declared.Move.the-variants.{Go}
 use Rattle.moves.specs.Moves.{Holds, awayOf, pairOf, lengthOf, shorterOf, placeOf, insertAtOf, insertOf, movesIn}

@@ -1,7 +1,7 @@
 -- The moves that take a group of elements off the cutouts, and the choice among them, as in `Layout::avoid_cutouts` of input.rs. Definitions only.
 use mathlib.Core.Path.{_≡_}
 use mathlib.Core.Bool.{Bool, cond, not, _&&_}
-use mathlib.Core.List.{List, [], _∷_, _++_, map, foldl, zipWith}
+use mathlib.Core.List.{List, [], _∷_, _++_, map, foldl, flatMap, zipWith}
 use Prim.Native.Nat.{ℕ, suc, _+_, _-_}
 use lib.Dec.{ltb}
 use lib.Ieee.{Float, le, toBits, binary32}
@@ -9,7 +9,7 @@ use lib.ListN.{length, take, drop}
 use Rattle.float.specs.Float.{_⊕_, _⊖_, _⊗_, k0, k8}
 use Rattle.geometry.specs.declared.Rect.{Rect}
 use Rattle.geometry.specs.Rect.{newOf, overlapsOf}
-use Rattle.layout.specs.Lists.{anyOf, allOf, find, flatMap}
+use Rattle.layout.specs.Lists.{anyOf, allOf, find}
 use Rattle.moves.specs.declared.Move.{Move}
 use Rattle.moves.specs.declared.Move.the-variants.{Stay, Go}
 

@@ -1,10 +1,9 @@
 // The search for a move that takes a group of elements off the cutouts, as in `Layout::avoid_cutouts` of input.rs.
 ghost use mathlib.Core.Path.{_≡_};
-ghost use mathlib.Core.List.{foldl};
+ghost use mathlib.Core.List.{foldl, flatMap};
 ghost use Prim.Native.Nat.{_+_, _<_, _≤_};
 ghost use lib.ListN.{length, take};
 ghost use Rattle.layout.specs.Layout.{cutoutList, elementList};
-ghost use Rattle.layout.specs.Lists.{flatMap};
 ghost use Rattle.moves.specs.Moves.{Holds, awayOf, rankOf, shorterOf, placeOf, insertAtOf, insertOf, pairOf, movesIn, movedOf, insideOf, clearOf, allClearOf, firstClearOf, searchOf};
 use geometry::Rect;
 use layout::Cutouts;

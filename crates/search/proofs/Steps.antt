@@ -4,7 +4,7 @@ use mathlib.Core.Bool.{cond}
 use mathlib.Core.List.{List, _∷_, map}
 use Prim.Native.Nat.{ℕ, _-_, _<_, _≤_}
 use native.Mathlib.Omega.{arith}
-use lib.ListN.{length, getD, length-map}
+use lib.ListN.{getD}
 use lib.Ieee.{Float, eq}
 use Rattle.float.specs.Float.{_⊕_, _⊖_, _⊗_, _⊘_, k0, k0·25, k1, k3, k4}
 use Rattle.float.specs.MinMax.{clampOf}
@@ -17,11 +17,11 @@ use Rattle.search.specs.declared.Offset.{Offset}
 
 -- the place where a picture may start: 0 in the first turn, an edge of the obstacle before in a later one
 module _ (edge : Rect → Float) (l : List Rect) (k : ℕ) where
-  pub first-start : {y : Float} → k ≤ 0 → y ≡ k0 → y ≡ getD (k0 ∷ map edge l) k k0
+  pub first-start : {y : Float} → k ≤ 0 → y ≡ k0 → y ≡ getD (k0 ∷ map edge l) k (edge anyRect)
   first-start h p = let e : k ≡ 0 = omega arith in rw e p
 
-  pub later-start : {y : Float} → 0 < k → k < length (k0 ∷ map edge l) → y ≡ edge (getD l (k - 1) anyRect) → y ≡ getD (k0 ∷ map edge l) k k0
-  later-start h n p = p ∙ getD-first edge k0 k0 l k anyRect (λ e. omega arith) (omega (arith, length-map l edge))
+  pub later-start : {y : Float} → 0 < k → y ≡ edge (getD l (k - 1) anyRect) → y ≡ getD (k0 ∷ map edge l) k (edge anyRect)
+  later-start h p = p ∙ getD-first edge k0 l k anyRect h
 
 -- the game, from its obstacles, the clear picture, and the three numbers between their limits
 pub game-returned : (elements : List Rect) (bounds : Rect) (factor : Float) (offset : Offset) (aspect : Float) {obstacles : List Rect} {area : Rect} {scale across down : Float}

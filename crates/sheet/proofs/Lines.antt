@@ -1,6 +1,6 @@
 -- The lines of a layout, put in parts: the controls one by one, the toolbar's keys, the sticks, and the sheet whole.
 use mathlib.Core.Path.{_≡_, refl, sym, ap, ap₂, _∙_}
-use mathlib.Core.List.{List, [], _∷_, _++_, map, zipWith, map-append, append-nil, append-assoc}
+use mathlib.Core.List.{List, [], _∷_, _++_, map, flatMap, zipWith, map-append, append-nil, append-assoc}
 use Prim.Native.Nat.{ℕ, zero, suc, _+_, _-_, _<_, _≤_, zero-le}
 use native.Mathlib.Numerals.{add-one}
 use native.Mathlib.Omega.{arith}
@@ -10,7 +10,6 @@ use Rattle.geometry.specs.declared.Rect.{Rect}
 use Rattle.layout.specs.declared.Control.{Control}
 use Rattle.layout.specs.declared.Layout.{Layout}
 use Rattle.layout.specs.Layout.{anyRect, anyControl, controlList, stickList}
-use Rattle.layout.specs.Lists.{flatMap}
 use Rattle.search.specs.Bounded.{Bounded, BoundedGame}
 use Rattle.writer.specs.Bytes.{stored}
 use Rattle.lines.specs.Line.{Line, lineOf, lineText, headText, putOf}

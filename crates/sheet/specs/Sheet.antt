@@ -1,5 +1,5 @@
 -- The film sheet of document 01: a layout as lines, and lines as text. Definitions only.
-use mathlib.Core.List.{List, [], _∷_, _++_, map, zipWith}
+use mathlib.Core.List.{List, [], _∷_, _++_, map, flatMap, zipWith}
 use Prim.Native.Nat.{ℕ, _-_}
 use lib.ListN.{length, replicate}
 use Rattle.geometry.specs.declared.Rect.{Rect}
@@ -7,7 +7,6 @@ use Rattle.layout.specs.declared.Control.{Control}
 use Rattle.layout.specs.declared.Layout.{Layout}
 use Rattle.layout.specs.Label.{nameOf}
 use Rattle.layout.specs.Layout.{controlList, stickList}
-use Rattle.layout.specs.Lists.{flatMap}
 use Rattle.lines.specs.Line.{Line, lineOf, lineText, headText}
 use Rattle.sheet.specs.declared.Sheet.{Sheet}
 

@@ -1,6 +1,6 @@
 -- Laws of the film sheet: its numbers are in range, and it fits its array.
 use mathlib.Core.Path.{_≡_, refl}
-use mathlib.Core.List.{List, [], _∷_, _++_, map, zipWith}
+use mathlib.Core.List.{List, [], _∷_, _++_, map, flatMap, zipWith}
 use Prim.Native.Nat.{ℕ, _+_, _*_, _≤_, zero-le}
 use native.Mathlib.Omega.{arith}
 use lib.Dec.{T, leb, leb→le, le→leb, lit≤}
@@ -13,7 +13,6 @@ use Rattle.layout.specs.declared.Label.the-variants.{Tri, O, X, Sq, L1, L2, R2,
 use Rattle.layout.specs.declared.Layout.{Layout}
 use Rattle.layout.specs.Label.{nameOf}
 use Rattle.layout.specs.Layout.{controlList, stickList}
-use Rattle.layout.specs.Lists.{flatMap}
 use Rattle.numerics.specs.Bounds.{most-more}
 use Rattle.numerics.specs.Each.{Each, _&_}
 use Rattle.numerics.specs.Lists.{each-take, each-append, each-map, each-imp}

@@ -1,6 +1,6 @@
 -- Runs of stores, one after the other, and what they leave of the output.
 use mathlib.Core.Path.{_≡_, refl, ap, sym, _∙_}
-use mathlib.Core.List.{List, [], _∷_, _++_, append-nil, append-assoc}
+use mathlib.Core.List.{List, [], _∷_, _++_, flatMap, append-nil, append-assoc}
 use Prim.Native.Nat.{ℕ, suc, _+_, _*_, _<_, _≤_}
 use native.Mathlib.Numerals.{add-one}
 use native.Mathlib.Omega.{arith}
@@ -11,7 +11,6 @@ use Rattle.geometry.specs.declared.Rect.{Rect}
 use Rattle.geometry.specs.Answer.{accepted, refused}
 use Rattle.layout.specs.declared.Layout.{Layout}
 use Rattle.layout.specs.Layout.{elementsOf, controlList, elementCountOf}
-use Rattle.layout.specs.Lists.{flatMap}
 use Rattle.writer.specs.Bytes.{stored, numberBytes, rectBytes, maskBytes, headBytes, layoutBytes, writeLayoutOf, outputOf}
 use Rattle.writer.specs.Length.{length-rect, length-head, length-items, length-rects, length-masks, length-layout, lengthFor}
 

@@ -1,6 +1,6 @@
 -- The layout as document 01's bytes. Definitions only.
 use mathlib.Core.Bool.{cond}
-use mathlib.Core.List.{List, [], _∷_, _++_}
+use mathlib.Core.List.{List, [], _∷_, _++_, flatMap}
 use Prim.Native.Nat.{ℕ, _/_, _%_, _^_}
 use lib.Dec.{eqb, leb}
 use lib.Ieee.{Float, binary32, toBits}
@@ -12,7 +12,6 @@ use Rattle.layout.specs.declared.Control.{Control}
 use Rattle.layout.specs.declared.Layout.{Layout}
 use Rattle.layout.specs.Label.{maskOf}
 use Rattle.layout.specs.Layout.{controlList, elementsOf}
-use Rattle.layout.specs.Lists.{flatMap}
 use Rattle.writer.specs.declared.Written.{Written}
 use Rattle.writer.specs.declared.Written.the-variants.{Bytes, TooSmall}
 

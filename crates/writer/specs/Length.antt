@@ -1,6 +1,6 @@
 -- How long a written layout is.
 use mathlib.Core.Path.{_≡_, refl, ap, sym, _∙_}
-use mathlib.Core.List.{List, [], _∷_}
+use mathlib.Core.List.{List, [], _∷_, flatMap}
 use Prim.Native.Nat.{ℕ, _+_, _*_, _≤_}
 use native.Mathlib.Nat.{mul-zero, mul-suc}
 use native.Mathlib.Omega.{arith}
@@ -11,7 +11,6 @@ use Rattle.layout.specs.declared.Control.{Control}
 use Rattle.layout.specs.declared.Layout.{Layout}
 use Rattle.layout.specs.ElementLaws.{length-elements}
 use Rattle.layout.specs.Layout.{elementCountOf, elementsOf, controlList}
-use Rattle.layout.specs.Lists.{flatMap}
 use Rattle.writer.specs.Bytes.{shortBytes, numberBytes, rectBytes, maskBytes, headBytes, layoutBytes}
 
 pub length-rect : (r : Rect) → length (rectBytes r) ≡ 16

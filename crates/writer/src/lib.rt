@@ -3,7 +3,7 @@ ghost use mathlib.Core.Path.{_≡_};
 ghost use Prim.Native.Nat.{_+_, _*_, _≤_, _<_};
 ghost use lib.ListN.{length, take};
 ghost use Rattle.layout.specs.Layout.{elementList};
-ghost use Rattle.layout.specs.Lists.{flatMap};
+ghost use mathlib.Core.List.{flatMap};
 ghost use Rattle.writer.specs.Bytes.{patternOf, shortBytes, numberBytes, rectBytes, maskBytes, headBytes, stored, answerOf, writeLayoutOf, outputOf};
 use geometry::Rect;
 use layout::Control;

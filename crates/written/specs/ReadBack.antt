@@ -1,7 +1,7 @@
 -- What is written reads back: a layout's game and elements, with plus zeros for negative ones.
 use mathlib.Core.Path.{_≡_, refl, ap, sym, _∙_}
 use mathlib.Core.Bool.{Bool, true, false}
-use mathlib.Core.List.{List, [], _∷_, _++_, map, append-nil, append-assoc}
+use mathlib.Core.List.{List, [], _∷_, _++_, map, flatMap, append-nil, append-assoc}
 use Prim.Native.Nat.{ℕ, zero, suc, _+_, _*_, _/_, _%_, _^_}
 use native.Mathlib.Nat.{add-assoc, zero-div}
 use native.Mathlib.Omega.{arith}
@@ -18,7 +18,6 @@ use Rattle.geometry.specs.declared.Rect.{Rect}
 use Rattle.float.proofs.Booleans.{by-test, both}
 use Rattle.layout.specs.declared.Layout.{Layout}
 use Rattle.layout.specs.Layout.{elementsOf}
-use Rattle.layout.specs.Lists.{flatMap}
 use Rattle.numerics.specs.Value.{magnitude, Whole, value}
 use Rattle.numerics.specs.Each.{Each}
 use Rattle.numerics.specs.Bounds.{zero-most}

@@ -2,11 +2,10 @@ use borrow.Author.Needs.{needs}
 use borrow.Author.Tests.{not-true, not-false}
 use native.Mathlib.Omega.{arith}
 use mathlib.Core.Path.{_≡_, refl}
-use mathlib.Core.List.{foldl}
+use mathlib.Core.List.{foldl, flatMap}
 use Prim.Native.Nat.{_*_, _+_, _-_, _≤_}
 use lib.ListN.{length, take, drop}
 use Rattle.layout.specs.Layout.{anyRect}
-use Rattle.layout.specs.Lists.{flatMap}
 use Rattle.layout.proofs.Loops.{next-of, none-left, sized}
 use Rattle.moves.specs.Moves.{Holds, pairOf, insertOf, movesIn}
 use Rattle.moves.proofs.Inserts.{held, gather-step, gather-end, pair-hit, pair-miss}

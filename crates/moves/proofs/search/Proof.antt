@@ -1,10 +1,9 @@
 use native.Mathlib.Omega.{arith}
 use mathlib.Core.Path.{_≡_, refl, ap, _∙_}
-use mathlib.Core.List.{foldl, zipWith}
+use mathlib.Core.List.{foldl, flatMap, zipWith}
 use Prim.Native.Nat.{_*_, _-_, _≤_}
 use lib.ListN.{length, take, drop}
 use Rattle.layout.specs.Layout.{anyRect, cutoutList}
-use Rattle.layout.specs.Lists.{flatMap}
 use Rattle.layout.proofs.Loops.{next-of, none-left}
 use Rattle.moves.specs.Moves.{Holds, pairOf, candidatesOf, insertOf, orderedOf, movesIn, firstClearOf, searchOf}
 use Rattle.moves.proofs.Inserts.{holds-none, held, gather-step, gather-end}

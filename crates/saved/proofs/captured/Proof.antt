@@ -1,11 +1,11 @@
 use Rattle.saved.proofs.Turns.{mapped-front}
 use Rattle.saved.specs.Saved.{partOf}
-use mathlib.Core.Path.{refl, _∙_, _≡_}
+use mathlib.Core.Path.{refl, sym, _∙_, _≡_}
 use mathlib.Core.List.{map}
-use lib.ListN.{length, length-map, length-set}
+use lib.ListN.{length, length-map, length-set, List·getD-map}
 use Rattle.layout.specs.Layout.{anyRect}
 use Rattle.layout.specs.Elements.{replaceFirst}
-use Rattle.layout.proofs.Loops.{sized, getD-map}
+use Rattle.layout.proofs.Loops.{sized}
 use Rattle.layout.proofs.Stores.{replaceFirst-next}
 use borrow.Author.Needs.{needs}
 use native.Mathlib.Omega.{arith}
@@ -29,7 +29,7 @@ loop-again c = let l = c .before .before .before in
     let m : length at ≡ 19 = search sized in
     let k : length (a .saved) ≡ 32 = search sized in
     let j = length-map at (partOf (a .w) (a .h)) in
-    (omega arith, rw length-set (l .loop .inv .1), replaceFirst-next (map (partOf (a .w) (a .h)) at) (a .saved) (l .loop .out) (l .loop .i) anyRect (omega arith) (omega arith) (l .loop .inv .2) (c .part .ensures ∙ getD-map (partOf (a .w) (a .h)) at (l .loop .i) anyRect anyRect (omega arith)))
+    (omega arith, rw length-set (l .loop .inv .1), replaceFirst-next (map (partOf (a .w) (a .h)) at) (a .saved) (l .loop .out) (l .loop .i) _ (omega arith) (omega arith) (l .loop .inv .2) (c .part .ensures ∙ sym (List·getD-map (partOf (a .w) (a .h)) at (l .loop .i) anyRect)))
 
 returns : tie.Need-returns Inv-loop μ-loop
 returns c = let l = c .before in

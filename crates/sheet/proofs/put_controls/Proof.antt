@@ -7,9 +7,8 @@ use Rattle.sheet.specs.SheetLaws.{element-printable}
 use Rattle.lines.proofs.Puts.{none, ends, same}
 use Rattle.sheet.proofs.Lines.{control-next, control-room}
 use Rattle.layout.proofs.Loops.{sized}
-use Rattle.layout.specs.Lists.{flatMap}
 use lib.ListN.{length, take}
-use mathlib.Core.List.{map}
+use mathlib.Core.List.{map, flatMap}
 use Rattle.lines.specs.Line.{putOf}
 use Rattle.sheet.specs.Sheet.{linesText, controlLine}
 use borrow.Author.Needs.{needs}
