@@ -1,23 +1,21 @@
 -- The layout of `controller_band` is in range.
 use mathlib.Core.Path.{_≡_}
-use mathlib.Core.Bool.{Bool, true, false, cond}
+use mathlib.Core.Bool.{Bool, true, false}
 use mathlib.Core.List.{[]}
 use mathlib.Core.Option.{some}
 use Prim.Native.Nat.{_+_}
 use lib.Ieee.{Float}
 use lib.ListN.{set}
-use Rattle.float.specs.Float.{k1, k122}
+use Rattle.float.specs.Float.{k1}
 use Rattle.geometry.specs.declared.Rect.{Rect}
 use Rattle.float.proofs.Booleans.{either}
 use Rattle.layout.specs.declared.Label.the-variants.{L3, R3}
 use Rattle.layout.specs.declared.Layout.{Layout}
-use Rattle.numerics.specs.Value.{Le}
 use Rattle.numerics.specs.Rects.{Area}
 use Rattle.numerics.specs.Range.{In, at, minus}
 use Rattle.numerics.specs.Each.{_&_}
 use Rattle.numerics.specs.Lists.{each-set}
-use Rattle.numerics.specs.Bounds.{lt-not}
-use Rattle.numerics.specs.Ranges.{in-more, most-in, add-in, sub-in, mul-in, times-in, div-in, min-in, max-in, clamp-in, cond-in, neg-in, raise, placed-in}
+use Rattle.numerics.specs.Ranges.{in-more, most-in, add-in, sub-in, mul-in, times-in, div-in, min-in, max-in, clamp-in, cond-in, neg-in, not-below, placed-in}
 use Rattle.numerics.specs.Products.{scaled-in}
 use Rattle.numerics.specs.Literals.{i0, i1, i2, i3, i4, i8, i16, i18, i24, i28, i48, i52, i56, i64, i72, i80, i100, i104, i112, i122, i128, i136, i160, i176, i184, i204, i272, i288, i480, f0·75, f2, f4, f52, psp-high}
 use Rattle.search.specs.Bounded.{Every, Arranged}
@@ -177,7 +175,7 @@ banded-in {w} {h} analog deep {b} W H B =
 
 pub band-in : {w h : Float} (analog psp : Bool) {picture : Rect} {l : Layout} → In w (at 0) (at 8192) → In h (at 0) (at 8192) → Area picture → controllerBandOf w h analog psp picture ≡ some l → Arranged l
 band-in {w} {h} analog psp {picture} W H A e =
-    controller-band-case w h analog psp picture Arranged (λ t. place-bounded (inputs (anchored (lt-not 1 (room .face) k122 (R .face .whole) (i122 .whole) t))) picture false k1 centred (aspectOf psp)) e
+    controller-band-case w h analog psp picture Arranged (λ t. place-bounded (inputs (anchored (not-below (R .face) i122 t))) picture false k1 centred (aspectOf psp)) e
   where
     room : Room
     room = bandRoom w h analog psp picture
@@ -188,9 +186,9 @@ band-in {w} {h} analog psp {picture} W H A e =
     layout : Layout
     layout = bandAnchored w h analog psp picture
 
-    anchored : Le 1 k122 (room .face) → Arranged layout
-    anchored k =
-        let L = banded-in analog (room .deep) W H (measured-in analog W H R (raise (R .face) i122 k)) in
+    anchored : In (room .face) (at 122) (at 184) → Arranged layout
+    anchored face =
+        let L = banded-in analog (room .deep) W H (measured-in analog W H R face) in
         let top = max-in (neg-in (most-in (A .y) tt) tt) i0 in
         let banded = bandLayout w h analog psp picture in
         anchor-in banded [] W H top (in-more (minus 8192) (at 8192) i0 tt tt) (uncovered-in banded [] tt) L

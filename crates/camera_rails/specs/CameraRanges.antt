@@ -17,8 +17,8 @@ use Rattle.numerics.specs.Rects.{Element, Area}
 use Rattle.numerics.specs.Range.{In, at, minus}
 use Rattle.numerics.specs.Each.{Each, _&_}
 use Rattle.numerics.specs.Lists.{fold-ind}
-use Rattle.numerics.specs.Bounds.{sub-law, div-law, lt-not}
-use Rattle.numerics.specs.Ranges.{in-reach, in-more, most-in, add-in, sub-in, mul-in, div-in, min-in, max-in, cond-in, neg-in, raise, sized, placed-in}
+use Rattle.numerics.specs.Bounds.{sub-law, div-law}
+use Rattle.numerics.specs.Ranges.{in-reach, in-more, most-in, add-in, sub-in, mul-in, div-in, min-in, max-in, cond-in, neg-in, not-below, sized, placed-in}
 use Rattle.numerics.specs.Literals.{i0, i4, i8, i24, i32, i48, i52, i104, i122, i128, i156, i184, i224, i272, i480, f2, f3, f4, psp-wide}
 use Rattle.numerics.specs.Shrunk.{signed-in, placed-shrunk}
 use Rattle.search.specs.Bounded.{Bounded, Shrunk}
@@ -64,7 +64,7 @@ unfolding measureRailOf
 rail-in psp W A t =
     let wide = wide-in psp (sized (A .h) (A .h0)) in
     let rail = in-more (minus 8193) (at 4097) (div-in (sub-in W wide tt) f2 tt) tt tt in
-    let room = raise rail i184 (lt-not 1 _ k184 (rail .whole) (i184 .whole) t) in
+    let room = not-below rail i184 t in
     record { width = room; right = right-in W wide room }
 
 -- ---- the digital well
@@ -79,7 +79,7 @@ unfolding sizeFaceOf
 face-in w {rail = rail} cutouts H R O t =
     let below = sub-in (sub-in (camera-top-in w rail cutouts H O) i32 tt) i8 tt in
     let face = in-more (minus 24576) (at 184) (min-in (min-in (min-in (sub-in R i8 tt) i184) below) (sub-in (sub-in H i32 tt) i224 tt)) tt tt in
-    raise face i122 (lt-not 1 _ k122 (face .whole) (i122 .whole) t)
+    not-below face i122 t
 
 -- ---- the places of the controls
 camera-places-in : {w rail face : Float} → In w (at 1) (at 8192) → RailIn w rail → In face (at 122) (at 184) → PlacesIn (cameraPlacesOf w rail face)

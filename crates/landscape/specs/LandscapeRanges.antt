@@ -22,8 +22,8 @@ use Rattle.numerics.specs.Rects.{Area, Element, OnScreen, maxArea, maxCorner, m
 use Rattle.numerics.specs.Range.{In, at, minus}
 use Rattle.numerics.specs.Each.{Each}
 use Rattle.numerics.specs.Lists.{each-take, each-at, each-set, each-imp, fold-ind}
-use Rattle.numerics.specs.Bounds.{lt-not, most-more}
-use Rattle.numerics.specs.Ranges.{in-more, most-in, add-in, sub-in, sub-back, div-in, times-in, min-in, raise, range-most, element-in, placed-element}
+use Rattle.numerics.specs.Bounds.{most-more}
+use Rattle.numerics.specs.Ranges.{in-more, most-in, add-in, sub-in, sub-back, div-in, times-in, min-in, not-below, range-most, element-in, placed-element}
 use Rattle.numerics.specs.Literals.{i0, i0·5, i1, i4, i8, i16, i18, i24, i48, i64, i72, i104, i120, i122, f2}
 use Rattle.numerics.specs.Shrunk.{shrunkMargin}
 use Rattle.search.specs.Bounded.{Every, Bounded, BoundedGame}
@@ -72,14 +72,14 @@ unfolding measureRowOf tightOf
 row-in {w} {h} {face} {stick} W H F S t =
     let r = measureRowOf w h face stick in
     let n = none (lt (r .shouldery) toolbarHeight) (lt face k122) (lt stick k104) t in
-    let f = in-more (at 122) (at 8200) (raise (most-in F tt) i122 (lt-not 1 face k122 (F .whole) (i122 .whole) (n .1))) tt tt in
-    let s = in-more (at 104) (at 8200) (raise (most-in S tt) i104 (lt-not 1 stick k104 (S .whole) (i104 .whole) (n .2))) tt tt in
+    let f = in-more (at 122) (at 8200) (not-below (most-in F tt) i122 (n .1)) tt tt in
+    let s = in-more (at 104) (at 8200) (not-below (most-in S tt) i104 (n .2)) tt tt in
     let rowY = sub-in (sub-in H i4 tt) i48 tt in
     let stickY = sub-in (sub-in rowY i8 tt) s tt in
     let faceY = sub-in (sub-in stickY i8 tt) f tt in
     let above = sub-in faceY i8 tt in
     let high = sub-in above i48 tt in
-    let shoulderY = raise high i18 (lt-not 1 (r .shouldery) toolbarHeight (high .whole) (i18 .whole) (n .0)) in
+    let shoulderY = not-below high i18 (n .0) in
     record {
       w = W;
       face = f;

@@ -153,8 +153,11 @@ max-in {x} {y} {a} {b} {a'} {b'} i j =
 pub raise : {x l : Float} {a b a' b' : ℕ} → In x a b → In l a' b' → Le 1 l x → In x a' b
 raise {x} {l} i j h = record { whole = i .whole; lo = omega (arith, j .lo, raw l x h); hi = i .hi }
 
-pub lower : {x h : Float} {a b a' b' : ℕ} → In x a b → In h a' b' → Le 1 x h → In x a b'
+lower : {x h : Float} {a b a' b' : ℕ} → In x a b → In h a' b' → Le 1 x h → In x a b'
 lower {x} {h} i j k = record { whole = i .whole; lo = i .lo; hi = omega (arith, j .hi, raw x h k) }
+
+pub not-below : {x l : Float} {a b a' b' : ℕ} → In x a b → In l a' b' → T (not (lt x l)) → In x a' b
+not-below {x} {l} i j t = raise i j (lt-not 1 x l (i .whole) (j .whole) t)
 
 pub above-zero : {y : Float} {a b : ℕ} → In y a b → T (ltb limit a) → T (le k0 y)
 above-zero {y} {a} i t =

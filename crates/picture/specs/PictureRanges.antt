@@ -17,8 +17,8 @@ use Rattle.numerics.specs.Value.{AtMost}
 use Rattle.numerics.specs.Rects.{maxCorner, Element}
 use Rattle.numerics.specs.Range.{In, at, minus}
 use Rattle.numerics.specs.Each.{_&_}
-use Rattle.numerics.specs.Bounds.{add-most, lt-not}
-use Rattle.numerics.specs.Ranges.{in-more, add-in, sub-in, times-in, div-in, min-in, max-in, clamp-in, clamp-whole-in, cond-in, neg-in, raise, range-most, element-in}
+use Rattle.numerics.specs.Bounds.{add-most}
+use Rattle.numerics.specs.Ranges.{in-more, add-in, sub-in, times-in, div-in, min-in, max-in, clamp-in, clamp-whole-in, cond-in, neg-in, not-below, range-most, element-in}
 use Rattle.numerics.specs.Literals.{i0, i4, i6, i8, i12, i14, i24, i44, i50, i64, i68, i70, i76, i96, i112, i120, i128, i136, i164, i240, i4√2, f1√2, f2, f3, f4}
 use Rattle.search.specs.Bounded.{Bounded, BoundedGame}
 use Rattle.search.proofs.Changes.{shrunk-bounded, arranged-bounded}
@@ -45,10 +45,6 @@ Coarse x = In x (minus 20480) (at 20480)
 
 abbrev coarse : {x : Float} {a b : ℕ} → In x a b → T (leb (minus 20480) a) → T (leb b (at 20480)) → Coarse x
 coarse i s t = in-more (minus 20480) (at 20480) i s t
-
--- a number that was tested against another
-not-below : {x l : Float} {a b a' b' : ℕ} → In x a b → In l a' b' → T (not (lt x l)) → In x a' b
-not-below {x} {l} i j t = raise i j (lt-not 1 x l (i .whole) (j .whole) t)
 
 -- a column, or a band
 record ColumnIn (r : Rect) : Type 0 where
