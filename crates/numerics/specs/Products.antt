@@ -7,7 +7,7 @@ use mathlib.Core.Bool.{Bool, true, false, _&&_}
 use mathlib.Core.Logic.{_⊎_, inl, inr}
 use lib.Dec.{T, leb, ltb, leb→le, le→leb, ltb→lt, lit≤}
 use lib.Pow.{pow-pos}
-use lib.Ieee.{Float, binary32, round, mul}
+use lib.Ieee.{Float, binary32}
 use lib.Ieee.Scale.{overflow}
 use Rattle.float.specs.Float.{_⊗_, _⊘_}
 use Rattle.numerics.specs.Value.{magnitude, Whole, posIf, negIf, posPart, negPart, eps, top, limit, AtMost, P, N, Le}

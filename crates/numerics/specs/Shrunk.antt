@@ -5,7 +5,7 @@ use Prim.Native.Nat.{ℕ, suc, _+_, _-_, _*_, _≤_, _<_}
 use native.Mathlib.Nat.{mul-le-mul-left}
 use native.Mathlib.Omega.{arith}
 use lib.Dec.{T, leb, ltb, ltb→lt}
-use lib.Ieee.{Float, nan, inf, fin, binary32, unlike, round, mul, div}
+use lib.Ieee.{Float, nan, inf, fin, binary32, unlike, div}
 use lib.Ieee.Fits.{mul-fits}
 use lib.Ieee.Scale.{finite}
 use Rattle.float.specs.Float.{_⊗_, _⊘_}

@@ -2,12 +2,11 @@ use Prim.Native.Nat.{_-_, _<_, _≤_}
 use mathlib.Core.List.{[], _∷_, foldl}
 use Rattle.cutouts.proofs.Groups.{missed, outside, outside-more, outside-same, outside-all, below-one, fold-more}
 use mathlib.Core.Path.{refl, sym, ap, ap₂, _∙_, _≡_}
-use lib.ListN.{length, take}
+use lib.ListN.{length}
 use lib.Seq.{length-take-le}
 use Rattle.cutouts.specs.Cutouts.{settleOf, groupList}
 use Rattle.layout.proofs.Loops.{sized}
 use Rattle.layout.specs.Layout.{elementList, cutoutList}
-use mathlib.Core.Bool.{not}
 use borrow.Author.Tests.{not-true}
 use borrow.Author.Needs.{needs}
 use native.Mathlib.Omega.{arith}
