@@ -46,7 +46,7 @@ screen-area W H =
     let zero = most-more zero-most maxArea tt in
     record { x = zero; y = zero; w = range-most maxArea W tt; h = range-most maxArea H tt; w0 = above-zero W tt; h0 = above-zero H tt }
 
--- ---- `analog_full`
+-- ---- `analogFullOf`
 record SizesIn (s : Sizes) : Type 0 where
   pub bottom : In (s .bottom) (at 24) (at 32)
   pub stick : In (s .stick) (at 104) (at 128)

@@ -115,17 +115,17 @@ pub refused-is : {out : List ℕ} {len : ℕ} (n : ℕ) → n ≤ 8 → (out, le
 unfolding refusedSheetOf refusedText
 refused-is n h p = page-is _ p (omega (arith, refused-fits n h))
 
-module _ (l : Layout) (ten : l .count ≤ 12) (two : l .stickcount ≤ 2) (b : Bounded l) (g : BoundedGame (l .game)) where
+module _ (l : Layout) (twelve : l .count ≤ 12) (two : l .stickcount ≤ 2) (b : Bounded l) (g : BoundedGame (l .game)) where
   pub sheet-room : length (headText film (l .count + l .stickcount + 6)) + (length (lineText (lineOf gameName (l .game))) + (length (lineText (lineOf dpadName (l .dpad)))
       + (length (controlText (l .count) (l .controls)) + (length (linesText (toolbarLines l)) + length (stickText (l .stickcount) (l .sticks)))))) ≤ 1024
   sheet-room =
       let e : length (lineText (lineOf gameName (l .game))) + (length (lineText (lineOf dpadName (l .dpad)))
       + (length (controlText (l .count) (l .controls)) + (length (linesText (toolbarLines l)) + length (stickText (l .stickcount) (l .sticks))))) ≡ length (linesText (linesOf l)) =
       sym (ap length (lines-text l) ∙ simp length-append) in
-      omega (arith, film-fits (l .count + l .stickcount + 6) (omega arith), lines-fit l ten two b g)
+      omega (arith, film-fits (l .count + l .stickcount + 6) (omega arith), lines-fit l twelve two b g)
 
   pub sheet-is : {out : List ℕ} {len : ℕ} → l .count ≤ length (l .controls) → l .stickcount ≤ length (l .sticks)
       → (out, len) ≡ putOf (zeros 1024) 0 (headText film (l .count + l .stickcount + 6) ++ (lineText (lineOf gameName (l .game)) ++ (lineText (lineOf dpadName (l .dpad)) ++ (controlText (l .count) (l .controls) ++ (linesText (toolbarLines l) ++ stickText (l .stickcount) (l .sticks))))))
       → record { bytes = out; len = len } ≡ layoutSheetOf l
   unfolding layoutSheetOf sheetText
-  sheet-is cs ss p = page-is (sheetText (linesOf l)) (rw (line-count l ten two b cs ss, lines-text l) p) (omega (arith, sheet-fits l ten two b g))
+  sheet-is cs ss p = page-is (sheetText (linesOf l)) (rw (line-count l twelve two b cs ss, lines-text l) p) (omega (arith, sheet-fits l twelve two b g))

@@ -69,7 +69,7 @@ stick-lines (a ∷ []) h e = (short leftName a tt (element-printable (e .0)) & t
 stick-lines (a ∷ b ∷ []) h e = (short leftName a tt (element-printable (e .0)) & short rightName b tt (element-printable (e .1 .0)) & tt, refl)
 stick-lines (a ∷ b ∷ c ∷ rs) h e = absurd (let z : ⊥ = omega arith in z)
 
-module _ (l : Layout) (ten : l .count ≤ 12) (two : l .stickcount ≤ 2) (b : Bounded l) where
+module _ (l : Layout) (twelve : l .count ≤ 12) (two : l .stickcount ≤ 2) (b : Bounded l) where
   sticks-of : Each Short (stickLines (stickList l)) × (length (stickLines (stickList l)) ≡ length (stickList l))
   sticks-of = stick-lines (stickList l) (rw length-take (omega arith)) (each-take Element (l .stickcount) (l .sticks) (b .sticks))
 
