@@ -1,15 +1,14 @@
 -- The layouts of `arranged` and `side_rails` are in range.
-use mathlib.Core.Bool.{Bool, true, false, cond, not, _||_}
+use mathlib.Core.Bool.{Bool, true, false, _||_}
 use mathlib.Core.List.{List, []}
-use lib.Dec.{T}
 use lib.Ieee.{Float, lt}
 use lib.ListN.{replicate}
 use Rattle.float.specs.Float.{_⊖_, _⊘_, k0, k1, k3, k4, k16, k122}
 use Rattle.geometry.specs.declared.Rect.{Rect}
+use Rattle.geometry.specs.Choice.{by-test}
 use Rattle.geometry.specs.Rect.{newOf, emptyRect, overlapsOf}
 use Rattle.layout.specs.declared.Layout.{Layout}
 use Rattle.numerics.specs.Rects.{Element, Key, margin}
-use Rattle.numerics.specs.Value.{Le}
 use Rattle.numerics.specs.Range.{In, at, minus}
 use Rattle.numerics.specs.Each.{Each, _&_}
 use Rattle.numerics.specs.Lists.{fold-ind}
@@ -186,14 +185,6 @@ cluster-in {w} {h} {pictureHeight} cutouts W H picture C =
 pub side-rails-in : {w h pictureHeight : Float} (cutouts : List Rect) → In w (at 0) (at 8192) → In h (at 0) (at 8192) → In pictureHeight (at 0) (at 8192) → Each Element cutouts
     → Arranged (sideRailsOf w h pictureHeight cutouts)
 unfolding sideRailsOf
-side-rails-in {w} {h} {pictureHeight} cutouts W H picture C = go (lt cluster k122) (lt-not 1 cluster k122 (left .whole) (i122 .whole))
-  where
-    cluster : Float
-    cluster = clusterOf w h pictureHeight cutouts
-
-    left : In cluster (minus 30720) (at 200)
-    left = cluster-in cutouts W H picture C
-
-    go : (b : Bool) → (T (not b) → Le 1 k122 cluster) → Arranged (cond b (arrangedOf w h false) (railedOf w h cluster))
-    go true k = arranged-in false W H
-    go false k = railed-in W H (raise left i122 (k tt))
+side-rails-in cutouts W H picture C =
+    let left = cluster-in cutouts W H picture C in
+    by-test Arranged (lt _ k122) (λ t. arranged-in false W H) (λ t. railed-in W H (raise left i122 (lt-not 1 _ k122 (left .whole) (i122 .whole) t)))

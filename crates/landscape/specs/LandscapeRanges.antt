@@ -1,5 +1,5 @@
 -- `fit_landscape_controls` keeps a layout in range, on screens up to 8192 by 8192, and its game the widest.
-use mathlib.Core.Bool.{Bool, true, false, cond, not, _||_}
+use mathlib.Core.Bool.{Bool, true, false, not, _||_}
 use mathlib.Core.List.{List, [], _∷_}
 use Prim.Native.Nat.{ℕ, _+_, _≤_, _<_}
 use lib.Dec.{T, ltb}
@@ -7,6 +7,7 @@ use lib.Ieee.{Float, lt}
 use lib.ListN.{length, getD, set}
 use Rattle.float.specs.Float.{k1, k104, k122}
 use Rattle.geometry.specs.declared.Rect.{Rect}
+use Rattle.geometry.specs.Choice.{either}
 use Rattle.geometry.specs.Rect.{emptyRect}
 use Rattle.layout.specs.declared.Control.{Control}
 use Rattle.layout.specs.declared.Label.{Label}
@@ -137,11 +138,8 @@ module _ {r : Row} {dx dy : Float} (R : RowIn r) (DX : In dx (minus 17500) (at 9
 sticks-in : {r : Row} → RowIn r → (sticks : List Rect) (count : ℕ) → Each Element sticks → Each Element (rowSticksOf sticks count r)
 unfolding rowSticksOf
 sticks-in R sticks count e =
-    go (ltb 1 count) (element-in i16 (R .sticky) (R .stick) (R .stick) tt) (element-in (sub-in (sub-in (R .w) i16 tt) (R .stick) tt) (R .sticky) (R .stick) (R .stick) tt)
-  where
-    go : (b : Bool) {left right : Rect} → Element left → Element right → Each Element (cond b (set (set sticks 0 left) 1 right) (set sticks 0 left))
-    go true {left} {right} A B = each-set Element 1 (set sticks 0 left) right (each-set Element 0 sticks left e A) B
-    go false {left} A B = each-set Element 0 sticks left e A
+    let left = each-set Element 0 sticks _ e (element-in i16 (R .sticky) (R .stick) (R .stick) tt) in
+    either (Each Element) (ltb 1 count) (each-set Element 1 (set sticks 0 _) _ left (element-in (sub-in (sub-in (R .w) i16 tt) (R .stick) tt) (R .sticky) (R .stick) (R .stick) tt)) left
 
 -- ---- the layout
 module _ (l : Layout) (cs : l .count ≤ length (l .controls)) (ss : 0 < length (l .sticks)) (L : Every Old Element l) where

@@ -1,10 +1,11 @@
 -- What holds of each layout that a step of `layout_in` may take holds of the one that it takes.
-use mathlib.Core.Bool.{Bool, true, false, cond, not, _&&_, _||_}
+use mathlib.Core.Bool.{Bool, not, _&&_, _||_}
 use mathlib.Core.List.{List}
 use lib.Dec.{T}
 use lib.Ieee.{Float}
 use lib.Ieee.Fits.{and-l, and-r}
 use Rattle.geometry.specs.declared.Rect.{Rect}
+use Rattle.geometry.specs.Choice.{by-test}
 use Rattle.layout.specs.declared.Layout.{Layout}
 use Rattle.search.specs.Search.{placeGameInAspectOf}
 use Rattle.settings.specs.declared.Preset.{Preset}
@@ -34,14 +35,7 @@ module _ (p : Preset) (w h : Float) (cutouts : List Rect) (picture : Rect) where
 
   pub laid-out-case : (C : Layout → Type 0) → C placedFor → (T (rowAllowedOf p cutouts) → C (fitLandscapeControlsOf placedFor w h areaFor (aspectOf (p .psp)))) → C (laidOutOf p w h cutouts picture)
   unfolding laidOutOf
-  laid-out-case C q r = go (rowAllowedOf p cutouts) r
-    where
-      fitted : Layout
-      fitted = fitLandscapeControlsOf placedFor w h areaFor (aspectOf (p .psp))
-
-      go : (b : Bool) → (T b → C fitted) → C (cond b fitted placedFor)
-      go true f = f tt
-      go false f = q
+  laid-out-case C q r = by-test C (rowAllowedOf p cutouts) r (λ t. q)
 
 -- ---- what is so where the keys may go into a row
 pub record RowAllowed (p : Preset) (cutouts : List Rect) : Type 0 where

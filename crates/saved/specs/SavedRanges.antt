@@ -1,6 +1,6 @@
 -- Every restored element is in range.
 use mathlib.Core.Path.{_∙_}
-use mathlib.Core.Bool.{Bool, true, false, cond, _&&_}
+use mathlib.Core.Bool.{Bool, _&&_}
 use mathlib.Core.List.{List, [], _∷_}
 use Prim.Native.Nat.{_≤_}
 use native.Mathlib.Omega.{arith}
@@ -11,7 +11,7 @@ use lib.Ieee.Scale.{finite}
 use lib.ListN.{length}
 use Rattle.float.specs.MinMax.{absOf}
 use Rattle.geometry.specs.declared.Rect.{Rect}
-use Rattle.geometry.specs.Choice.{either}
+use Rattle.geometry.specs.Choice.{either, by-test}
 use Rattle.layout.specs.declared.Layout.{Layout}
 use Rattle.layout.specs.Layout.{elementsOf}
 use Rattle.layout.specs.ElementLaws.{length-elements}
@@ -60,11 +60,7 @@ module _ {w h : Float} (W : In w (at 1) (at 8192)) (H : In h (at 1) (at 8192)) w
   unfolding restoredOf restoreOf
   restored-in [] es E = E
   restored-in (r ∷ rs) [] E = tt
-  restored-in (r ∷ rs) (e ∷ es) E = (go (usableOf r) (on-screen-in r), restored-in rs es (E .1))
-    where
-      go : (b : Bool) → (T b → Element (onScreenOf w h r)) → Element (cond b (onScreenOf w h r) e)
-      go true f = f tt
-      go false f = E .0
+  restored-in (r ∷ rs) (e ∷ es) E = (by-test Element (usableOf r) (on-screen-in r) (λ t. E .0), restored-in rs es (E .1))
 
   pub saved-bounded : (l : Layout) → l .count ≤ length (l .controls) → l .stickcount ≤ length (l .sticks) → Bounded l → (saved : List Rect) → Bounded (withSavedOf l w h saved)
   unfolding withSavedOf
