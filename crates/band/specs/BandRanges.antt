@@ -1,8 +1,6 @@
 -- The layout of `controller_band` is in range.
-use mathlib.Core.Path.{_≡_}
-use mathlib.Core.Bool.{Bool, true, false, cond}
+use mathlib.Core.Bool.{Bool, true, false}
 use mathlib.Core.List.{[]}
-use mathlib.Core.Option.{some}
 use Prim.Native.Nat.{_+_}
 use lib.Ieee.{Float}
 use lib.ListN.{set}
@@ -26,6 +24,7 @@ use Rattle.search.proofs.Changes.{dpad-in, psp-in}
 use Rattle.search.specs.Search.{centred}
 use Rattle.toolbar.specs.ToolbarRanges.{uncovered-in, anchor-in}
 use Rattle.arranged.specs.Places.{control}
+use Rattle.arranged.specs.Found.{Given}
 use Rattle.arranged.specs.PlaceRanges.{Coordinate, coordinate, cap-in, step-in, FacesIn, faces-in, PlacesIn, empty-in, controls-placed}
 use Rattle.arranged.specs.ArrangedRanges.{arranged-in}
 use Rattle.band.specs.declared.Room.{Room}
@@ -175,9 +174,9 @@ banded-in {w} {h} analog deep {b} W H B =
     let right = placed-in (sub-in (sub-in (B .w) (B .outer) tt) (B .stick) tt) y (B .stick) (B .stick) tt in
     either Arranged analog (with-analog-in placed (places .l3) (places .r3) left right) placed
 
-pub band-in : {w h : Float} (analog psp : Bool) {picture : Rect} {l : Layout} → In w (at 0) (at 8192) → In h (at 0) (at 8192) → Area picture → controllerBandOf w h analog psp picture ≡ some l → Arranged l
-band-in {w} {h} analog psp {picture} W H A e =
-    controller-band-case w h analog psp picture Arranged (λ t. place-bounded (inputs (anchored (lt-not 1 (room .face) k122 (R .face .whole) (i122 .whole) t))) picture false k1 centred (aspectOf psp)) e
+pub band-in : {w h : Float} (analog psp : Bool) {picture : Rect} → In w (at 0) (at 8192) → In h (at 0) (at 8192) → Area picture → Given Arranged (controllerBandOf w h analog psp picture)
+band-in {w} {h} analog psp {picture} W H A =
+    controller-band-case w h analog psp picture Arranged (λ t. place-bounded (inputs (anchored (lt-not 1 (room .face) k122 (R .face .whole) (i122 .whole) t))) picture false k1 centred (aspectOf psp))
   where
     room : Room
     room = bandRoom w h analog psp picture

@@ -1,8 +1,6 @@
 -- The layout of `analog_camera_rails` is in range, on screens up to 8192 by 8192.
-use mathlib.Core.Path.{_≡_}
 use mathlib.Core.Bool.{Bool, false, cond, not}
 use mathlib.Core.List.{List, []}
-use mathlib.Core.Option.{some}
 use native.Mathlib.Omega.{arith}
 use lib.Dec.{T}
 use lib.Ieee.{Float, lt}
@@ -10,7 +8,6 @@ use Rattle.float.specs.Float.{_⊖_, _⊗_, _⊘_, k0, k1, k2, k3, k4, k48, k12
 use Rattle.float.specs.MinMax.{minOf}
 use Rattle.geometry.specs.declared.Rect.{Rect}
 use Rattle.geometry.specs.Choice.{either}
-use Rattle.layout.specs.declared.Layout.{Layout}
 use Rattle.layout.specs.Lists.{filterMap}
 use Rattle.numerics.specs.Value.{P, N, E}
 use Rattle.numerics.specs.Rects.{Element, Area}
@@ -27,6 +24,7 @@ use Rattle.search.proofs.Layouts.{place-bounded}
 use Rattle.search.proofs.Changes.{shrunk-bounded, anchored-shrunk, dpad-in, psp-in}
 use Rattle.search.specs.Search.{centred}
 use Rattle.toolbar.specs.ToolbarRanges.{uncovered-in, anchor-in}
+use Rattle.arranged.specs.Found.{Given}
 use Rattle.arranged.specs.PlaceRanges.{coordinate, cap-in, step-in, faces-in, PlacesIn, controls-placed}
 use Rattle.band.specs.Band.{aspectOf}
 use Rattle.defaults.specs.DefaultRanges.{analog-in}
@@ -139,13 +137,13 @@ module _ {w h : Float} (W : In w (at 1) (at 8192)) (H : In h (at 1) (at 8192)) w
         let top = max-in (neg-in (most-in (A .y) tt) tt) i0 in
         anchored-shrunk (anchor-in _ cutouts wide high top (in-more (minus 8192) (at 8192) i0 tt tt) (uncovered-in _ cutouts O) (either Shrunk psp (psp-in L) L))
 
-    pub camera-bounded : {l : Layout} (cutouts : List Rect) → Each Element cutouts → analogCameraRailsOf w h picture cutouts psp ≡ some l → Bounded l
-    camera-bounded cutouts O e =
+    pub camera-bounded : (cutouts : List Rect) → Each Element cutouts → Given Bounded (analogCameraRailsOf w h picture cutouts psp)
+    camera-bounded cutouts O =
         let holds = anchored-holds w h (cameraRail w h picture cutouts psp) (cameraFace w h picture cutouts psp) picture cutouts psp in
         camera-case w h picture cutouts psp Bounded
-        (λ r f. place-bounded (avoid-bounded wide high (cameraLayout w h picture cutouts psp) cutouts (holds .0) (holds .1) (shrunk-bounded (anchored-in cutouts O r f))) picture false k1 centred (aspectOf psp)) e
+        (λ r f. place-bounded (avoid-bounded wide high (cameraLayout w h picture cutouts psp) cutouts (holds .0) (holds .1) (shrunk-bounded (anchored-in cutouts O r f))) picture false k1 centred (aspectOf psp))
 
     -- with no cutouts no element moves
-    pub camera-in : {l : Layout} → analogCameraRailsOf w h picture [] psp ≡ some l → Shrunk l
+    pub camera-in : Given Shrunk (analogCameraRailsOf w h picture [] psp)
     unfolding avoidCutoutsOf
-    camera-in e = camera-case w h picture [] psp Shrunk (λ r f. place-bounded (anchored-in [] tt r f) picture false k1 centred (aspectOf psp)) e
+    camera-in = camera-case w h picture [] psp Shrunk (λ r f. place-bounded (anchored-in [] tt r f) picture false k1 centred (aspectOf psp))

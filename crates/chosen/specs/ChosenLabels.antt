@@ -77,7 +77,7 @@ module _ (w h : Float) (area : Rect) (cutouts : List Rect) where
   module _ (analog psp : Bool) (k : T psp → T analog) (first : Layout) (f : OfMode analog psp first) where
     pub around-mode : OfMode analog psp (aroundOf first w h area cutouts analog psp)
     unfolding aroundOf
-    around-mode = found-case (OfMode analog psp) _ f (λ m. controls-formed w h (largestOf area (aspectOf psp)) analog psp cutouts m k)
+    around-mode = found-case (OfMode analog psp) _ f (controls-formed w h (largestOf area (aspectOf psp)) analog psp cutouts k)
 
     pub arrangement-mode : (maximum free : Bool) → OfMode analog psp (arrangementOf maximum free first w h area cutouts analog psp)
     unfolding arrangementOf

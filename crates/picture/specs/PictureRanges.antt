@@ -1,8 +1,6 @@
 -- The layout of `controls` is in range, about any game in range. The tests bound the wells and the sticks; for the rest coarse ranges suffice.
-use mathlib.Core.Path.{_≡_}
 use mathlib.Core.Bool.{Bool, true, false, not, _&&_, cond}
 use mathlib.Core.List.{List}
-use mathlib.Core.Option.{some}
 use Prim.Native.Nat.{ℕ}
 use lib.Dec.{T, leb}
 use lib.Ieee.{Float, lt}
@@ -24,13 +22,14 @@ use Rattle.search.specs.Bounded.{Bounded, BoundedGame}
 use Rattle.search.proofs.Changes.{shrunk-bounded, arranged-bounded}
 use Rattle.arranged.specs.declared.Places.{Places}
 use Rattle.arranged.specs.Places.{capOf, atOf}
+use Rattle.arranged.specs.Found.{Given}
 use Rattle.arranged.specs.PlaceRanges.{every-placed}
 use Rattle.arranged.specs.ArrangedRanges.{arranged-in}
 use Rattle.defaults.specs.DefaultRanges.{analog-in, psp-default-in}
 use Rattle.picture.specs.declared.Row.{Row}
 use Rattle.picture.specs.declared.Stack.{Stack}
 use Rattle.picture.specs.Picture.{gap, key, minWell, diamondOf, auxiliaryOf, arrangeOf, squareOf, measureStackOf, stackedOf, verticalOf, measureRowOf, withX, centerKeysOf, rowPlacesOf, rowedOf, horizontalOf, fittedOf, baseOf, controlsOf}
-use Rattle.picture.specs.PictureCases.{Given, found, vertical-case, horizontal-case, first-case}
+use Rattle.picture.specs.PictureCases.{vertical-case, horizontal-case, first-case}
 
 -- a length of the screen, of either sign
 abbrev Span : Float → Type 0
@@ -251,5 +250,5 @@ module _ {w h : Float} (W : In w (at 1) (at 8192)) (H : In h (at 1) (at 8192)) w
   base-in true false = shrunk-bounded (analog-in W H)
   base-in false false = arranged-bounded (arranged-in false (in-more (at 0) (at 8192) W tt tt) (in-more (at 0) (at 8192) H tt tt))
 
-  pub controls-in : {game : Rect} (analog psp : Bool) (holes : List Rect) {l : Layout} → BoundedGame game → controlsOf w h game analog psp holes ≡ some l → Bounded l
-  controls-in analog psp holes G e = found Bounded (fitted-in analog psp holes (base-in analog psp) G) e
+  pub controls-in : {game : Rect} (analog psp : Bool) (holes : List Rect) → BoundedGame game → Given Bounded (controlsOf w h game analog psp holes)
+  controls-in analog psp holes G = fitted-in analog psp holes (base-in analog psp) G
