@@ -21,7 +21,7 @@ use Rattle.numerics.specs.Shrunk.{signed-in, placed-shrunk}
 use Rattle.search.specs.Bounded.{Bounded, Shrunk}
 use Rattle.search.proofs.Placement.{each-filter}
 use Rattle.search.proofs.Layouts.{place-bounded}
-use Rattle.search.proofs.Changes.{shrunk-bounded, anchored-shrunk, dpad-in, psp-in}
+use Rattle.search.proofs.Changes.{shrunk-bounded, anchored-shrunk, dpad-in, sticks-in, psp-in}
 use Rattle.search.specs.Search.{centred}
 use Rattle.toolbar.specs.ToolbarRanges.{uncovered-in, anchor-in}
 use Rattle.arranged.specs.Found.{Given}
@@ -118,15 +118,7 @@ module _ {w h : Float} (W : In w (at 1) (at 8192)) (H : In h (at 1) (at 8192)) w
   railed-in R face =
       let y = sub-in (sub-in H i24 tt) i128 tt in
       let L = dpad-in (controls-placed (λ r P. placed-shrunk P tt) (analog-in W H) (camera-places-in W R face)) (placed-in i4 i32 face face tt) in
-      record {
-        dpad = L .dpad;
-        controls = L .controls;
-        pause = L .pause;
-        playback = L .playback;
-        speed = L .speed;
-        mute = L .mute;
-        sticks = placed-in i4 y i128 i128 tt & placed-in (sub-in (sub-in W i4 tt) i128 tt) y i128 i128 tt & tt;
-      }
+      sticks-in L (placed-in i4 y i128 i128 tt & placed-in (sub-in (sub-in W i4 tt) i128 tt) y i128 i128 tt & tt)
 
   module _ {picture : Rect} (A : Area picture) (psp : Bool) where
     pub anchored-in : (cutouts : List Rect) → Each Element cutouts → T (not (lt (cameraRail w h picture cutouts psp) k184)) → T (not (lt (cameraFace w h picture cutouts psp) k122)) → Shrunk (cameraLayout w h picture cutouts psp)

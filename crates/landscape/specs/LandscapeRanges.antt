@@ -22,14 +22,14 @@ use Rattle.numerics.specs.Value.{AtMost}
 use Rattle.numerics.specs.Rects.{Area, Element, OnScreen, maxArea, maxCorner, maxSide}
 use Rattle.numerics.specs.Range.{In, at, minus}
 use Rattle.numerics.specs.Each.{Each}
-use Rattle.numerics.specs.Lists.{each-take, each-at, each-set, each-imp, fold-ind}
+use Rattle.numerics.specs.Lists.{each-take, each-at, each-set, fold-ind}
 use Rattle.numerics.specs.Bounds.{lt-not, most-more}
 use Rattle.numerics.specs.Ranges.{in-more, most-in, add-in, sub-in, sub-back, div-in, times-in, min-in, raise, range-most, element-in, placed-element}
 use Rattle.numerics.specs.Literals.{i0, i0·5, i1, i4, i8, i16, i18, i24, i48, i64, i72, i104, i120, i122, f2}
 use Rattle.numerics.specs.Shrunk.{shrunkMargin}
 use Rattle.search.specs.Bounded.{Every, Bounded, BoundedGame}
 use Rattle.search.specs.Widest.{Widest, centredWidth}
-use Rattle.search.proofs.Changes.{each-mapFirst, every-imp}
+use Rattle.search.proofs.Changes.{each-mapFirst, every-imp, dpad-in, controls-in, sticks-in}
 use Rattle.search.proofs.Layouts.{place-bounded, place-game-in, place-widest}
 use Rattle.search.proofs.Placement.{each-filter}
 use Rattle.search.proofs.Shapes.{Shape}
@@ -132,32 +132,28 @@ module _ {r : Row} {dx dy : Float} (R : RowIn r) (DX : In dx (minus 17500) (at 9
   place-in B R3 = element-in (sub-in (R .w) i64 tt) (R .rowy) i48 i48 tt
 
   -- the controls past the first n are on the screen as they were
-  controls-in : (n : ℕ) (cs : List Control) → Each (λ c. Old (c .bounds)) cs → Each (λ c. Element (c .bounds)) (mapFirst (inRow r dx dy) n cs)
-  controls-in n cs e = each-mapFirst (λ c. Old (c .bounds)) (λ c. Element (c .bounds)) (inRow r dx dy) (λ c B. place-in B (c .label)) (λ c P. placed-element P tt) n cs e
+  row-controls-in : (n : ℕ) (cs : List Control) → Each (λ c. Old (c .bounds)) cs → Each (λ c. Element (c .bounds)) (mapFirst (inRow r dx dy) n cs)
+  row-controls-in n cs e = each-mapFirst (λ c. Old (c .bounds)) (λ c. Element (c .bounds)) (inRow r dx dy) (λ c B. place-in B (c .label)) (λ c P. placed-element P tt) n cs e
 
-sticks-in : {r : Row} → RowIn r → (sticks : List Rect) (count : ℕ) → Each Element sticks → Each Element (rowSticksOf sticks count r)
+row-sticks-in : {r : Row} → RowIn r → (sticks : List Rect) (count : ℕ) → Each Element sticks → Each Element (rowSticksOf sticks count r)
 unfolding rowSticksOf
-sticks-in R sticks count e =
+row-sticks-in R sticks count e =
     let left = each-set Element 0 sticks _ e (element-in i16 (R .sticky) (R .stick) (R .stick) tt) in
     either (Each Element) (ltb 1 count) (each-set Element 1 (set sticks 0 _) _ left (element-in (sub-in (sub-in (R .w) i16 tt) (R .stick) tt) (R .sticky) (R .stick) (R .stick) tt)) left
 
 -- ---- the layout
 module _ (l : Layout) (cs : l .count ≤ length (l .controls)) (ss : 0 < length (l .sticks)) (L : Every Old Element l) where
+  bounded : Bounded l
+  bounded = every-imp (λ e P. placed-element P tt) (λ e P. P) L
+
   rowed-in : {r : Row} → RowIn r → Bounded (rowedOf l r)
   unfolding rowedOf
   rowed-in R =
       let A = actions-in l cs (L .controls) in
       let dx = in-more (minus 17500) (at 9100) (sub-in (sub-in (sub-in (R .w) i16 tt) (R .face) tt) (A .x) tt) tt tt in
       let dy = in-more (minus 9300) (at 9300) (sub-in (R .facey) (A .y) tt) tt tt in
-      record {
-        dpad = element-in i16 (R .facey) (R .face) (R .face) tt;
-        controls = controls-in R dx dy (l .count) (l .controls) (L .controls);
-        pause = L .pause;
-        playback = L .playback;
-        speed = L .speed;
-        mute = L .mute;
-        sticks = sticks-in R (l .sticks) (l .stickcount) (each-imp Old Element (λ e P. placed-element P tt) (l .sticks) (L .sticks));
-      }
+      let dpad = dpad-in bounded (element-in i16 (R .facey) (R .face) (R .face) tt) in
+      sticks-in (controls-in dpad (row-controls-in R dx dy (l .count) (l .controls) (L .controls))) (row-sticks-in R (l .sticks) (l .stickcount) (bounded .sticks))
 
   stick-in : AtMost (getD (l .sticks) 0 anyRect .w) (maxArea + shrunkMargin)
   stick-in = each-at Old 0 (l .sticks) anyRect ss (L .sticks) .w
@@ -167,8 +163,7 @@ module _ (l : Layout) (cs : l .count ≤ length (l .controls)) (ss : 0 < length 
     row-bounded t = rowed-in (row-in W H (L .dpad .w) stick-in t)
 
     pub landscape-bounded : (picture : Rect) (aspect : Float) → Bounded (fitLandscapeControlsOf l w h picture aspect)
-    landscape-bounded picture aspect =
-        landscape-case l w h picture aspect Bounded (every-imp (λ e P. placed-element P tt) (λ e P. P) L) (λ t. place-bounded (row-bounded t) picture false k1 centred aspect)
+    landscape-bounded picture aspect = landscape-case l w h picture aspect Bounded bounded (λ t. place-bounded (row-bounded t) picture false k1 centred aspect)
 
     module _ {aspect : Float} {p q : ℕ} (S : Shape aspect p q) {picture : Rect} (A : Area picture) where
       pub landscape-game-in : BoundedGame (l .game) → BoundedGame (fitLandscapeControlsOf l w h picture aspect .game)

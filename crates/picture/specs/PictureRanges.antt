@@ -19,7 +19,7 @@ use Rattle.numerics.specs.Bounds.{add-most, lt-not}
 use Rattle.numerics.specs.Ranges.{in-more, add-in, sub-in, times-in, div-in, min-in, max-in, clamp-in, clamp-whole-in, cond-in, neg-in, raise, range-most, element-in}
 use Rattle.numerics.specs.Literals.{i0, i4, i6, i8, i12, i14, i24, i44, i50, i64, i68, i70, i76, i96, i112, i120, i128, i136, i164, i240, i4√2, f1√2, f2, f3, f4}
 use Rattle.search.specs.Bounded.{Bounded, BoundedGame}
-use Rattle.search.proofs.Changes.{shrunk-bounded, arranged-bounded}
+use Rattle.search.proofs.Changes.{shrunk-bounded, arranged-bounded, dpad-in, sticks-in}
 use Rattle.arranged.specs.declared.Places.{Places}
 use Rattle.arranged.specs.Places.{capOf, atOf}
 use Rattle.arranged.specs.Found.{Given}
@@ -112,9 +112,7 @@ center-in p P center R3 = with-x-in (P R3) (coarse (add-in center i76 tt) tt tt)
 -- ---- a layout with its controls there
 arrange-in : {l : Layout} {dpad first second : Rect} (places : Places) → Bounded l → Element dpad → PlacesIn places → Element first → Element second → Bounded (arrangeOf l dpad places first second)
 unfolding arrangeOf
-arrange-in places B dpad P first second =
-    let placed = every-placed places B P in
-    record { dpad = dpad; controls = placed .controls; pause = placed .pause; playback = placed .playback; speed = placed .speed; mute = placed .mute; sticks = first & second & tt }
+arrange-in places B dpad P first second = sticks-in (dpad-in (every-placed places B P) dpad) (first & second & tt)
 
 -- ---- `vertical`
 record StackIn (s : Stack) : Type 0 where
