@@ -19,7 +19,7 @@ use Rattle.search.specs.Bounded.{Every, Arranged}
 use Rattle.search.proofs.Layouts.{place-bounded}
 use Rattle.search.proofs.Changes.{dpad-in}
 use Rattle.search.specs.Search.{centred}
-use Rattle.toolbar.specs.ToolbarRanges.{uncovered-in, anchor-in}
+use Rattle.toolbar.specs.ToolbarRanges.{anchored-in}
 use Rattle.arranged.specs.declared.Wells.{Wells}
 use Rattle.arranged.specs.declared.Dock.{Dock}
 use Rattle.arranged.specs.declared.Rails.{Rails}
@@ -28,8 +28,7 @@ use Rattle.arranged.specs.PlaceRanges.{Coordinate, coordinate, cap-in, s
 
 pub finished-in : {C D : Rect → Type 0} (l : Layout) {w h : Float} → In w (at 0) (at 8192) → In h (at 0) (at 8192) → Every C D l → Every C (Key margin) (finishedOf l w h)
 unfolding finishedOf
-finished-in l {w} {h} W H L =
-    place-bounded (anchor-in l [] W H (in-more (at 0) (at 8192) i0 tt tt) (in-more (minus 8192) (at 8192) i0 tt tt) (uncovered-in l [] tt) L) (newOf k0 k0 w h) false k1 centred (k4 ⊘ k3)
+finished-in l {w} {h} W H L = place-bounded (anchored-in l [] W H (in-more (at 0) (at 8192) i0 tt tt) tt L) (newOf k0 k0 w h) false k1 centred (k4 ⊘ k3)
 
 -- ---- `arranged`
 record WellsIn (k : Wells) : Type 0 where

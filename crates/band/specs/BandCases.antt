@@ -2,13 +2,12 @@
 use mathlib.Core.Bool.{Bool, false, not, _||_}
 use mathlib.Core.List.{[]}
 use lib.Dec.{T}
-use lib.Ieee.{Float, lt, neg}
+use lib.Ieee.{Float, lt}
 use Rattle.float.specs.Float.{_⊗_, k0, k1, k1·35, k122, k600, k800}
-use Rattle.float.specs.MinMax.{maxOf}
 use Rattle.geometry.specs.declared.Rect.{Rect}
 use Rattle.layout.specs.declared.Layout.{Layout}
 use Rattle.search.specs.Search.{centred, placeGameInAspectOf}
-use Rattle.toolbar.specs.Toolbar.{anchorToolbarOf}
+use Rattle.toolbar.specs.Toolbar.{anchorToolbarOf, reusableTop}
 use Rattle.arranged.specs.Found.{Given, given, guard}
 use Rattle.band.specs.declared.Room.{Room}
 use Rattle.band.specs.Band.{aspectOf, findRoomOf, measureBandOf, bandedOf, withInputsOf, controllerBandOf}
@@ -21,7 +20,7 @@ module _ (w h : Float) (analog psp : Bool) (picture : Rect) where
   bandLayout = bandedOf w h analog (bandRoom .deep) (measureBandOf w h analog bandRoom)
 
   abbrev pub bandAnchored : Layout
-  bandAnchored = anchorToolbarOf bandLayout w h (maxOf (neg (picture .y)) k0) k0 []
+  bandAnchored = anchorToolbarOf bandLayout w h (reusableTop picture) k0 []
 
   abbrev made : Layout
   made = placeGameInAspectOf (withInputsOf bandAnchored psp) picture false k1 centred (aspectOf psp)

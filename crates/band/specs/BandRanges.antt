@@ -15,14 +15,14 @@ use Rattle.numerics.specs.Range.{In, at, minus}
 use Rattle.numerics.specs.Each.{_&_}
 use Rattle.numerics.specs.Lists.{each-set}
 use Rattle.numerics.specs.Bounds.{lt-not}
-use Rattle.numerics.specs.Ranges.{in-more, most-in, add-in, sub-in, mul-in, times-in, div-in, min-in, max-in, clamp-in, cond-in, neg-in, raise, placed-in}
+use Rattle.numerics.specs.Ranges.{in-more, most-in, add-in, sub-in, mul-in, times-in, div-in, min-in, clamp-in, cond-in, raise, placed-in}
 use Rattle.numerics.specs.Products.{scaled-in}
 use Rattle.numerics.specs.Literals.{i0, i1, i2, i3, i4, i8, i16, i18, i24, i28, i48, i52, i56, i64, i72, i80, i100, i104, i112, i122, i128, i136, i160, i176, i184, i204, i272, i288, i480, f0·75, f2, f4, f52, psp-high}
 use Rattle.search.specs.Bounded.{Every, Arranged}
 use Rattle.search.proofs.Layouts.{place-bounded}
 use Rattle.search.proofs.Changes.{dpad-in, psp-in}
 use Rattle.search.specs.Search.{centred}
-use Rattle.toolbar.specs.ToolbarRanges.{uncovered-in, anchor-in}
+use Rattle.toolbar.specs.ToolbarRanges.{anchored-in, reusable-in}
 use Rattle.arranged.specs.Places.{control}
 use Rattle.arranged.specs.Found.{Given}
 use Rattle.arranged.specs.PlaceRanges.{Coordinate, coordinate, cap-in, step-in, FacesIn, faces-in, PlacesIn, empty-in, controls-placed}
@@ -190,9 +190,7 @@ band-in {w} {h} analog psp {picture} W H A =
     anchored : Le 1 k122 (room .face) → Arranged layout
     anchored k =
         let L = banded-in analog (room .deep) W H (measured-in analog W H R (raise (R .face) i122 k)) in
-        let top = max-in (neg-in (most-in (A .y) tt) tt) i0 in
-        let banded = bandLayout w h analog psp picture in
-        anchor-in banded [] W H top (in-more (minus 8192) (at 8192) i0 tt tt) (uncovered-in banded [] tt) L
+        anchored-in (bandLayout w h analog psp picture) [] W H (reusable-in A) tt L
 
     inputs : Arranged layout → Arranged (withInputsOf layout psp)
     inputs L = either Arranged psp (psp-in L) L

@@ -15,7 +15,7 @@ use Rattle.numerics.specs.Range.{In, at, minus}
 use Rattle.numerics.specs.Each.{Each, _&_}
 use Rattle.numerics.specs.Lists.{fold-ind}
 use Rattle.numerics.specs.Bounds.{sub-law, div-law, lt-not, le-law}
-use Rattle.numerics.specs.Ranges.{in-reach, in-more, most-in, add-in, sub-in, mul-in, div-in, min-in, max-in, cond-in, neg-in, raise, placed-in}
+use Rattle.numerics.specs.Ranges.{in-reach, in-more, most-in, add-in, sub-in, mul-in, div-in, min-in, cond-in, raise, placed-in}
 use Rattle.numerics.specs.Literals.{i0, i4, i8, i24, i32, i48, i52, i104, i122, i128, i156, i184, i224, i272, i480, f2, f3, f4, psp-wide}
 use Rattle.numerics.specs.Shrunk.{signed-in, placed-shrunk}
 use Rattle.search.specs.Bounded.{Bounded, Shrunk}
@@ -23,7 +23,7 @@ use Rattle.search.proofs.Placement.{each-filter}
 use Rattle.search.proofs.Layouts.{place-bounded}
 use Rattle.search.proofs.Changes.{shrunk-bounded, anchored-shrunk, dpad-in, sticks-in, psp-in}
 use Rattle.search.specs.Search.{centred}
-use Rattle.toolbar.specs.ToolbarRanges.{uncovered-in, anchor-in}
+use Rattle.toolbar.specs.ToolbarRanges.{anchored-in, reusable-in}
 use Rattle.arranged.specs.Found.{Given}
 use Rattle.arranged.specs.PlaceRanges.{coordinate, cap-in, step-in, faces-in, PlacesIn, controls-placed}
 use Rattle.band.specs.Band.{aspectOf}
@@ -121,21 +121,20 @@ module _ {w h : Float} (W : In w (at 1) (at 8192)) (H : In h (at 1) (at 8192)) w
       sticks-in L (placed-in i4 y i128 i128 tt & placed-in (sub-in (sub-in W i4 tt) i128 tt) y i128 i128 tt & tt)
 
   module _ {picture : Rect} (A : Area picture) (psp : Bool) where
-    pub anchored-in : (cutouts : List Rect) → Each Element cutouts → T (not (lt (cameraRail w h picture cutouts psp) k184)) → T (not (lt (cameraFace w h picture cutouts psp) k122)) → Shrunk (cameraLayout w h picture cutouts psp)
+    anchored-rails-in : (cutouts : List Rect) → Each Element cutouts → T (not (lt (cameraRail w h picture cutouts psp) k184)) → T (not (lt (cameraFace w h picture cutouts psp) k122)) → Shrunk (cameraLayout w h picture cutouts psp)
     unfolding anchoredRailsOf
-    anchored-in cutouts O r f =
+    anchored-rails-in cutouts O r f =
         let R = rail-in psp W A r in
         let L = railed-in R (face-in w cutouts H (R .width) O f) in
-        let top = max-in (neg-in (most-in (A .y) tt) tt) i0 in
-        anchored-shrunk (anchor-in _ cutouts wide high top (in-more (minus 8192) (at 8192) i0 tt tt) (uncovered-in _ cutouts O) (either Shrunk psp (psp-in L) L))
+        anchored-shrunk (anchored-in _ cutouts wide high (reusable-in A) O (either Shrunk psp (psp-in L) L))
 
     pub camera-bounded : (cutouts : List Rect) → Each Element cutouts → Given Bounded (analogCameraRailsOf w h picture cutouts psp)
     camera-bounded cutouts O =
         let holds = anchored-holds w h (cameraRail w h picture cutouts psp) (cameraFace w h picture cutouts psp) picture cutouts psp in
         camera-case w h picture cutouts psp Bounded
-        (λ r f. place-bounded (avoid-bounded wide high (cameraLayout w h picture cutouts psp) cutouts (holds .0) (holds .1) (shrunk-bounded (anchored-in cutouts O r f))) picture false k1 centred (aspectOf psp))
+        (λ r f. place-bounded (avoid-bounded wide high (cameraLayout w h picture cutouts psp) cutouts (holds .0) (holds .1) (shrunk-bounded (anchored-rails-in cutouts O r f))) picture false k1 centred (aspectOf psp))
 
     -- with no cutouts no element moves
     pub camera-in : Given Shrunk (analogCameraRailsOf w h picture [] psp)
     unfolding avoidCutoutsOf
-    camera-in = camera-case w h picture [] psp Shrunk (λ r f. place-bounded (anchored-in [] tt r f) picture false k1 centred (aspectOf psp))
+    camera-in = camera-case w h picture [] psp Shrunk (λ r f. place-bounded (anchored-rails-in [] tt r f) picture false k1 centred (aspectOf psp))

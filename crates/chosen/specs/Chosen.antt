@@ -2,7 +2,7 @@
 use mathlib.Core.Bool.{Bool, false, cond, _&&_, _||_}
 use mathlib.Core.List.{List, [], _∷_, map, foldl}
 use mathlib.Core.Option.{Option, some, none}
-use lib.Ieee.{Float, lt, le, neg}
+use lib.Ieee.{Float, lt, le}
 use lib.ListN.{getD}
 use Rattle.float.specs.Float.{_⊕_, _⊖_, k0, k0·01, k1}
 use Rattle.float.specs.MinMax.{minOf, maxOf, absOf}
@@ -11,7 +11,7 @@ use Rattle.geometry.specs.Rect.{newOf}
 use Rattle.layout.specs.declared.Layout.{Layout}
 use Rattle.layout.specs.Layout.{anyRect}
 use Rattle.search.specs.Search.{centred, bottomOf, clearPictureAspectOf, placeGameInAspectOf}
-use Rattle.toolbar.specs.Toolbar.{anchorToolbarOf}
+use Rattle.toolbar.specs.Toolbar.{anchorToolbarOf, reusableTop}
 use Rattle.band.specs.Band.{aspectOf, controllerBandOf}
 use Rattle.defaults.specs.Defaults.{defaultInOf, analogDefaultOf, pspOf}
 use Rattle.cutouts.specs.Cutouts.{avoidCutoutsOf}
@@ -24,10 +24,6 @@ startOf psp analog w h cutouts picture =
     cond psp (pspOf w h) (cond analog (analogDefaultOf w h) (defaultInOf w h cutouts picture))
 
 -- ---- Maximum: one row of keys above the whole picture, and the controls about it
-
--- what a picture that begins above the screen has there
-abbrev pub reusableTop : Rect → Float
-reusableTop picture = maxOf (neg (picture .y)) k0
 
 -- the part of the picture's area below the toolbar's keys, one point high at least
 unfoldable pub belowToolbarOf : Layout → Rect → Rect

@@ -15,7 +15,7 @@ use Rattle.layout.specs.Actions.{actionElementsOf}
 use Rattle.layout.specs.Labels.{Formed}
 use Rattle.search.specs.declared.Offset.{Offset}
 use Rattle.search.specs.Search.{centred, placeGameInAspectOf}
-use Rattle.toolbar.specs.Toolbar.{anchorToolbarOf}
+use Rattle.toolbar.specs.Toolbar.{anchorToolbarOf, reusableTop}
 use Rattle.band.specs.Band.{aspectOf}
 use Rattle.band.specs.BandLabels.{bandLabels, bandSticks, band-faces, band-counts, band-formed}
 use Rattle.defaults.specs.DefaultLabels.{default-formed, analog-formed, psp-formed}
@@ -23,7 +23,7 @@ use Rattle.cutouts.specs.Cutouts.{avoidCutoutsOf}
 use Rattle.cutouts.specs.CutoutLaws.{face-count}
 use Rattle.camera_rails.specs.CameraLabels.{avoid-formed, camera-rails-formed}
 use Rattle.picture.specs.PictureLabels.{controls-formed}
-use Rattle.chosen.specs.Chosen.{startOf, reusableTop, largestOf, aroundOf, tryRailsOf, besideOf, firstOf, arrangementOf}
+use Rattle.chosen.specs.Chosen.{startOf, largestOf, aroundOf, tryRailsOf, besideOf, firstOf, arrangementOf}
 use Rattle.chosen.specs.ChosenCases.{found-case, rails-case}
 
 -- a layout of a mode: its labels, its sticks, and arrays of 12 and 2

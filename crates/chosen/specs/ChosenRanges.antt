@@ -6,21 +6,19 @@ use native.Mathlib.Omega.{arith}
 use lib.Dec.{T}
 use lib.Ieee.{Float}
 use lib.ListN.{length}
-use Rattle.float.specs.Float.{k0, k1}
+use Rattle.float.specs.Float.{k1}
 use Rattle.geometry.specs.declared.Rect.{Rect}
 use Rattle.geometry.specs.Choice.{either}
 use Rattle.layout.specs.declared.Layout.{Layout}
-use Rattle.numerics.specs.Rects.{Element, Area, Key, margin}
-use Rattle.numerics.specs.Range.{In, at, minus}
+use Rattle.numerics.specs.Rects.{Element, Area}
+use Rattle.numerics.specs.Range.{In, at}
 use Rattle.numerics.specs.Each.{Each}
-use Rattle.numerics.specs.Ranges.{in-more, most-in, max-in, neg-in}
-use Rattle.numerics.specs.Literals.{i0}
-use Rattle.search.specs.Bounded.{Every, Bounded, Shrunk}
+use Rattle.numerics.specs.Ranges.{in-more}
+use Rattle.search.specs.Bounded.{Bounded, Shrunk}
 use Rattle.search.proofs.Changes.{shrunk-bounded, arranged-shrunk, anchored-shrunk}
 use Rattle.search.proofs.Layouts.{place-bounded}
 use Rattle.search.specs.Search.{centred}
-use Rattle.toolbar.specs.Toolbar.{anchorToolbarOf}
-use Rattle.toolbar.specs.ToolbarRanges.{uncovered-in, anchor-in}
+use Rattle.toolbar.specs.ToolbarRanges.{anchored-in, reusable-in}
 use Rattle.band.specs.Band.{aspectOf}
 use Rattle.band.specs.BandRanges.{band-in}
 use Rattle.band.specs.BandLabels.{band-formed}
@@ -29,7 +27,7 @@ use Rattle.cutouts.specs.Cutouts.{avoidCutoutsOf}
 use Rattle.cutouts.specs.CutoutRanges.{avoid-bounded}
 use Rattle.camera_rails.specs.CameraRanges.{camera-bounded, camera-in}
 use Rattle.picture.specs.PictureRanges.{controls-in}
-use Rattle.chosen.specs.Chosen.{startOf, reusableTop, aroundOf, besideOf, firstOf, areaOf, arrangementOf}
+use Rattle.chosen.specs.Chosen.{startOf, aroundOf, besideOf, firstOf, areaOf, arrangementOf}
 use Rattle.chosen.specs.ChosenCases.{found-case, beside-case}
 use Rattle.chosen.specs.ChosenLabels.{OfMode, few}
 use Rattle.chosen.specs.MaximumRanges.{largest-in, sized, below-toolbar-in}
@@ -49,10 +47,10 @@ holds analog psp l f =
     record { controls = omega arith; sticks = omega arith; stick = omega arith }
 
 module _ {w h : Float} (W : In w (at 1) (at 8192)) (H : In h (at 1) (at 8192)) where
-  wide : In w (at 0) (at 8192)
+  pub wide : In w (at 0) (at 8192)
   wide = in-more (at 0) (at 8192) W tt tt
 
-  high : In h (at 0) (at 8192)
+  pub high : In h (at 0) (at 8192)
   high = in-more (at 0) (at 8192) H tt tt
 
   pub avoid-in : (cutouts : List Rect) (l : Layout) → Holds l → Bounded l → Bounded (avoidCutoutsOf l w h cutouts)
@@ -60,9 +58,6 @@ module _ {w h : Float} (W : In w (at 1) (at 8192)) (H : In h (at 1) (at 8192)) w
 
   module _ {picture : Rect} (A : Area picture) where
     module _ (cutouts : List Rect) (O : Each Element cutouts) where
-      pub anchored-in : {C D : Rect → Type 0} (l : Layout) → Every C D l → Every C (Key margin) (anchorToolbarOf l w h (reusableTop picture) k0 cutouts)
-      anchored-in l L = anchor-in l cutouts wide high (max-in (neg-in (most-in (A .y) tt) tt) i0) (in-more (minus 8192) (at 8192) i0 tt tt) (uncovered-in l cutouts O) L
-
       start-in : (psp analog : Bool) → Shrunk (startOf psp analog w h cutouts picture)
       unfolding startOf
       start-in true analog = psp-default-in W H
@@ -71,7 +66,7 @@ module _ {w h : Float} (W : In w (at 1) (at 8192)) (H : In h (at 1) (at 8192)) w
 
       pub first-in : (psp analog maximum : Bool) → Shrunk (firstOf psp analog maximum w h cutouts picture)
       unfolding firstOf
-      first-in psp analog maximum = let S = start-in psp analog in either Shrunk maximum (anchored-shrunk (anchored-in _ S)) S
+      first-in psp analog maximum = let S = start-in psp analog in either Shrunk maximum (anchored-shrunk (anchored-in _ cutouts wide high (reusable-in A) O S)) S
 
       module _ (analog psp : Bool) (first : Layout) (F : Shrunk first) (f : OfMode analog psp first) where
         beside-bounded : Bounded (besideOf first w h picture cutouts analog psp)

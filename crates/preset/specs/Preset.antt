@@ -15,11 +15,11 @@ use Rattle.settings.specs.declared.Preset.{Preset}
 use Rattle.settings.specs.declared.Settings.{Settings}
 use Rattle.settings.specs.Settings.{savedList, untouchedOf, pictureFitOf}
 use Rattle.saved.specs.Saved.{isEmpty, withSavedOf}
-use Rattle.toolbar.specs.Toolbar.{anchorToolbarOf}
+use Rattle.toolbar.specs.Toolbar.{anchorToolbarOf, reusableTop}
 use Rattle.band.specs.Band.{aspectOf}
 use Rattle.cutouts.specs.Cutouts.{avoidCutoutsOf}
 use Rattle.landscape.specs.Landscape.{fitLandscapeControlsOf}
-use Rattle.chosen.specs.Chosen.{reusableTop, firstOf, areaOf, arrangementOf}
+use Rattle.chosen.specs.Chosen.{firstOf, areaOf, arrangementOf}
 
 -- the elements where they stay: the saved ones at their places, all clear of cutouts, the toolbar anchored
 unfoldable pub settledOf : Layout → Float → Float → Rect → List Rect → List Rect → Layout

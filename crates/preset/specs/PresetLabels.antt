@@ -15,12 +15,11 @@ use Rattle.settings.specs.declared.Settings.{Settings}
 use Rattle.settings.specs.Settings.{savedList}
 use Rattle.saved.specs.Saved.{isEmpty, withSavedOf}
 use Rattle.saved.specs.SavedLaws.{length-restored}
-use Rattle.toolbar.specs.Toolbar.{anchorToolbarOf}
+use Rattle.toolbar.specs.Toolbar.{anchorToolbarOf, reusableTop}
 use Rattle.band.specs.Band.{aspectOf}
 use Rattle.band.specs.BandLabels.{bandLabels, bandSticks}
 use Rattle.cutouts.specs.Cutouts.{avoidCutoutsOf}
 use Rattle.landscape.specs.LandscapeLaws.{landscape-formed}
-use Rattle.chosen.specs.Chosen.{reusableTop}
 use Rattle.chosen.specs.ChosenLabels.{OfMode, Few, few, anchor-mode, place-mode, avoid-mode, arrangement-mode, first-mode}
 use Rattle.preset.specs.PresetCases.{firstFor, areaFor, arrangementFor, placedFor, laid-out-case}
 use Rattle.preset.specs.Preset.{settledOf, maximumOf, freeOf, hasSticks, laidOutOf, layoutInOf, viewportLayoutOf, settingsLayoutOf, settingsViewportOf}

@@ -85,3 +85,7 @@ anchorToolbarOf l w h reusableTop coveredTop cutouts =
     (newOf (a .x ⊕ size ⊕ gap) (a .y) timeWidth height)
     (newOf (b .x) (b .y) size height)
     (newOf (b .x ⊕ size ⊕ gap) (b .y) size height)
+
+-- what a picture that begins above the screen has there
+abbrev pub reusableTop : Rect → Float
+reusableTop picture = maxOf (neg (picture .y)) k0

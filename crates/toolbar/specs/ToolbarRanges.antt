@@ -16,7 +16,7 @@ use Rattle.layout.specs.Layout.{elementOf, stickList, boundsOf}
 use Rattle.layout.specs.Elements.{controllerElementsOf}
 use Rattle.layout.specs.ElementLaws.{controller-elements}
 use Rattle.layout.specs.Lists.{anyOf, find}
-use Rattle.numerics.specs.Rects.{Element, Key, margin}
+use Rattle.numerics.specs.Rects.{Element, Area, Key, margin}
 use Rattle.numerics.specs.Range.{In, at, minus}
 use Rattle.numerics.specs.Each.{Each, _&_}
 use Rattle.numerics.specs.Lists.{each-take, each-append}
@@ -27,7 +27,7 @@ use Rattle.numerics.specs.Literals.{i0, i0·01, i1, i1·4, i8, i18, i28, i40, f
 use Rattle.search.specs.Bounded.{Every, Bounded}
 use Rattle.search.proofs.Placement.{all-four}
 use Rattle.search.proofs.Layouts.{bounds-in}
-use Rattle.toolbar.specs.Toolbar.{besideOf, roomOf, belowOf, moved, pass, pairOf, avoidedOf, anchorToolbarOf}
+use Rattle.toolbar.specs.Toolbar.{besideOf, roomOf, belowOf, moved, pass, pairOf, avoidedOf, anchorToolbarOf, reusableTop}
 
 -- what is found holds
 module _ {A B : Type 0} (C : B → Type 0) (D : A → Type 0) (p : A → Bool) (hit : A → B) (none : B) (found : (x : A) → D x → T (p x) → C (hit x)) (otherwise : C none) where
@@ -77,10 +77,10 @@ module _ (left : Bool) {w h : Float} (W : In w (at 0) (at 8192)) (H : In h (at 0
       find-ind BarIn Element (overlapsOf bar) (λ c. pass left w h obstacles turns (moved left w h obstacles bar c)) bar (λ c E t. pass-in O turns (moved left w h obstacles bar c) (moved-bar bar c B E t)) B obstacles O
 
 -- ---- the obstacles
-module _ (l : Layout) (coveredTop : Float) (cutouts : List Rect) where
-  pub avoided-in : l .count ≤ length (l .controls) → l .stickcount ≤ length (l .sticks) → Bounded l → Each Element cutouts → Each Element (avoidedOf l coveredTop cutouts)
+module _ (l : Layout) (covered : Float) (cutouts : List Rect) where
+  pub avoided-in : l .count ≤ length (l .controls) → l .stickcount ≤ length (l .sticks) → Bounded l → Each Element cutouts → Each Element (avoidedOf l covered cutouts)
   unfolding avoidedOf
-  avoided-in cs ss L O = either (Each Element) (lt k0 coveredTop) (each-append Element cutouts (map (elementOf l) (controllerElementsOf l)) O controls) O
+  avoided-in cs ss L O = either (Each Element) (lt k0 covered) (each-append Element cutouts (map (elementOf l) (controllerElementsOf l)) O controls) O
     where
       controls : Each Element (map (elementOf l) (controllerElementsOf l))
       controls =
@@ -92,16 +92,13 @@ pub uncovered : (l : Layout) (cutouts : List Rect) → avoidedOf l k0 cutouts �
 unfolding avoidedOf lt ofBits
 uncovered l cutouts = refl
 
-pub uncovered-in : (l : Layout) (cutouts : List Rect) → Each Element cutouts → Each Element (avoidedOf l k0 cutouts)
-uncovered-in l cutouts O = rw uncovered O
-
 -- ---- the keys
-pub anchor-in : {C D : Rect → Type 0} (l : Layout) {w h reusableTop coveredTop : Float} (cutouts : List Rect)
-    → In w (at 0) (at 8192) → In h (at 0) (at 8192) → In reusableTop (at 0) (at 8192) → In coveredTop (minus 8192) (at 8192) → Each Element (avoidedOf l coveredTop cutouts)
-    → Every C D l → Every C (Key margin) (anchorToolbarOf l w h reusableTop coveredTop cutouts)
+pub anchor-in : {C D : Rect → Type 0} (l : Layout) {w h reusable covered : Float} (cutouts : List Rect)
+    → In w (at 0) (at 8192) → In h (at 0) (at 8192) → In reusable (at 0) (at 8192) → In covered (minus 8192) (at 8192) → Each Element (avoidedOf l covered cutouts)
+    → Every C D l → Every C (Key margin) (anchorToolbarOf l w h reusable covered cutouts)
 unfolding anchorToolbarOf pairOf
-anchor-in l {w} {coveredTop = coveredTop} cutouts W H R C O L =
-    let obstacles = avoidedOf l coveredTop cutouts in
+anchor-in l {w} {covered = covered} cutouts W H R C O L =
+    let obstacles = avoidedOf l covered cutouts in
     let padding = min-in i28 (mul-in W f0·055 tt) in
     let gap = min-in i8 (mul-in W f0·01 tt) in
     let share = max-in (div-in (sub-in (sub-in W (times-in f2 padding tt) tt) (times-in f3 gap tt) tt) f4 tt) i1 in
@@ -122,3 +119,11 @@ anchor-in l {w} {coveredTop = coveredTop} cutouts W H R C O L =
       pause = placed-in (add-in (add-in (b .x) size tt) gap tt) (b .y) size height tt;
       sticks = L .sticks;
     }
+
+-- where no decoration shows
+pub anchored-in : {C D : Rect → Type 0} (l : Layout) {w h reusable : Float} (cutouts : List Rect) → In w (at 0) (at 8192) → In h (at 0) (at 8192) → In reusable (at 0) (at 8192) → Each Element cutouts
+    → Every C D l → Every C (Key margin) (anchorToolbarOf l w h reusable k0 cutouts)
+anchored-in l cutouts W H R O L = anchor-in l cutouts W H R (in-more (minus 8192) (at 8192) i0 tt tt) (rw uncovered O) L
+
+pub reusable-in : {picture : Rect} → Area picture → In (reusableTop picture) (at 0) (at 8192)
+reusable-in A = max-in (neg-in (most-in (A .y) tt) tt) i0
