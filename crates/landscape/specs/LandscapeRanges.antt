@@ -1,5 +1,5 @@
 -- `fit_landscape_controls` keeps a layout in range, on screens up to 8192 by 8192, and its game the widest.
-use mathlib.Core.Bool.{Bool, true, false, not, _||_}
+use mathlib.Core.Bool.{false, not, _||_}
 use mathlib.Core.List.{List, [], _∷_}
 use Prim.Native.Nat.{ℕ, _+_, _≤_, _<_}
 use lib.Dec.{T, ltb}
@@ -23,7 +23,7 @@ use Rattle.numerics.specs.Rects.{Area, Element, OnScreen, maxArea, maxCorner, m
 use Rattle.numerics.specs.Range.{In, at, minus}
 use Rattle.numerics.specs.Each.{Each}
 use Rattle.numerics.specs.Lists.{each-take, each-at, each-set, fold-ind}
-use Rattle.numerics.specs.Bounds.{lt-not, most-more}
+use Rattle.numerics.specs.Bounds.{nor-l, nor-r, lt-not, most-more}
 use Rattle.numerics.specs.Ranges.{in-more, most-in, add-in, sub-in, sub-back, div-in, times-in, min-in, raise, range-most, element-in, placed-element}
 use Rattle.numerics.specs.Literals.{i0, i0·5, i1, i4, i8, i16, i18, i24, i48, i64, i72, i104, i120, i122, f2}
 use Rattle.numerics.specs.Shrunk.{shrunkMargin}
@@ -60,27 +60,22 @@ record RowIn (r : Row) : Type 0 where
   pub facey : In (r .facey) (at 0) (at 8192)
   pub shouldery : In (r .shouldery) (at 0) (at 8192)
 
--- no test holds
-none : (a b c : Bool) → T (not (a || (b || c))) → T (not a) × T (not b) × T (not c)
-none true b c t = absurd t
-none false true c t = absurd t
-none false false true t = absurd t
-none false false false t = (tt, tt, tt)
-
 -- the shoulders lie below the toolbar, so the wells below them are on the screen too
 row-in : {w h face stick : Float} → In w (at 1) (at 8192) → In h (at 1) (at 8192) → AtMost face (maxArea + shrunkMargin) → AtMost stick (maxArea + shrunkMargin) → T (not (tightOf (measureRowOf w h face stick))) → RowIn (measureRowOf w h face stick)
 unfolding measureRowOf tightOf
 row-in {w} {h} {face} {stick} W H F S t =
     let r = measureRowOf w h face stick in
-    let n = none (lt (r .shouldery) toolbarHeight) (lt face k122) (lt stick k104) t in
-    let f = in-more (at 122) (at 8200) (raise (most-in F tt) i122 (lt-not 1 face k122 (F .whole) (i122 .whole) (n .1))) tt tt in
-    let s = in-more (at 104) (at 8200) (raise (most-in S tt) i104 (lt-not 1 stick k104 (S .whole) (i104 .whole) (n .2))) tt tt in
+    let tight = lt (r .shouldery) toolbarHeight in
+    let small = lt face k122 || lt stick k104 in
+    let n = nor-r tight small t in
+    let f = in-more (at 122) (at 8200) (raise (most-in F tt) i122 (lt-not 1 face k122 (F .whole) (i122 .whole) (nor-l (lt face k122) (lt stick k104) n))) tt tt in
+    let s = in-more (at 104) (at 8200) (raise (most-in S tt) i104 (lt-not 1 stick k104 (S .whole) (i104 .whole) (nor-r (lt face k122) (lt stick k104) n))) tt tt in
     let rowY = sub-in (sub-in H i4 tt) i48 tt in
     let stickY = sub-in (sub-in rowY i8 tt) s tt in
     let faceY = sub-in (sub-in stickY i8 tt) f tt in
     let above = sub-in faceY i8 tt in
     let high = sub-in above i48 tt in
-    let shoulderY = raise high i18 (lt-not 1 (r .shouldery) toolbarHeight (high .whole) (i18 .whole) (n .0)) in
+    let shoulderY = raise high i18 (lt-not 1 (r .shouldery) toolbarHeight (high .whole) (i18 .whole) (nor-l tight small t)) in
     record {
       w = W;
       face = f;
