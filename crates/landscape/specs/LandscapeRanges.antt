@@ -16,7 +16,7 @@ use Rattle.layout.specs.declared.Layout.{Layout}
 use Rattle.layout.specs.Actions.{joinOf, actionBoundsOf}
 use Rattle.layout.specs.ActionLaws.{action-bounds}
 use Rattle.layout.specs.Label.{isFaceOf}
-use Rattle.layout.specs.Layout.{anyRect, controlList, elementsOf}
+use Rattle.layout.specs.Layout.{anyRect, controlList}
 use Rattle.layout.specs.Lists.{mapFirst, filterMap, reduce}
 use Rattle.numerics.specs.Value.{AtMost}
 use Rattle.numerics.specs.Rects.{Area, Element, OnScreen, maxArea, maxCorner, maxSide}
@@ -28,7 +28,7 @@ use Rattle.numerics.specs.Ranges.{in-more, most-in, add-in, sub-in, sub-back, d
 use Rattle.numerics.specs.Literals.{i0, i0·5, i1, i4, i8, i16, i18, i24, i48, i64, i72, i104, i120, i122, f2}
 use Rattle.numerics.specs.Shrunk.{shrunkMargin}
 use Rattle.search.specs.Bounded.{Every, Bounded, BoundedGame}
-use Rattle.search.specs.Widest.{Widest, centredWidth}
+use Rattle.search.specs.Widest.{WidestGame}
 use Rattle.search.proofs.Changes.{each-mapFirst, every-imp, dpad-in, controls-in, sticks-in}
 use Rattle.search.proofs.Layouts.{place-bounded, place-game-in, place-widest}
 use Rattle.search.proofs.Placement.{each-filter}
@@ -40,10 +40,6 @@ use Rattle.moves.specs.Moves.{movedOf}
 use Rattle.landscape.specs.declared.Row.{Row}
 use Rattle.landscape.specs.Landscape.{measureRowOf, tightOf, placeOf, inRow, rowSticksOf, rowedOf, rowOf, fitLandscapeControlsOf}
 use Rattle.landscape.specs.LandscapeLaws.{landscape-case}
-
--- demand 3, of a layout's own game
-abbrev pub WidestGame : ℕ → ℕ → Rect → Float → Layout → Type 0
-WidestGame p q picture aspect l = Widest p q (elementsOf l) picture (centredWidth (elementsOf l) picture aspect) (l .game)
 
 -- an element of the layout
 abbrev Old : Rect → Type 0
