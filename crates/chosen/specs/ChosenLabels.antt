@@ -13,6 +13,7 @@ use Rattle.geometry.specs.Choice.{either}
 use Rattle.layout.specs.declared.Layout.{Layout}
 use Rattle.layout.specs.Actions.{actionElementsOf}
 use Rattle.layout.specs.Labels.{Formed}
+use Rattle.numerics.specs.Bounds.{or-r}
 use Rattle.search.specs.declared.Offset.{Offset}
 use Rattle.search.specs.Search.{centred, placeGameInAspectOf}
 use Rattle.toolbar.specs.Toolbar.{anchorToolbarOf, reusableTop}
@@ -74,19 +75,21 @@ module _ (w h : Float) (area : Rect) (cutouts : List Rect) where
   beside-mode true psp l f = rails-mode psp _ (found-case (OfMode true psp) _ f (band-formed w h true psp area)) w h cutouts area
   beside-mode false psp l f = found-case (OfMode false psp) _ f (band-formed w h false psp area)
 
-  module _ (analog psp : Bool) (k : T psp → T analog) (first : Layout) (f : OfMode analog psp first) where
-    pub around-mode : OfMode analog psp (aroundOf first w h area cutouts analog psp)
-    unfolding aroundOf
-    around-mode = found-case (OfMode analog psp) _ f (controls-formed w h (largestOf area (aspectOf psp)) analog psp cutouts k)
+  around-mode : (analog psp : Bool) → (T psp → T analog) → (l : Layout) → OfMode analog psp l → OfMode analog psp (aroundOf l w h area cutouts analog psp)
+  unfolding aroundOf
+  around-mode analog psp k l f = found-case (OfMode analog psp) _ f (controls-formed w h (largestOf area (aspectOf psp)) analog psp cutouts k)
 
-    pub arrangement-mode : (maximum free : Bool) → OfMode analog psp (arrangementOf maximum free first w h area cutouts analog psp)
-    unfolding arrangementOf
-    arrangement-mode maximum free = either (OfMode analog psp) free (either (OfMode analog psp) maximum around-mode (beside-mode analog psp first f)) f
-
-module _ (w h : Float) (cutouts : List Rect) (picture : Rect) where
-  pub first-mode : (psp analog maximum : Bool) → OfMode (analog || psp) psp (firstOf psp analog maximum w h cutouts picture)
+module _ (w h : Float) (cutouts : List Rect) (picture : Rect) (psp analog maximum : Bool) where
+  pub first-mode : OfMode (analog || psp) psp (firstOf psp analog maximum w h cutouts picture)
   unfolding firstOf
-  first-mode psp analog maximum =
+  first-mode =
       let start = startOf psp analog w h cutouts picture in
       let f = start-mode w h cutouts picture psp analog in
       either (OfMode (analog || psp) psp) maximum (anchor-mode (analog || psp) psp start f w h (reusableTop picture) k0 cutouts) f
+
+  pub arrangement-mode : (area : Rect) (free : Bool) → OfMode (analog || psp) psp (arrangementOf maximum free (firstOf psp analog maximum w h cutouts picture) w h area cutouts (analog || psp) psp)
+  unfolding arrangementOf
+  arrangement-mode area free =
+      let sticks = analog || psp in
+      let first = firstOf psp analog maximum w h cutouts picture in
+      either (OfMode sticks psp) free (either (OfMode sticks psp) maximum (around-mode w h area cutouts sticks psp (or-r analog psp) first first-mode) (beside-mode w h area cutouts sticks psp first first-mode)) first-mode

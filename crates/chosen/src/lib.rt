@@ -32,7 +32,7 @@ use toolbar::anchor_toolbar;
 
 fn start(psp: bool, analog: bool, w: f32, h: f32, cutouts: Cutouts, picture: Rect) -> Layout
     requires { ⌜ cutouts .count ≤ 16 ⌝ }
-    ensures { λ r. ⌜ (r ≡ startOf psp analog w h (cutoutList cutouts) picture) × OfMode (analog || psp) psp r ⌝ }
+    ensures { λ r. ⌜ r ≡ startOf psp analog w h (cutoutList cutouts) picture ⌝ }
 {
     if psp {
         return defaults::psp(w, h);
@@ -150,7 +150,7 @@ fn first(
     picture: Rect,
 ) -> Layout
     requires { ⌜ cutouts .count ≤ 16 ⌝ }
-    ensures { λ r. ⌜ (r ≡ firstOf psp analog maximum w h (cutoutList cutouts) picture) × OfMode (analog || psp) psp r ⌝ }
+    ensures { λ r. ⌜ r ≡ firstOf psp analog maximum w h (cutoutList cutouts) picture ⌝ }
 {
     let layout = start(psp, analog, w, h, cutouts, picture);
     if maximum {
@@ -205,7 +205,7 @@ pub fn arrangement(
     area: Rect,
 ) -> Layout
     requires { ⌜ cutouts .count ≤ 16 ⌝ }
-    ensures { λ r. ⌜ (r ≡ arrangementOf maximum free (firstOf psp analog maximum w h (cutoutList cutouts) picture) w h area (cutoutList cutouts) (analog || psp) psp) × OfMode (analog || psp) psp r ⌝ }
+    ensures { λ r. ⌜ r ≡ arrangementOf maximum free (firstOf psp analog maximum w h (cutoutList cutouts) picture) w h area (cutoutList cutouts) (analog || psp) psp ⌝ }
 {
     if !free {
         return first(psp, analog, maximum, w, h, cutouts, picture);

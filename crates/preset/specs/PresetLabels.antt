@@ -9,7 +9,6 @@ use Rattle.geometry.specs.Choice.{either}
 use Rattle.layout.specs.declared.Layout.{Layout}
 use Rattle.layout.specs.LabelLaws.{set-elements-formed}
 use Rattle.layout.specs.Layout.{elementsOf}
-use Rattle.numerics.specs.Bounds.{or-r}
 use Rattle.settings.specs.declared.Preset.{Preset}
 use Rattle.settings.specs.declared.Settings.{Settings}
 use Rattle.settings.specs.Settings.{savedList}
@@ -20,8 +19,8 @@ use Rattle.band.specs.Band.{aspectOf}
 use Rattle.band.specs.BandLabels.{bandLabels, bandSticks}
 use Rattle.cutouts.specs.Cutouts.{avoidCutoutsOf}
 use Rattle.landscape.specs.LandscapeLaws.{landscape-formed}
-use Rattle.chosen.specs.ChosenLabels.{OfMode, Few, few, anchor-mode, place-mode, avoid-mode, arrangement-mode, first-mode}
-use Rattle.preset.specs.PresetCases.{firstFor, areaFor, arrangementFor, placedFor, laid-out-case}
+use Rattle.chosen.specs.ChosenLabels.{OfMode, Few, few, anchor-mode, place-mode, avoid-mode, arrangement-mode}
+use Rattle.preset.specs.PresetCases.{areaFor, arrangementFor, placedFor, laid-out-case}
 use Rattle.preset.specs.Preset.{settledOf, maximumOf, freeOf, hasSticks, laidOutOf, layoutInOf, viewportLayoutOf, settingsLayoutOf, settingsViewportOf}
 
 pub saved-mode : (analog psp : Bool) (l : Layout) → OfMode analog psp l → (w h : Float) (saved : List Rect) → OfMode analog psp (withSavedOf l w h saved)
@@ -38,9 +37,7 @@ module _ (w h : Float) (cutouts : List Rect) (picture : Rect) where
 
 module _ (p : Preset) (w h : Float) (cutouts : List Rect) (picture : Rect) where
   pub arranged-mode : OfMode (hasSticks p) (p .psp) (arrangementFor p w h cutouts picture)
-  arranged-mode =
-      arrangement-mode w h (areaFor p w h cutouts picture) cutouts (hasSticks p) (p .psp) (or-r (p .analog) (p .psp)) (firstFor p w h cutouts picture) (first-mode w h cutouts picture (p .psp) (p .analog) (maximumOf p)) (maximumOf p)
-      (freeOf p)
+  arranged-mode = arrangement-mode w h cutouts picture (p .psp) (p .analog) (maximumOf p) (areaFor p w h cutouts picture) (freeOf p)
 
   pub placed-mode : OfMode (hasSticks p) (p .psp) (placedFor p w h cutouts picture)
   placed-mode =

@@ -36,7 +36,7 @@ fn settled(
     psp: bool,
 ) -> Layout
     requires { ⌜ (cutouts .count ≤ 16) × ((n ≤ 32) × OfMode analog psp arrangement) ⌝ }
-    ensures { λ r. ⌜ (r ≡ settledOf arrangement w h picture (cutoutList cutouts) (take n saved)) × OfMode analog psp r ⌝ }
+    ensures { λ r. ⌜ r ≡ settledOf arrangement w h picture (cutoutList cutouts) (take n saved) ⌝ }
 {
     let layout = with_saved(arrangement, w, h, saved, n);
     let clear = avoid_cutouts(layout, w, h, cutouts);
