@@ -4,7 +4,7 @@ use mathlib.Core.List.{List, []}
 use native.Mathlib.Omega.{arith}
 use lib.Dec.{T}
 use lib.Ieee.{Float, lt}
-use Rattle.float.specs.Float.{_⊖_, _⊗_, _⊘_, k0, k1, k2, k3, k4, k48, k122, k184, k272, k480}
+use Rattle.float.specs.Float.{_⊖_, _⊗_, _⊘_, k1, k2, k3, k4, k48, k122, k184, k272, k480}
 use Rattle.float.specs.MinMax.{minOf}
 use Rattle.geometry.specs.declared.Rect.{Rect}
 use Rattle.geometry.specs.Choice.{either}
@@ -14,9 +14,9 @@ use Rattle.numerics.specs.Rects.{Element, Area}
 use Rattle.numerics.specs.Range.{In, at, minus}
 use Rattle.numerics.specs.Each.{Each, _&_}
 use Rattle.numerics.specs.Lists.{fold-ind}
-use Rattle.numerics.specs.Bounds.{sub-law, div-law, lt-not, le-law}
-use Rattle.numerics.specs.Ranges.{in-reach, in-more, most-in, add-in, sub-in, mul-in, div-in, min-in, cond-in, raise, placed-in}
-use Rattle.numerics.specs.Literals.{i0, i4, i8, i24, i32, i48, i52, i104, i122, i128, i156, i184, i224, i272, i480, f2, f3, f4, psp-wide}
+use Rattle.numerics.specs.Bounds.{sub-law, div-law, lt-not}
+use Rattle.numerics.specs.Ranges.{in-reach, in-more, most-in, area-side, add-in, sub-in, mul-in, div-in, min-in, cond-in, raise, placed-in}
+use Rattle.numerics.specs.Literals.{i4, i8, i24, i32, i48, i52, i104, i122, i128, i156, i184, i224, i272, i480, f2, f3, f4, psp-wide}
 use Rattle.numerics.specs.Shrunk.{signed-in, placed-shrunk}
 use Rattle.search.specs.Bounded.{Bounded, Shrunk}
 use Rattle.search.proofs.Placement.{each-filter}
@@ -59,9 +59,8 @@ right-in W F R =
 
 rail-in : {w : Float} (psp : Bool) {picture : Rect} → In w (at 1) (at 8192) → Area picture → T (not (lt (measureRailOf w picture psp) k184)) → RailIn w (measureRailOf w picture psp)
 unfolding measureRailOf
-rail-in psp {picture} W A t =
-    let high = most-in (A .h) tt in
-    let wide = wide-in psp (raise high i0 (le-law 1 k0 (picture .h) (i0 .whole) (high .whole) (A .h0))) in
+rail-in psp W A t =
+    let wide = wide-in psp (area-side (A .h) (A .h0)) in
     let rail = in-more (minus 8193) (at 4097) (div-in (sub-in W wide tt) f2 tt) tt tt in
     let room = raise rail i184 (lt-not 1 _ k184 (rail .whole) (i184 .whole) t) in
     record { width = room; right = right-in W wide room }

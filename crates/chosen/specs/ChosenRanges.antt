@@ -13,7 +13,7 @@ use Rattle.layout.specs.declared.Layout.{Layout}
 use Rattle.numerics.specs.Rects.{Element, Area}
 use Rattle.numerics.specs.Range.{In, at}
 use Rattle.numerics.specs.Each.{Each}
-use Rattle.numerics.specs.Ranges.{in-more}
+use Rattle.numerics.specs.Ranges.{in-more, area-side}
 use Rattle.search.specs.Bounded.{Bounded, Shrunk}
 use Rattle.search.proofs.Changes.{shrunk-bounded, arranged-shrunk, anchored-shrunk}
 use Rattle.search.proofs.Layouts.{place-bounded}
@@ -30,7 +30,7 @@ use Rattle.picture.specs.PictureRanges.{controls-in}
 use Rattle.chosen.specs.Chosen.{startOf, aroundOf, besideOf, firstOf, areaOf, arrangementOf}
 use Rattle.chosen.specs.ChosenCases.{found-case, beside-case}
 use Rattle.chosen.specs.ChosenLabels.{OfMode, few}
-use Rattle.chosen.specs.MaximumRanges.{largest-in, sized, below-toolbar-in}
+use Rattle.chosen.specs.MaximumRanges.{largest-in, below-toolbar-in}
 
 -- a layout's arrays hold what is counted
 pub record Holds (l : Layout) : Type 0 where
@@ -62,7 +62,7 @@ module _ {w h : Float} (W : In w (at 1) (at 8192)) (H : In h (at 1) (at 8192)) w
       unfolding startOf
       start-in true analog = psp-default-in W H
       start-in false true = analog-in W H
-      start-in false false = arranged-shrunk (default-in cutouts wide high O A (sized (A .h) (A .h0)))
+      start-in false false = arranged-shrunk (default-in cutouts wide high O A (area-side (A .h) (A .h0)))
 
       pub first-in : (psp analog maximum : Bool) → Shrunk (firstOf psp analog maximum w h cutouts picture)
       unfolding firstOf

@@ -268,6 +268,10 @@ neg-in {x} {a} {b} i t =
     let l = times-sub eps (limit + limit) a (leb→le a (limit + limit) (and-l (leb a (limit + limit)) (leb b (limit + limit)) t)) in
     record { whole = neg-whole x (i .whole); lo = omega (arith, i .hi, v, k); hi = omega (arith, i .lo, v, l) }
 
+-- ---- a side of a picture's area
+pub area-side : {x : Float} → AtMost x maxArea → T (le k0 x) → In x (at 0) (at 8192)
+area-side {x} m t = raise (most-in m tt) (most-in zero-most tt) (le-law 1 k0 x (zero-most .whole) (m .whole) t)
+
 -- ---- a rectangle by the ranges of its numbers
 pub element-in : {x y w h : Float} {a b a' b' c d c' d' : ℕ} → In x a b → In y a' b' → In w c d → In h c' d'
     → T ((small maxCorner a b && small maxCorner a' b') && (small maxSide c d && small maxSide c' d')) → Element (newOf x y w h)
