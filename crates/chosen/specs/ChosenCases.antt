@@ -25,15 +25,15 @@ module _ (w h : Float) (picture : Rect) (cutouts : List Rect) (psp : Bool) where
   abbrev pub cleared : Layout → Layout
   cleared l = placeGameInAspectOf (avoidCutoutsOf l w h cutouts) picture false k1 centred (aspectOf psp)
 
-  pub rails-case : (C : Layout → Type 0) (l : Layout) → C l → C (cleared l) → Given C (analogCameraRailsOf w h picture cutouts psp) → C (tryRailsOf l w h picture cutouts psp)
+  rails-case : (C : Layout → Type 0) (l : Layout) → C l → C (cleared l) → Given C (analogCameraRailsOf w h picture cutouts psp) → C (tryRailsOf l w h picture cutouts psp)
   unfolding tryRailsOf
   rails-case C l p q r = maybe-case (λ o. C (comparedOf l (cleared l) o)) _ p (λ m e. either C (railsWinOf m (cleared l)) (r m e) q)
 
   -- D of the layout that the rails are compared with
   pub beside-case : (C D : Layout → Type 0) → ((m : Layout) → D m → C m) → ((m : Layout) → D m → C (cleared m)) → (analog : Bool) {l : Layout} → D l
-      → Given D (controllerBandOf w h analog psp picture) → Given C (analogCameraRailsOf w h picture cutouts psp) → C (besideOf l w h picture cutouts analog psp)
+      → Given D (controllerBandOf w h analog psp picture) → (analog ≡ true → Given C (analogCameraRailsOf w h picture cutouts psp)) → C (besideOf l w h picture cutouts analog psp)
   unfolding besideOf
-  beside-case C D f g true p q r = let banded = found-case D _ p q in rails-case C _ (f _ banded) (g _ banded) r
+  beside-case C D f g true p q r = let banded = found-case D _ p q in rails-case C _ (f _ banded) (g _ banded) (r refl)
   beside-case C D f g false p q r = f _ (found-case D _ p q)
 
 -- the game gets the whole picture's area, but under Maximum

@@ -24,8 +24,8 @@ use Rattle.cutouts.specs.Cutouts.{avoidCutoutsOf}
 use Rattle.cutouts.specs.CutoutLaws.{face-count}
 use Rattle.camera_rails.specs.CameraLabels.{avoid-formed, camera-rails-formed}
 use Rattle.picture.specs.PictureLabels.{controls-formed}
-use Rattle.chosen.specs.Chosen.{startOf, largestOf, aroundOf, tryRailsOf, besideOf, firstOf, arrangementOf}
-use Rattle.chosen.specs.ChosenCases.{found-case, rails-case}
+use Rattle.chosen.specs.Chosen.{startOf, largestOf, aroundOf, besideOf, firstOf, arrangementOf}
+use Rattle.chosen.specs.ChosenCases.{found-case, beside-case}
 
 -- a layout of a mode: its labels, its sticks, and arrays of 12 and 2
 abbrev pub OfMode : Bool → Bool → Layout → Type 0
@@ -63,17 +63,11 @@ module _ (analog psp : Bool) (l : Layout) (f : OfMode analog psp l) where
   pub avoid-mode : (w h : Float) (cutouts : List Rect) → OfMode analog psp (avoidCutoutsOf l w h cutouts)
   avoid-mode w h cutouts = let n = few analog psp l f in avoid-formed (bandLabels analog psp) (bandSticks analog psp) w h l (n .count) (n .stickcount) cutouts f
 
-module _ (psp : Bool) (l : Layout) (f : OfMode true psp l) (w h : Float) (cutouts : List Rect) (picture : Rect) where
-  pub rails-mode : OfMode true psp (tryRailsOf l w h picture cutouts psp)
-  rails-mode =
-      let clear = place-mode true psp (avoidCutoutsOf l w h cutouts) (avoid-mode true psp l f w h cutouts) picture false k1 centred (aspectOf psp) in
-      rails-case w h picture cutouts psp (OfMode true psp) l f clear (camera-rails-formed w h picture cutouts psp)
-
 module _ (w h : Float) (area : Rect) (cutouts : List Rect) where
-  pub beside-mode : (analog psp : Bool) (l : Layout) → OfMode analog psp l → OfMode analog psp (besideOf l w h area cutouts analog psp)
-  unfolding besideOf
-  beside-mode true psp l f = rails-mode psp _ (found-case (OfMode true psp) _ f (band-formed w h true psp area)) w h cutouts area
-  beside-mode false psp l f = found-case (OfMode false psp) _ f (band-formed w h false psp area)
+  beside-mode : (analog psp : Bool) (l : Layout) → OfMode analog psp l → OfMode analog psp (besideOf l w h area cutouts analog psp)
+  beside-mode analog psp l f =
+      beside-case w h area cutouts psp (OfMode analog psp) (OfMode analog psp) (λ m g. g) (λ m g. place-mode analog psp _ (avoid-mode analog psp m g w h cutouts) area false k1 centred (aspectOf psp)) analog f
+      (band-formed w h analog psp area) (λ t. rw t (camera-rails-formed w h area cutouts psp))
 
   around-mode : (analog psp : Bool) → (T psp → T analog) → (l : Layout) → OfMode analog psp l → OfMode analog psp (aroundOf l w h area cutouts analog psp)
   unfolding aroundOf

@@ -73,7 +73,7 @@ module _ {w h : Float} (W : In w (at 1) (at 8192)) (H : In h (at 1) (at 8192)) w
         beside-bounded =
             beside-case w h picture cutouts psp Bounded (λ m. Shrunk m × OfMode analog psp m) (λ m d. shrunk-bounded (d .0))
             (λ m d. place-bounded (avoid-in cutouts m (holds analog psp m (d .1)) (shrunk-bounded (d .0))) picture false k1 centred (aspectOf psp)) analog (F, f)
-            (λ m e. (arranged-shrunk (band-in analog psp wide high A m e), band-formed w h analog psp picture m e)) (camera-bounded W H A psp cutouts O)
+            (λ m e. (arranged-shrunk (band-in analog psp wide high A m e), band-formed w h analog psp picture m e)) (λ t. camera-bounded W H A psp cutouts O)
 
         pub arrangement-bounded : (maximum free : Bool) → Bounded (arrangementOf maximum free first w h (areaOf maximum first picture) cutouts analog psp)
         unfolding arrangementOf areaOf aroundOf
@@ -86,7 +86,7 @@ module _ {w h : Float} (W : In w (at 1) (at 8192)) (H : In h (at 1) (at 8192)) w
     beside-in : (analog psp : Bool) {first : Layout} → Shrunk first → Shrunk (besideOf first w h picture [] analog psp)
     unfolding avoidCutoutsOf
     beside-in analog psp F =
-        beside-case w h picture [] psp Shrunk Shrunk (λ m d. d) (λ m d. place-bounded d picture false k1 centred (aspectOf psp)) analog F (λ m e. arranged-shrunk (band-in analog psp wide high A m e)) (camera-in W H A psp)
+        beside-case w h picture [] psp Shrunk Shrunk (λ m d. d) (λ m d. place-bounded d picture false k1 centred (aspectOf psp)) analog F (λ m e. arranged-shrunk (band-in analog psp wide high A m e)) (λ t. camera-in W H A psp)
 
     pub arrangement-in : (analog psp maximum free : Bool) {first : Layout} → T (not maximum) → Shrunk first → Shrunk (arrangementOf maximum free first w h (areaOf maximum first picture) [] analog psp)
     unfolding arrangementOf areaOf
