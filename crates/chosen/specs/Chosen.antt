@@ -70,12 +70,12 @@ tryRailsOf layout w h picture cutouts psp =
     comparedOf layout clear (analogCameraRailsOf w h picture cutouts psp)
 
 -- The band, too, replaces the layout with no comparison.
-unfoldable pub besideOf : Layout → Float → Float → Rect → List Rect → Bool → Bool → Layout
-besideOf layout w h picture cutouts analog psp =
+unfoldable pub bandOrRailsOf : Layout → Float → Float → Rect → List Rect → Bool → Bool → Layout
+bandOrRailsOf layout w h picture cutouts analog psp =
     let banded = foundOr layout (controllerBandOf w h analog psp picture) in
     cond analog (tryRailsOf banded w h picture cutouts psp) banded
 
--- ---- the steps; maximum: the fit is Maximum; free: nothing was saved and no overlap asked for, so that other arrangements may be tried
+-- ---- the steps; maximum: the fit is Maximum; plain: nothing was saved and no overlap asked for, so that other arrangements may be tried
 
 -- the layout at first, with the toolbar in its row above a Maximum picture
 unfoldable pub firstOf : Bool → Bool → Bool → Float → Float → List Rect → Rect → Layout
@@ -89,5 +89,5 @@ areaOf maximum first picture = cond maximum (belowToolbarOf first picture) pictu
 
 -- the arrangement for that area, or the layout as it was
 unfoldable pub arrangementOf : Bool → Bool → Layout → Float → Float → Rect → List Rect → Bool → Bool → Layout
-arrangementOf maximum free first w h area cutouts analog psp =
-    cond free (cond maximum (aroundOf first w h area cutouts analog psp) (besideOf first w h area cutouts analog psp)) first
+arrangementOf maximum plain first w h area cutouts analog psp =
+    cond plain (cond maximum (aroundOf first w h area cutouts analog psp) (bandOrRailsOf first w h area cutouts analog psp)) first

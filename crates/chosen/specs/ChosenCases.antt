@@ -14,7 +14,7 @@ use Rattle.arranged.specs.Found.{Given, maybe-case}
 use Rattle.band.specs.Band.{aspectOf, controllerBandOf}
 use Rattle.cutouts.specs.Cutouts.{avoidCutoutsOf}
 use Rattle.camera_rails.specs.CameraRails.{analogCameraRailsOf}
-use Rattle.chosen.specs.Chosen.{foundOr, railsWinOf, comparedOf, tryRailsOf, besideOf, areaOf}
+use Rattle.chosen.specs.Chosen.{foundOr, railsWinOf, comparedOf, tryRailsOf, bandOrRailsOf, areaOf}
 
 module _ (C : Layout → Type 0) where
   pub found-case : {l : Layout} (o : Option Layout) → C l → Given C o → C (foundOr l o)
@@ -30,11 +30,11 @@ module _ (w h : Float) (picture : Rect) (cutouts : List Rect) (psp : Bool) where
   rails-case C l p q r = maybe-case (λ o. C (comparedOf l (cleared l) o)) _ p (λ m e. either C (railsWinOf m (cleared l)) (r m e) q)
 
   -- D of the layout that the rails are compared with
-  pub beside-case : (C D : Layout → Type 0) → ((m : Layout) → D m → C m) → ((m : Layout) → D m → C (cleared m)) → (analog : Bool) {l : Layout} → D l
-      → Given D (controllerBandOf w h analog psp picture) → (analog ≡ true → Given C (analogCameraRailsOf w h picture cutouts psp)) → C (besideOf l w h picture cutouts analog psp)
-  unfolding besideOf
-  beside-case C D f g true p q r = let banded = found-case D _ p q in rails-case C _ (f _ banded) (g _ banded) (r refl)
-  beside-case C D f g false p q r = f _ (found-case D _ p q)
+  pub band-or-rails-case : (C D : Layout → Type 0) → ((m : Layout) → D m → C m) → ((m : Layout) → D m → C (cleared m)) → (analog : Bool) {l : Layout} → D l
+      → Given D (controllerBandOf w h analog psp picture) → (analog ≡ true → Given C (analogCameraRailsOf w h picture cutouts psp)) → C (bandOrRailsOf l w h picture cutouts analog psp)
+  unfolding bandOrRailsOf
+  band-or-rails-case C D f g true p q r = let banded = found-case D _ p q in rails-case C _ (f _ banded) (g _ banded) (r refl)
+  band-or-rails-case C D f g false p q r = f _ (found-case D _ p q)
 
 -- the game gets the whole picture's area, but under Maximum
 pub whole-area : (maximum : Bool) (first : Layout) (picture : Rect) → T (not maximum) → areaOf maximum first picture ≡ picture

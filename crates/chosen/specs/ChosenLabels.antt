@@ -24,8 +24,8 @@ use Rattle.cutouts.specs.Cutouts.{avoidCutoutsOf}
 use Rattle.cutouts.specs.CutoutLaws.{face-count}
 use Rattle.camera_rails.specs.CameraLabels.{avoid-formed, camera-rails-formed}
 use Rattle.picture.specs.PictureLabels.{controls-formed}
-use Rattle.chosen.specs.Chosen.{startOf, largestOf, aroundOf, besideOf, firstOf, arrangementOf}
-use Rattle.chosen.specs.ChosenCases.{found-case, beside-case}
+use Rattle.chosen.specs.Chosen.{startOf, largestOf, aroundOf, bandOrRailsOf, firstOf, arrangementOf}
+use Rattle.chosen.specs.ChosenCases.{found-case, band-or-rails-case}
 
 -- a layout of a mode: its labels, its sticks, and arrays of 12 and 2
 abbrev pub OfMode : Bool → Bool → Layout → Type 0
@@ -64,9 +64,9 @@ module _ (analog psp : Bool) (l : Layout) (f : OfMode analog psp l) where
   avoid-mode w h cutouts = let n = few analog psp l f in avoid-formed (bandLabels analog psp) (bandSticks analog psp) w h l (n .count) (n .stickcount) cutouts f
 
 module _ (w h : Float) (area : Rect) (cutouts : List Rect) where
-  beside-mode : (analog psp : Bool) (l : Layout) → OfMode analog psp l → OfMode analog psp (besideOf l w h area cutouts analog psp)
-  beside-mode analog psp l f =
-      beside-case w h area cutouts psp (OfMode analog psp) (OfMode analog psp) (λ m g. g) (λ m g. place-mode analog psp _ (avoid-mode analog psp m g w h cutouts) area false k1 centred (aspectOf psp)) analog f
+  band-or-rails-mode : (analog psp : Bool) (l : Layout) → OfMode analog psp l → OfMode analog psp (bandOrRailsOf l w h area cutouts analog psp)
+  band-or-rails-mode analog psp l f =
+      band-or-rails-case w h area cutouts psp (OfMode analog psp) (OfMode analog psp) (λ m g. g) (λ m g. place-mode analog psp _ (avoid-mode analog psp m g w h cutouts) area false k1 centred (aspectOf psp)) analog f
       (band-formed w h analog psp area) (λ t. rw t (camera-rails-formed w h area cutouts psp))
 
   around-mode : (analog psp : Bool) → (T psp → T analog) → (l : Layout) → OfMode analog psp l → OfMode analog psp (aroundOf l w h area cutouts analog psp)
@@ -81,9 +81,9 @@ module _ (w h : Float) (cutouts : List Rect) (picture : Rect) (psp analog maximu
       let f = start-mode w h cutouts picture psp analog in
       either (OfMode (analog || psp) psp) maximum (anchor-mode (analog || psp) psp start f w h (reusableTop picture) k0 cutouts) f
 
-  pub arrangement-mode : (area : Rect) (free : Bool) → OfMode (analog || psp) psp (arrangementOf maximum free (firstOf psp analog maximum w h cutouts picture) w h area cutouts (analog || psp) psp)
+  pub arrangement-mode : (area : Rect) (plain : Bool) → OfMode (analog || psp) psp (arrangementOf maximum plain (firstOf psp analog maximum w h cutouts picture) w h area cutouts (analog || psp) psp)
   unfolding arrangementOf
-  arrangement-mode area free =
+  arrangement-mode area plain =
       let sticks = analog || psp in
       let first = firstOf psp analog maximum w h cutouts picture in
-      either (OfMode sticks psp) free (either (OfMode sticks psp) maximum (around-mode w h area cutouts sticks psp (or-r analog psp) first first-mode) (beside-mode w h area cutouts sticks psp first first-mode)) first-mode
+      either (OfMode sticks psp) plain (either (OfMode sticks psp) maximum (around-mode w h area cutouts sticks psp (or-r analog psp) first first-mode) (band-or-rails-mode w h area cutouts sticks psp first first-mode)) first-mode

@@ -27,8 +27,8 @@ use Rattle.cutouts.specs.Cutouts.{avoidCutoutsOf}
 use Rattle.cutouts.specs.CutoutRanges.{avoid-bounded}
 use Rattle.camera_rails.specs.CameraRanges.{camera-bounded, camera-in}
 use Rattle.picture.specs.PictureRanges.{controls-in}
-use Rattle.chosen.specs.Chosen.{startOf, aroundOf, besideOf, firstOf, areaOf, arrangementOf}
-use Rattle.chosen.specs.ChosenCases.{found-case, beside-case}
+use Rattle.chosen.specs.Chosen.{startOf, aroundOf, bandOrRailsOf, firstOf, areaOf, arrangementOf}
+use Rattle.chosen.specs.ChosenCases.{found-case, band-or-rails-case}
 use Rattle.chosen.specs.ChosenLabels.{OfMode, few}
 use Rattle.chosen.specs.MaximumRanges.{largest-in, below-toolbar-in}
 
@@ -69,26 +69,26 @@ module _ {w h : Float} (W : In w (at 1) (at 8192)) (H : In h (at 1) (at 8192)) w
       first-in psp analog maximum = let S = start-in psp analog in either Shrunk maximum (anchored-shrunk (anchored-in _ cutouts wide high (reusable-in A) O S)) S
 
       module _ (analog psp : Bool) (first : Layout) (F : Shrunk first) (f : OfMode analog psp first) where
-        beside-bounded : Bounded (besideOf first w h picture cutouts analog psp)
-        beside-bounded =
-            beside-case w h picture cutouts psp Bounded (λ m. Shrunk m × OfMode analog psp m) (λ m d. shrunk-bounded (d .0))
+        band-or-rails-bounded : Bounded (bandOrRailsOf first w h picture cutouts analog psp)
+        band-or-rails-bounded =
+            band-or-rails-case w h picture cutouts psp Bounded (λ m. Shrunk m × OfMode analog psp m) (λ m d. shrunk-bounded (d .0))
             (λ m d. place-bounded (avoid-in cutouts m (holds analog psp m (d .1)) (shrunk-bounded (d .0))) picture false k1 centred (aspectOf psp)) analog (F, f)
             (λ m e. (arranged-shrunk (band-in analog psp wide high A m e), band-formed w h analog psp picture m e)) (λ t. camera-bounded W H A psp cutouts O)
 
-        pub arrangement-bounded : (maximum free : Bool) → Bounded (arrangementOf maximum free first w h (areaOf maximum first picture) cutouts analog psp)
+        pub arrangement-bounded : (maximum plain : Bool) → Bounded (arrangementOf maximum plain first w h (areaOf maximum first picture) cutouts analog psp)
         unfolding arrangementOf areaOf aroundOf
-        arrangement-bounded true free =
+        arrangement-bounded true plain =
             let L = shrunk-bounded F in
-            either Bounded free (found-case Bounded _ L (controls-in W H analog psp cutouts (largest-in psp (below-toolbar-in F A)))) L
-        arrangement-bounded false free = either Bounded free beside-bounded (shrunk-bounded F)
+            either Bounded plain (found-case Bounded _ L (controls-in W H analog psp cutouts (largest-in psp (below-toolbar-in F A)))) L
+        arrangement-bounded false plain = either Bounded plain band-or-rails-bounded (shrunk-bounded F)
 
     -- ---- with no cutouts no element moves
-    beside-in : (analog psp : Bool) {first : Layout} → Shrunk first → Shrunk (besideOf first w h picture [] analog psp)
+    band-or-rails-in : (analog psp : Bool) {first : Layout} → Shrunk first → Shrunk (bandOrRailsOf first w h picture [] analog psp)
     unfolding avoidCutoutsOf
-    beside-in analog psp F =
-        beside-case w h picture [] psp Shrunk Shrunk (λ m d. d) (λ m d. place-bounded d picture false k1 centred (aspectOf psp)) analog F (λ m e. arranged-shrunk (band-in analog psp wide high A m e)) (λ t. camera-in W H A psp)
+    band-or-rails-in analog psp F =
+        band-or-rails-case w h picture [] psp Shrunk Shrunk (λ m d. d) (λ m d. place-bounded d picture false k1 centred (aspectOf psp)) analog F (λ m e. arranged-shrunk (band-in analog psp wide high A m e)) (λ t. camera-in W H A psp)
 
-    pub arrangement-in : (analog psp maximum free : Bool) {first : Layout} → T (not maximum) → Shrunk first → Shrunk (arrangementOf maximum free first w h (areaOf maximum first picture) [] analog psp)
+    pub arrangement-in : (analog psp maximum plain : Bool) {first : Layout} → T (not maximum) → Shrunk first → Shrunk (arrangementOf maximum plain first w h (areaOf maximum first picture) [] analog psp)
     unfolding arrangementOf areaOf
-    arrangement-in analog psp true free t F = absurd t
-    arrangement-in analog psp false free t F = either Shrunk free (beside-in analog psp F) F
+    arrangement-in analog psp true plain t F = absurd t
+    arrangement-in analog psp false plain t F = either Shrunk plain (band-or-rails-in analog psp F) F

@@ -14,7 +14,7 @@ use Rattle.saved.specs.Saved.{isEmpty}
 use Rattle.band.specs.Band.{aspectOf}
 use Rattle.landscape.specs.Landscape.{fitLandscapeControlsOf}
 use Rattle.chosen.specs.Chosen.{firstOf, areaOf, arrangementOf}
-use Rattle.preset.specs.Preset.{settledOf, maximumOf, freeOf, hasSticks, rowAllowedOf, laidOutOf}
+use Rattle.preset.specs.Preset.{settledOf, maximumOf, plainOf, hasSticks, rowAllowedOf, laidOutOf}
 
 -- ---- the layout after each step
 module _ (p : Preset) (w h : Float) (cutouts : List Rect) (picture : Rect) where
@@ -25,7 +25,7 @@ module _ (p : Preset) (w h : Float) (cutouts : List Rect) (picture : Rect) where
   areaFor = areaOf (maximumOf p) firstFor picture
 
   abbrev pub arrangementFor : Layout
-  arrangementFor = arrangementOf (maximumOf p) (freeOf p) firstFor w h areaFor cutouts (hasSticks p) (p .psp)
+  arrangementFor = arrangementOf (maximumOf p) (plainOf p) firstFor w h areaFor cutouts (hasSticks p) (p .psp)
 
   abbrev pub settledFor : Layout
   settledFor = settledOf arrangementFor w h picture cutouts (savedList p)
@@ -48,10 +48,10 @@ unfolding rowAllowedOf
 row-allowed p cutouts t =
     let last : Bool = untouchedOf p && isEmpty cutouts in
     let tests : Bool = not (maximumOf p) && last in
-    let u = and-r (hasSticks p) (freeOf p && tests) t in
-    let v = and-r (freeOf p) tests u in
+    let u = and-r (hasSticks p) (plainOf p && tests) t in
+    let v = and-r (plainOf p) tests u in
     record {
-      saved = and-l (isEmpty (savedList p)) (not (p .overlap)) (and-l (freeOf p) tests u);
+      saved = and-l (isEmpty (savedList p)) (not (p .overlap)) (and-l (plainOf p) tests u);
       fit = and-l (not (maximumOf p)) last v;
       clear = and-r (untouchedOf p) (isEmpty cutouts) (and-r (not (maximumOf p)) last v);
     }

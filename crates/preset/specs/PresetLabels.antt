@@ -21,7 +21,7 @@ use Rattle.cutouts.specs.Cutouts.{avoidCutoutsOf}
 use Rattle.landscape.specs.LandscapeLaws.{landscape-formed}
 use Rattle.chosen.specs.ChosenLabels.{OfMode, Few, few, anchor-mode, place-mode, avoid-mode, arrangement-mode}
 use Rattle.preset.specs.PresetCases.{areaFor, arrangementFor, placedFor, laid-out-case}
-use Rattle.preset.specs.Preset.{settledOf, maximumOf, freeOf, hasSticks, laidOutOf, layoutInOf, viewportLayoutOf, settingsLayoutOf, settingsViewportOf}
+use Rattle.preset.specs.Preset.{settledOf, maximumOf, plainOf, hasSticks, laidOutOf, layoutInOf, viewportLayoutOf, settingsLayoutOf, settingsViewportOf}
 
 pub saved-mode : (analog psp : Bool) (l : Layout) → OfMode analog psp l → (w h : Float) (saved : List Rect) → OfMode analog psp (withSavedOf l w h saved)
 unfolding withSavedOf
@@ -37,7 +37,7 @@ module _ (w h : Float) (cutouts : List Rect) (picture : Rect) where
 
 module _ (p : Preset) (w h : Float) (cutouts : List Rect) (picture : Rect) where
   pub arranged-mode : OfMode (hasSticks p) (p .psp) (arrangementFor p w h cutouts picture)
-  arranged-mode = arrangement-mode w h cutouts picture (p .psp) (p .analog) (maximumOf p) (areaFor p w h cutouts picture) (freeOf p)
+  arranged-mode = arrangement-mode w h cutouts picture (p .psp) (p .analog) (maximumOf p) (areaFor p w h cutouts picture) (plainOf p)
 
   pub placed-mode : OfMode (hasSticks p) (p .psp) (placedFor p w h cutouts picture)
   placed-mode =

@@ -36,7 +36,7 @@ use Rattle.chosen.specs.ChosenCases.{whole-area}
 use Rattle.chosen.specs.ChosenLabels.{OfMode, anchor-mode, first-mode}
 use Rattle.chosen.specs.MaximumRanges.{shape, lowered-game-in, below-toolbar-in}
 use Rattle.chosen.specs.ChosenRanges.{Holds, holds, wide, high, avoid-in, first-in, arrangement-bounded, arrangement-in}
-use Rattle.preset.specs.Preset.{settledOf, maximumOf, freeOf, hasSticks, rowAllowedOf, laidOutOf, layoutInOf, viewportLayoutOf, settingsLayoutOf}
+use Rattle.preset.specs.Preset.{settledOf, maximumOf, plainOf, hasSticks, rowAllowedOf, laidOutOf, layoutInOf, viewportLayoutOf, settingsLayoutOf}
 use Rattle.preset.specs.PresetCases.{firstFor, settledFor, placedFor, laid-out-case, RowAllowed, row-allowed}
 use Rattle.preset.specs.PresetLabels.{saved-mode, arranged-mode, placed-mode, layout-mode}
 
@@ -63,7 +63,7 @@ module _ {w h : Float} (W : In w (at 1) (at 8192)) (H : In h (at 1) (at 8192)) {
   row-in p cutouts O t = go cutouts O (row-allowed p cutouts t)
     where
       go : (cutouts : List Rect) → Each Element cutouts → RowAllowed p cutouts → Every (OnScreen shrunkMargin) Element (placedFor p w h cutouts picture)
-      go [] O a = place-bounded (settled-in (savedList p) (a .saved) (arrangement-in W H A (hasSticks p) (p .psp) (maximumOf p) (freeOf p) (a .fit) (first-in W H A [] tt (p .psp) (p .analog) (maximumOf p)))) _ _ _ _ _
+      go [] O a = place-bounded (settled-in (savedList p) (a .saved) (arrangement-in W H A (hasSticks p) (p .psp) (maximumOf p) (plainOf p) (a .fit) (first-in W H A [] tt (p .psp) (p .analog) (maximumOf p)))) _ _ _ _ _
       go (c ∷ cs) O a = absurd (not-empty c cs (a .clear))
 
   -- ---- the layout
@@ -73,7 +73,7 @@ module _ {w h : Float} (W : In w (at 1) (at 8192)) (H : In h (at 1) (at 8192)) {
         let first = firstFor p w h cutouts picture in
         let F = first-in W H A cutouts O (p .psp) (p .analog) (maximumOf p) in
         let f = first-mode w h cutouts picture (p .psp) (p .analog) (maximumOf p) in
-        settled-bounded cutouts O (hasSticks p) (p .psp) _ (arranged-mode p w h cutouts picture) (arrangement-bounded W H A cutouts O (hasSticks p) (p .psp) first F f (maximumOf p) (freeOf p)) (savedList p)
+        settled-bounded cutouts O (hasSticks p) (p .psp) _ (arranged-mode p w h cutouts picture) (arrangement-bounded W H A cutouts O (hasSticks p) (p .psp) first F f (maximumOf p) (plainOf p)) (savedList p)
 
     pub placed-holds : Holds (placedFor p w h cutouts picture)
     placed-holds = holds (hasSticks p) (p .psp) (placedFor p w h cutouts picture) (placed-mode p w h cutouts picture)

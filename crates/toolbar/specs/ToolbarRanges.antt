@@ -27,7 +27,7 @@ use Rattle.numerics.specs.Literals.{i0, i0·01, i1, i1·4, i8, i18, i28, i40, f
 use Rattle.search.specs.Bounded.{Every, Bounded}
 use Rattle.search.proofs.Placement.{all-four}
 use Rattle.search.proofs.Layouts.{bounds-in}
-use Rattle.toolbar.specs.Toolbar.{besideOf, roomOf, belowOf, moved, pass, pairOf, avoidedOf, anchorToolbarOf, reusableTop}
+use Rattle.toolbar.specs.Toolbar.{candidateOf, roomOf, belowOf, moved, pass, pairOf, avoidedOf, anchorToolbarOf, reusableTop}
 
 -- what is found holds
 module _ {A B : Type 0} (C : B → Type 0) (D : A → Type 0) (p : A → Bool) (hit : A → B) (none : B) (found : (x : A) → D x → T (p x) → C (hit x)) (otherwise : C none) where
@@ -44,9 +44,9 @@ record BarIn (bar : Rect) : Type 0 where
 
 module _ (left : Bool) {w h : Float} (W : In w (at 0) (at 8192)) (H : In h (at 0) (at 8192)) (obstacles : List Rect) where
   -- it is at least 0 and ends within the screen
-  beside-in : (bar c : Rect) → BarIn bar → Element c → T (roomOf (besideOf bar left c) left w) → BarIn (besideOf bar left c)
-  unfolding besideOf roomOf
-  beside-in bar c B E t =
+  candidate-in : (bar c : Rect) → BarIn bar → Element c → T (roomOf (candidateOf bar left c) left w) → BarIn (candidateOf bar left c)
+  unfolding candidateOf roomOf
+  candidate-in bar c B E t =
       let x = most-in (E .x) tt in
       let s : Float = cond left (c .x ⊕ c .w ⊕ k8) (c .x ⊖ bar .w ⊖ k8) in
       let r = and-three (le k0 s) (le (s ⊕ bar .w) w) (cond left (le (s ⊕ bar .w) (w ⊘ k2)) (le (w ⊘ k2) s)) t in
@@ -66,9 +66,9 @@ module _ (left : Bool) {w h : Float} (W : In w (at 0) (at 8192)) (H : In h (at 0
   moved-bar : (bar c : Rect) → BarIn bar → Element c → T (overlapsOf bar c) → BarIn (moved left w h obstacles bar c)
   unfolding moved
   moved-bar bar c B E t =
-      let r : Bool = roomOf (besideOf bar left c) left w in
-      let f : Bool = not (anyOf (overlapsOf (besideOf bar left c)) obstacles) in
-      by-test BarIn (r && f) (λ s. beside-in bar c B E (and-l r f s)) (λ s. below-in bar c B E t)
+      let r : Bool = roomOf (candidateOf bar left c) left w in
+      let f : Bool = not (anyOf (overlapsOf (candidateOf bar left c)) obstacles) in
+      by-test BarIn (r && f) (λ s. candidate-in bar c B E (and-l r f s)) (λ s. below-in bar c B E t)
 
   pass-in : Each Element obstacles → (turns : ℕ) (bar : Rect) → BarIn bar → BarIn (pass left w h obstacles turns bar)
   unfolding pass

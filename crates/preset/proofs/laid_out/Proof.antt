@@ -34,7 +34,7 @@ returns c =
     let s = c .before .before .before .before .before .before .before .before .before .before in
     let a = s .before .before .before .before .args in
     let area = same-area (a .w) (a .h) (cutoutList (a .cutouts)) (a .picture) (a .p .psp) (a .p .analog) (s .before .is-maximum .result) in
-    rw (← s .free .ensures, ← s .before .before .picture-fit .ensures, ← s .before .is-maximum .ensures, area, ← c .before .before .before .before .before .before .before .before .before .area .ensures, ← c .before .before .before .before .before .before .before .before .arrangement .ensures, ← c .before .before .before .before .before .before .settled .ensures, ← c .before .before .before .before .before .aspect .ensures, ← c .before .before .before .place-game-in-aspect .ensures, ← c .before .before .row-allowed .ensures, c .before .if1 .taken) (c .fit-landscape-controls .ensures)
+    rw (← s .plain .ensures, ← s .before .before .picture-fit .ensures, ← s .before .is-maximum .ensures, area, ← c .before .before .before .before .before .before .before .before .before .area .ensures, ← c .before .before .before .before .before .before .before .before .arrangement .ensures, ← c .before .before .before .before .before .before .settled .ensures, ← c .before .before .before .before .before .aspect .ensures, ← c .before .before .before .place-game-in-aspect .ensures, ← c .before .before .row-allowed .ensures, c .before .if1 .taken) (c .fit-landscape-controls .ensures)
 
 returns-2 : tie.Need-returns-2
 unfolding laidOutOf
@@ -42,7 +42,7 @@ returns-2 c =
     let s = c .before .before .before .before .before .before .before .before .before in
     let a = s .before .before .before .before .args in
     let area = same-area (a .w) (a .h) (cutoutList (a .cutouts)) (a .picture) (a .p .psp) (a .p .analog) (s .before .is-maximum .result) in
-    rw (← s .free .ensures, ← s .before .before .picture-fit .ensures, ← s .before .is-maximum .ensures, area, ← c .before .before .before .before .before .before .before .before .area .ensures, ← c .before .before .before .before .before .before .before .arrangement .ensures, ← c .before .before .before .before .before .settled .ensures, ← c .before .before .before .before .aspect .ensures, ← c .before .before .place-game-in-aspect .ensures, ← c .before .row-allowed .ensures, c .if1 .left)
+    rw (← s .plain .ensures, ← s .before .before .picture-fit .ensures, ← s .before .is-maximum .ensures, area, ← c .before .before .before .before .before .before .before .before .area .ensures, ← c .before .before .before .before .before .before .before .arrangement .ensures, ← c .before .before .before .before .before .settled .ensures, ← c .before .before .before .before .aspect .ensures, ← c .before .before .place-game-in-aspect .ensures, ← c .before .row-allowed .ensures, c .if1 .left)
 
 pub laid-out-spec : {M : Type 1} → statement M
 laid-out-spec =
