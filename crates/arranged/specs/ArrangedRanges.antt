@@ -5,8 +5,8 @@ use lib.Ieee.{Float, lt}
 use lib.ListN.{replicate}
 use Rattle.float.specs.Float.{_⊖_, _⊘_, k0, k1, k3, k4, k16, k122}
 use Rattle.geometry.specs.declared.Rect.{Rect}
-use Rattle.geometry.specs.Rect.{newOf, emptyRect, overlapsOf}
 use Rattle.float.proofs.Booleans.{by-test}
+use Rattle.geometry.specs.Rect.{newOf, emptyRect, overlapsOf}
 use Rattle.layout.specs.declared.Layout.{Layout}
 use Rattle.numerics.specs.Rects.{Element, Key, margin}
 use Rattle.numerics.specs.Range.{In, at, minus}
@@ -18,7 +18,7 @@ use Rattle.search.specs.Bounded.{Every, Arranged}
 use Rattle.search.proofs.Layouts.{place-bounded}
 use Rattle.search.proofs.Changes.{dpad-in}
 use Rattle.search.specs.Search.{centred}
-use Rattle.toolbar.specs.ToolbarRanges.{uncovered-in, anchor-in}
+use Rattle.toolbar.specs.ToolbarRanges.{anchored-in}
 use Rattle.arranged.specs.declared.Wells.{Wells}
 use Rattle.arranged.specs.declared.Dock.{Dock}
 use Rattle.arranged.specs.declared.Rails.{Rails}
@@ -27,8 +27,7 @@ use Rattle.arranged.specs.PlaceRanges.{Coordinate, coordinate, cap-in, s
 
 pub finished-in : {C D : Rect → Type 0} (l : Layout) {w h : Float} → In w (at 0) (at 8192) → In h (at 0) (at 8192) → Every C D l → Every C (Key margin) (finishedOf l w h)
 unfolding finishedOf
-finished-in l {w} {h} W H L =
-    place-bounded (anchor-in l [] W H (in-more (at 0) (at 8192) i0 tt tt) (in-more (minus 8192) (at 8192) i0 tt tt) (uncovered-in l [] tt) L) (newOf k0 k0 w h) false k1 centred (k4 ⊘ k3)
+finished-in l {w} {h} W H L = place-bounded (anchored-in l [] W H (in-more (at 0) (at 8192) i0 tt tt) tt L) (newOf k0 k0 w h) false k1 centred (k4 ⊘ k3)
 
 -- ---- `arranged`
 record WellsIn (k : Wells) : Type 0 where

@@ -1,4 +1,5 @@
 pub mod Places
+pub mod Found
 pub mod Arranged
 pub mod Controls
 pub mod ControlLaws

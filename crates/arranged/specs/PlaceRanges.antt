@@ -16,7 +16,7 @@ use Rattle.numerics.specs.Each.{Each, _&_}
 use Rattle.numerics.specs.Ranges.{in-more, add-in, sub-in, div-in, placed-in}
 use Rattle.numerics.specs.Literals.{i0, i4√2, f1√2, f2}
 use Rattle.search.specs.Bounded.{Every}
-use Rattle.search.proofs.Changes.{each-mapFirst}
+use Rattle.search.proofs.Changes.{each-mapFirst, controls-in}
 use Rattle.arranged.specs.declared.Faces.{Faces}
 use Rattle.arranged.specs.declared.Places.{Places}
 use Rattle.arranged.specs.Places.{capOf, placeFacesOf, atOf, controllerOf, moved, placedOf}
@@ -103,8 +103,7 @@ controller-in count sticks stickcount P dpad S =
 -- what holds at the place of every label
 pub every-placed : {C D : Rect → Type 0} {l : Layout} (p : Places) → Every C D l → ((label : Label) → C (atOf p label)) → Every C D (placedOf l p)
 unfolding placedOf
-every-placed {C} {l = l} p L P =
-    record { dpad = L .dpad; controls = each-mapFirst (λ c. C (c .bounds)) (λ c. C (c .bounds)) (moved p) (λ c e. P (c .label)) (λ c e. e) (l .count) (l .controls) (L .controls); pause = L .pause; playback = L .playback; speed = L .speed; mute = L .mute; sticks = L .sticks }
+every-placed {C} {l = l} p L P = controls-in L (each-mapFirst (λ c. C (c .bounds)) (λ c. C (c .bounds)) (moved p) (λ c e. P (c .label)) (λ c e. e) (l .count) (l .controls) (L .controls))
 
 pub controls-placed : {C D : Rect → Type 0} {l : Layout} {p : Places} → ((r : Rect) → OnScreen margin r → C r) → Every C D l → PlacesIn p → Every C D (placedOf l p)
 controls-placed {p = p} f L P = every-placed p L (λ label. f (atOf p label) (at-in P label))

@@ -3,10 +3,10 @@ use mathlib.Core.Bool.{Bool, false, cond, _&&_, _||_}
 use mathlib.Core.List.{_∷_, []}
 use mathlib.Core.Option.{Option, some, none}
 use Prim.Native.Nat.{_+_}
-use lib.Ieee.{Float, lt, le, neg}
+use lib.Ieee.{Float, lt, le}
 use lib.ListN.{set, replicate}
 use Rattle.float.specs.Float.{_⊕_, _⊖_, _⊗_, _⊘_, k0, k0·75, k1, k1·35, k2, k3, k4, k8, k16, k24, k28, k48, k52, k56, k64, k72, k80, k100, k104, k112, k122, k128, k136, k160, k176, k184, k192, k204, k272, k288, k480, k600, k800}
-use Rattle.float.specs.MinMax.{minOf, maxOf, clampOf}
+use Rattle.float.specs.MinMax.{minOf, clampOf}
 use Rattle.geometry.specs.declared.Rect.{Rect}
 use Rattle.geometry.specs.Rect.{newOf, emptyRect}
 use Rattle.layout.specs.declared.Label.the-variants.{L3, R3}
@@ -14,7 +14,7 @@ use Rattle.layout.specs.declared.Layout.{Layout}
 use Rattle.layout.specs.Layout.{withDpad}
 use Rattle.layout.specs.Psp.{pspInputsOf}
 use Rattle.search.specs.Search.{centred, placeGameInAspectOf}
-use Rattle.toolbar.specs.Toolbar.{toolbarHeight, anchorToolbarOf}
+use Rattle.toolbar.specs.Toolbar.{toolbarHeight, anchorToolbarOf, reusableTop}
 use Rattle.arranged.specs.declared.Places.{Places}
 use Rattle.arranged.specs.Places.{capOf, placeFacesOf, control, controllerOf, placedOf}
 use Rattle.arranged.specs.Arranged.{arrangedOf, bottom}
@@ -155,7 +155,7 @@ withInputsOf l psp = cond psp (pspInputsOf l) l
 unfoldable pub controllerBandOf : Float → Float → Bool → Bool → Rect → Option Layout
 controllerBandOf w h analog psp picture =
     let room = findRoomOf w h analog psp picture in
-    let anchored = anchorToolbarOf (bandedOf w h analog (room .deep) (measureBandOf w h analog room)) w h (maxOf (neg (picture .y)) k0) k0 [] in
+    let anchored = anchorToolbarOf (bandedOf w h analog (room .deep) (measureBandOf w h analog room)) w h (reusableTop picture) k0 [] in
     cond (lt w k800 || (lt h k600 || lt (h ⊗ k1·35) w)) none
     (cond (lt (room .face) k122) none
     (some (placeGameInAspectOf (withInputsOf anchored psp) picture false k1 centred (aspectOf psp))))

@@ -2,7 +2,6 @@
 use mathlib.Core.Path.{_≡_, refl, ap, _∙_}
 use mathlib.Core.Bool.{Bool, true, false, cond}
 use mathlib.Core.List.{List, [], _∷_, _++_, map, map-append}
-use mathlib.Core.Option.{some}
 use Prim.Native.Nat.{ℕ, _+_, _≤_}
 use native.Mathlib.Omega.{arith}
 use lib.Ieee.{Float}
@@ -23,6 +22,7 @@ use Rattle.search.specs.Search.{placeGameInAspectOf}
 use Rattle.toolbar.specs.Toolbar.{anchorToolbarOf}
 use Rattle.arranged.specs.Places.{control}
 use Rattle.arranged.specs.Arranged.{arrangedOf}
+use Rattle.arranged.specs.Found.{Given}
 use Rattle.arranged.specs.ArrangedLabels.{placed-formed, arranged-formed}
 use Rattle.band.specs.declared.Band.{Band}
 use Rattle.band.specs.Band.{measureBandOf, withAnalogOf, bandedOf, withInputsOf, controllerBandOf}
@@ -79,10 +79,9 @@ with-inputs-formed analog false l f = f
 with-inputs-formed true true l f = psp-inputs-formed analogLabels 2 l refl f
 with-inputs-formed false true l f = psp-inputs-formed standardLabels 0 l refl f
 
-pub band-formed : (w h : Float) (analog psp : Bool) (picture : Rect) (l : Layout) → controllerBandOf w h analog psp picture ≡ some l → Formed (bandLabels analog psp) (bandSticks analog psp) l
+pub band-formed : (w h : Float) (analog psp : Bool) (picture : Rect) → Given (Formed (bandLabels analog psp) (bandSticks analog psp)) (controllerBandOf w h analog psp picture)
 unfolding placeGameInAspectOf anchorToolbarOf
-band-formed w h analog psp picture l e =
+band-formed w h analog psp picture =
     let room = bandRoom w h analog psp picture in
     controller-band-case w h analog psp picture (Formed (bandLabels analog psp) (bandSticks analog psp))
     (λ t. with-inputs-formed analog psp (bandAnchored w h analog psp picture) (banded-formed w h analog (room .deep) (measureBandOf w h analog room)))
-    e

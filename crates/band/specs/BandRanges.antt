@@ -1,8 +1,6 @@
 -- The layout of `controller_band` is in range.
-use mathlib.Core.Path.{_≡_}
 use mathlib.Core.Bool.{Bool, true, false}
 use mathlib.Core.List.{[]}
-use mathlib.Core.Option.{some}
 use Prim.Native.Nat.{_+_}
 use lib.Ieee.{Float}
 use lib.ListN.{set}
@@ -15,15 +13,16 @@ use Rattle.numerics.specs.Rects.{Area}
 use Rattle.numerics.specs.Range.{In, at, minus}
 use Rattle.numerics.specs.Each.{_&_}
 use Rattle.numerics.specs.Lists.{each-set}
-use Rattle.numerics.specs.Ranges.{in-more, most-in, add-in, sub-in, mul-in, times-in, div-in, min-in, max-in, clamp-in, cond-in, neg-in, not-below, placed-in}
+use Rattle.numerics.specs.Ranges.{in-more, most-in, add-in, sub-in, mul-in, times-in, div-in, min-in, clamp-in, cond-in, not-below, placed-in}
 use Rattle.numerics.specs.Products.{scaled-in}
 use Rattle.numerics.specs.Literals.{i0, i1, i2, i3, i4, i8, i16, i18, i24, i28, i48, i52, i56, i64, i72, i80, i100, i104, i112, i122, i128, i136, i160, i176, i184, i204, i272, i288, i480, f0·75, f2, f4, f52, psp-high}
 use Rattle.search.specs.Bounded.{Every, Arranged}
 use Rattle.search.proofs.Layouts.{place-bounded}
 use Rattle.search.proofs.Changes.{dpad-in, psp-in}
 use Rattle.search.specs.Search.{centred}
-use Rattle.toolbar.specs.ToolbarRanges.{uncovered-in, anchor-in}
+use Rattle.toolbar.specs.ToolbarRanges.{anchored-in, reusable-in}
 use Rattle.arranged.specs.Places.{control}
+use Rattle.arranged.specs.Found.{Given}
 use Rattle.arranged.specs.PlaceRanges.{Coordinate, coordinate, cap-in, step-in, FacesIn, faces-in, PlacesIn, empty-in, controls-placed}
 use Rattle.arranged.specs.ArrangedRanges.{arranged-in}
 use Rattle.band.specs.declared.Room.{Room}
@@ -173,9 +172,9 @@ banded-in {w} {h} analog deep {b} W H B =
     let right = placed-in (sub-in (sub-in (B .w) (B .outer) tt) (B .stick) tt) y (B .stick) (B .stick) tt in
     either Arranged analog (with-analog-in placed (places .l3) (places .r3) left right) placed
 
-pub band-in : {w h : Float} (analog psp : Bool) {picture : Rect} {l : Layout} → In w (at 0) (at 8192) → In h (at 0) (at 8192) → Area picture → controllerBandOf w h analog psp picture ≡ some l → Arranged l
-band-in {w} {h} analog psp {picture} W H A e =
-    controller-band-case w h analog psp picture Arranged (λ t. place-bounded (inputs (anchored (not-below (R .face) i122 t))) picture false k1 centred (aspectOf psp)) e
+pub band-in : {w h : Float} (analog psp : Bool) {picture : Rect} → In w (at 0) (at 8192) → In h (at 0) (at 8192) → Area picture → Given Arranged (controllerBandOf w h analog psp picture)
+band-in {w} {h} analog psp {picture} W H A =
+    controller-band-case w h analog psp picture Arranged (λ t. place-bounded (inputs (anchored (not-below (R .face) i122 t))) picture false k1 centred (aspectOf psp))
   where
     room : Room
     room = bandRoom w h analog psp picture
@@ -189,9 +188,7 @@ band-in {w} {h} analog psp {picture} W H A e =
     anchored : In (room .face) (at 122) (at 184) → Arranged layout
     anchored face =
         let L = banded-in analog (room .deep) W H (measured-in analog W H R face) in
-        let top = max-in (neg-in (most-in (A .y) tt) tt) i0 in
-        let banded = bandLayout w h analog psp picture in
-        anchor-in banded [] W H top (in-more (minus 8192) (at 8192) i0 tt tt) (uncovered-in banded [] tt) L
+        anchored-in (bandLayout w h analog psp picture) [] W H (reusable-in A) tt L
 
     inputs : Arranged layout → Arranged (withInputsOf layout psp)
     inputs L = either Arranged psp (psp-in L) L

@@ -2,7 +2,6 @@
 use mathlib.Core.Path.{_≡_, refl, _∙_}
 use mathlib.Core.Bool.{Bool, true, false}
 use mathlib.Core.List.{List}
-use mathlib.Core.Option.{some}
 use native.Mathlib.Omega.{arith}
 use lib.Dec.{eqb}
 use lib.Ieee.{Float}
@@ -17,6 +16,7 @@ use Rattle.layout.specs.Labels.{analogLabels, Formed}
 use Rattle.layout.specs.LabelLaws.{set-elements-formed}
 use Rattle.search.specs.Search.{placeGameInAspectOf}
 use Rattle.toolbar.specs.Toolbar.{anchorToolbarOf}
+use Rattle.arranged.specs.Found.{Given}
 use Rattle.arranged.specs.ArrangedLabels.{placed-formed}
 use Rattle.band.specs.BandLabels.{bandLabels, bandSticks, band-faces, band-counts, with-inputs-formed}
 use Rattle.defaults.specs.Defaults.{analogDefaultOf}
@@ -72,7 +72,7 @@ module _ (w h rail face : Float) where
       cleared-counts = band-counts true psp (avoidCutoutsOf anchored w h cutouts) (cleared-formed .0)
 
 module _ (w h : Float) (picture : Rect) (cutouts : List Rect) (psp : Bool) where
-  pub camera-rails-formed : (l : Layout) → analogCameraRailsOf w h picture cutouts psp ≡ some l → Formed (bandLabels true psp) (bandSticks true psp) l
+  pub camera-rails-formed : Given (Formed (bandLabels true psp) (bandSticks true psp)) (analogCameraRailsOf w h picture cutouts psp)
   unfolding placeGameInAspectOf
-  camera-rails-formed l e =
-      camera-case w h picture cutouts psp (Formed (bandLabels true psp) (bandSticks true psp)) (λ r f. cleared-formed w h (cameraRail w h picture cutouts psp) (cameraFace w h picture cutouts psp) picture cutouts psp) e
+  camera-rails-formed =
+      camera-case w h picture cutouts psp (Formed (bandLabels true psp) (bandSticks true psp)) (λ r f. cleared-formed w h (cameraRail w h picture cutouts psp) (cameraFace w h picture cutouts psp) picture cutouts psp)

@@ -2,16 +2,16 @@
 use mathlib.Core.Bool.{Bool, false, cond, _&&_, _||_}
 use mathlib.Core.List.{List, [], _∷_, foldl}
 use mathlib.Core.Option.{Option, some, none}
-use lib.Ieee.{Float, lt, le, neg}
+use lib.Ieee.{Float, lt, le}
 use Rattle.float.specs.Float.{_⊕_, _⊖_, _⊗_, _⊘_, k0, k1, k1·35, k2, k3, k4, k8, k24, k32, k48, k52, k104, k122, k128, k156, k184, k224, k272, k360, k480}
-use Rattle.float.specs.MinMax.{minOf, maxOf}
+use Rattle.float.specs.MinMax.{minOf}
 use Rattle.geometry.specs.declared.Rect.{Rect}
 use Rattle.geometry.specs.Rect.{newOf}
 use Rattle.layout.specs.declared.Layout.{Layout}
 use Rattle.layout.specs.Layout.{withDpad, withSticks, elementsOf}
 use Rattle.layout.specs.Lists.{filterMap}
 use Rattle.search.specs.Search.{centred, placeGameInAspectOf}
-use Rattle.toolbar.specs.Toolbar.{anchorToolbarOf}
+use Rattle.toolbar.specs.Toolbar.{anchorToolbarOf, reusableTop}
 use Rattle.arranged.specs.declared.Places.{Places}
 use Rattle.arranged.specs.Places.{capOf, placeFacesOf, placedOf}
 use Rattle.band.specs.Band.{aspectOf, withInputsOf}
@@ -77,7 +77,7 @@ cameraRailedOf w h rail face =
 -- with the inputs of a psp, and the toolbar in its place
 unfoldable pub anchoredRailsOf : Float → Float → Rect → List Rect → Bool → Float → Float → Layout
 anchoredRailsOf w h picture cutouts psp rail face =
-    anchorToolbarOf (withInputsOf (cameraRailedOf w h rail face) psp) w h (maxOf (neg (picture .y)) k0) k0 cutouts
+    anchorToolbarOf (withInputsOf (cameraRailedOf w h rail face) psp) w h (reusableTop picture) k0 cutouts
 
 -- None, where the rails have no room or an element overlaps a cutout, one without an area too.
 unfoldable pub analogCameraRailsOf : Float → Float → Rect → List Rect → Bool → Option Layout

@@ -1,8 +1,6 @@
 -- The layout of `analog_camera_rails` is in range, on screens up to 8192 by 8192.
-use mathlib.Core.Path.{_≡_}
 use mathlib.Core.Bool.{Bool, false, cond, not}
 use mathlib.Core.List.{List, []}
-use mathlib.Core.Option.{some}
 use native.Mathlib.Omega.{arith}
 use lib.Dec.{T}
 use lib.Ieee.{Float, lt}
@@ -10,7 +8,6 @@ use Rattle.float.specs.Float.{_⊖_, _⊗_, _⊘_, k1, k2, k3, k4, k48, k122, k
 use Rattle.float.specs.MinMax.{minOf}
 use Rattle.geometry.specs.declared.Rect.{Rect}
 use Rattle.float.proofs.Booleans.{either}
-use Rattle.layout.specs.declared.Layout.{Layout}
 use Rattle.layout.specs.Lists.{filterMap}
 use Rattle.numerics.specs.Value.{P, N, E}
 use Rattle.numerics.specs.Rects.{Element, Area}
@@ -18,15 +15,16 @@ use Rattle.numerics.specs.Range.{In, at, minus}
 use Rattle.numerics.specs.Each.{Each, _&_}
 use Rattle.numerics.specs.Lists.{fold-ind}
 use Rattle.numerics.specs.Bounds.{sub-law, div-law}
-use Rattle.numerics.specs.Ranges.{in-reach, in-more, most-in, add-in, sub-in, mul-in, div-in, min-in, max-in, cond-in, neg-in, not-below, sized, placed-in}
-use Rattle.numerics.specs.Literals.{i0, i4, i8, i24, i32, i48, i52, i104, i122, i128, i156, i184, i224, i272, i480, f2, f3, f4, psp-wide}
+use Rattle.numerics.specs.Ranges.{in-reach, in-more, most-in, area-side, add-in, sub-in, mul-in, div-in, min-in, cond-in, not-below, placed-in}
+use Rattle.numerics.specs.Literals.{i4, i8, i24, i32, i48, i52, i104, i122, i128, i156, i184, i224, i272, i480, f2, f3, f4, psp-wide}
 use Rattle.numerics.specs.Shrunk.{signed-in, placed-shrunk}
 use Rattle.search.specs.Bounded.{Bounded, Shrunk}
 use Rattle.search.proofs.Placement.{each-filter}
 use Rattle.search.proofs.Layouts.{place-bounded}
-use Rattle.search.proofs.Changes.{shrunk-bounded, anchored-shrunk, dpad-in, psp-in}
+use Rattle.search.proofs.Changes.{shrunk-bounded, anchored-shrunk, dpad-in, sticks-in, psp-in}
 use Rattle.search.specs.Search.{centred}
-use Rattle.toolbar.specs.ToolbarRanges.{uncovered-in, anchor-in}
+use Rattle.toolbar.specs.ToolbarRanges.{anchored-in, reusable-in}
+use Rattle.arranged.specs.Found.{Given}
 use Rattle.arranged.specs.PlaceRanges.{coordinate, cap-in, step-in, faces-in, PlacesIn, controls-placed}
 use Rattle.band.specs.Band.{aspectOf}
 use Rattle.defaults.specs.DefaultRanges.{analog-in}
@@ -62,7 +60,7 @@ right-in W F R =
 rail-in : {w : Float} (psp : Bool) {picture : Rect} → In w (at 1) (at 8192) → Area picture → T (not (lt (measureRailOf w picture psp) k184)) → RailIn w (measureRailOf w picture psp)
 unfolding measureRailOf
 rail-in psp W A t =
-    let wide = wide-in psp (sized (A .h) (A .h0)) in
+    let wide = wide-in psp (area-side (A .h) (A .h0)) in
     let rail = in-more (minus 8193) (at 4097) (div-in (sub-in W wide tt) f2 tt) tt tt in
     let room = not-below rail i184 t in
     record { width = room; right = right-in W wide room }
@@ -119,32 +117,23 @@ module _ {w h : Float} (W : In w (at 1) (at 8192)) (H : In h (at 1) (at 8192)) w
   railed-in R face =
       let y = sub-in (sub-in H i24 tt) i128 tt in
       let L = dpad-in (controls-placed (λ r P. placed-shrunk P tt) (analog-in W H) (camera-places-in W R face)) (placed-in i4 i32 face face tt) in
-      record {
-        dpad = L .dpad;
-        controls = L .controls;
-        pause = L .pause;
-        playback = L .playback;
-        speed = L .speed;
-        mute = L .mute;
-        sticks = placed-in i4 y i128 i128 tt & placed-in (sub-in (sub-in W i4 tt) i128 tt) y i128 i128 tt & tt;
-      }
+      sticks-in L (placed-in i4 y i128 i128 tt & placed-in (sub-in (sub-in W i4 tt) i128 tt) y i128 i128 tt & tt)
 
   module _ {picture : Rect} (A : Area picture) (psp : Bool) where
-    pub anchored-in : (cutouts : List Rect) → Each Element cutouts → T (not (lt (cameraRail w h picture cutouts psp) k184)) → T (not (lt (cameraFace w h picture cutouts psp) k122)) → Shrunk (cameraLayout w h picture cutouts psp)
+    anchored-rails-in : (cutouts : List Rect) → Each Element cutouts → T (not (lt (cameraRail w h picture cutouts psp) k184)) → T (not (lt (cameraFace w h picture cutouts psp) k122)) → Shrunk (cameraLayout w h picture cutouts psp)
     unfolding anchoredRailsOf
-    anchored-in cutouts O r f =
+    anchored-rails-in cutouts O r f =
         let R = rail-in psp W A r in
         let L = railed-in R (face-in w cutouts H (R .width) O f) in
-        let top = max-in (neg-in (most-in (A .y) tt) tt) i0 in
-        anchored-shrunk (anchor-in _ cutouts wide high top (in-more (minus 8192) (at 8192) i0 tt tt) (uncovered-in _ cutouts O) (either Shrunk psp (psp-in L) L))
+        anchored-shrunk (anchored-in _ cutouts wide high (reusable-in A) O (either Shrunk psp (psp-in L) L))
 
-    pub camera-bounded : {l : Layout} (cutouts : List Rect) → Each Element cutouts → analogCameraRailsOf w h picture cutouts psp ≡ some l → Bounded l
-    camera-bounded cutouts O e =
+    pub camera-bounded : (cutouts : List Rect) → Each Element cutouts → Given Bounded (analogCameraRailsOf w h picture cutouts psp)
+    camera-bounded cutouts O =
         let holds = anchored-holds w h (cameraRail w h picture cutouts psp) (cameraFace w h picture cutouts psp) picture cutouts psp in
         camera-case w h picture cutouts psp Bounded
-        (λ r f. place-bounded (avoid-bounded wide high (cameraLayout w h picture cutouts psp) cutouts (holds .0) (holds .1) (shrunk-bounded (anchored-in cutouts O r f))) picture false k1 centred (aspectOf psp)) e
+        (λ r f. place-bounded (avoid-bounded wide high (cameraLayout w h picture cutouts psp) cutouts (holds .0) (holds .1) (shrunk-bounded (anchored-rails-in cutouts O r f))) picture false k1 centred (aspectOf psp))
 
     -- with no cutouts no element moves
-    pub camera-in : {l : Layout} → analogCameraRailsOf w h picture [] psp ≡ some l → Shrunk l
+    pub camera-in : Given Shrunk (analogCameraRailsOf w h picture [] psp)
     unfolding avoidCutoutsOf
-    camera-in e = camera-case w h picture [] psp Shrunk (λ r f. place-bounded (anchored-in [] tt r f) picture false k1 centred (aspectOf psp)) e
+    camera-in = camera-case w h picture [] psp Shrunk (λ r f. place-bounded (anchored-rails-in [] tt r f) picture false k1 centred (aspectOf psp))

@@ -6,9 +6,9 @@ use lib.Ieee.{Float, lt, ofBits}
 use Rattle.float.specs.Float.{k0}
 use Rattle.geometry.specs.declared.Rect.{Rect}
 use Rattle.layout.specs.declared.Layout.{Layout}
-use Rattle.toolbar.specs.Toolbar.{avoidedOf, anchorToolbarOf}
+use Rattle.toolbar.specs.Toolbar.{avoidedOf, anchorToolbarOf, reusableTop}
 use Rattle.arranged.specs.Places.{blankOf}
-use Rattle.chosen.specs.Chosen.{startOf, reusableTop, belowToolbarOf, firstOf, areaOf}
+use Rattle.chosen.specs.Chosen.{startOf, belowToolbarOf, firstOf, areaOf}
 
 module _ (w h : Float) (cutouts : List Rect) (picture : Rect) where
   same-below : (l m : Layout) (top : Float) → belowToolbarOf (anchorToolbarOf l w h top k0 cutouts) picture ≡ belowToolbarOf (anchorToolbarOf m w h top k0 cutouts) picture

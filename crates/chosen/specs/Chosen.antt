@@ -2,7 +2,7 @@
 use mathlib.Core.Bool.{Bool, false, cond, _&&_, _||_}
 use mathlib.Core.List.{List, [], _∷_, map, foldl}
 use mathlib.Core.Option.{Option, some, none}
-use lib.Ieee.{Float, lt, le, neg}
+use lib.Ieee.{Float, lt, le}
 use lib.ListN.{getD}
 use Rattle.float.specs.Float.{_⊕_, _⊖_, k0, k0·01, k1}
 use Rattle.float.specs.MinMax.{minOf, maxOf, absOf}
@@ -11,7 +11,7 @@ use Rattle.geometry.specs.Rect.{newOf}
 use Rattle.layout.specs.declared.Layout.{Layout}
 use Rattle.layout.specs.Layout.{anyRect}
 use Rattle.search.specs.Search.{centred, bottomOf, clearPictureAspectOf, placeGameInAspectOf}
-use Rattle.toolbar.specs.Toolbar.{anchorToolbarOf}
+use Rattle.toolbar.specs.Toolbar.{anchorToolbarOf, reusableTop}
 use Rattle.band.specs.Band.{aspectOf, controllerBandOf}
 use Rattle.defaults.specs.Defaults.{defaultInOf, analogDefaultOf, pspOf}
 use Rattle.cutouts.specs.Cutouts.{avoidCutoutsOf}
@@ -24,10 +24,6 @@ startOf psp analog w h cutouts picture =
     cond psp (pspOf w h) (cond analog (analogDefaultOf w h) (defaultInOf w h cutouts picture))
 
 -- ---- Maximum: one row of keys above the whole picture, and the controls about it
-
--- what a picture that begins above the screen has there
-abbrev pub reusableTop : Rect → Float
-reusableTop picture = maxOf (neg (picture .y)) k0
 
 -- the part of the picture's area below the toolbar's keys, one point high at least
 unfoldable pub belowToolbarOf : Layout → Rect → Rect
@@ -74,12 +70,12 @@ tryRailsOf layout w h picture cutouts psp =
     comparedOf layout clear (analogCameraRailsOf w h picture cutouts psp)
 
 -- The band, too, replaces the layout with no comparison.
-unfoldable pub besideOf : Layout → Float → Float → Rect → List Rect → Bool → Bool → Layout
-besideOf layout w h picture cutouts analog psp =
+unfoldable pub bandOrRailsOf : Layout → Float → Float → Rect → List Rect → Bool → Bool → Layout
+bandOrRailsOf layout w h picture cutouts analog psp =
     let banded = foundOr layout (controllerBandOf w h analog psp picture) in
     cond analog (tryRailsOf banded w h picture cutouts psp) banded
 
--- ---- the steps; maximum: the fit is Maximum; free: nothing was saved and no overlap asked for, so that other arrangements may be tried
+-- ---- the steps; maximum: the fit is Maximum; plain: nothing was saved and no overlap asked for, so that other arrangements may be tried
 
 -- the layout at first, with the toolbar in its row above a Maximum picture
 unfoldable pub firstOf : Bool → Bool → Bool → Float → Float → List Rect → Rect → Layout
@@ -93,5 +89,5 @@ areaOf maximum first picture = cond maximum (belowToolbarOf first picture) pictu
 
 -- the arrangement for that area, or the layout as it was
 unfoldable pub arrangementOf : Bool → Bool → Layout → Float → Float → Rect → List Rect → Bool → Bool → Layout
-arrangementOf maximum free first w h area cutouts analog psp =
-    cond free (cond maximum (aroundOf first w h area cutouts analog psp) (besideOf first w h area cutouts analog psp)) first
+arrangementOf maximum plain first w h area cutouts analog psp =
+    cond plain (cond maximum (aroundOf first w h area cutouts analog psp) (bandOrRailsOf first w h area cutouts analog psp)) first

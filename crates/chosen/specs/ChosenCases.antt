@@ -2,7 +2,7 @@
 use mathlib.Core.Path.{_≡_, refl}
 use mathlib.Core.Bool.{Bool, true, false, not}
 use mathlib.Core.List.{List}
-use mathlib.Core.Option.{Option, some, none}
+use mathlib.Core.Option.{Option}
 use lib.Dec.{T}
 use lib.Ieee.{Float}
 use Rattle.float.specs.Float.{k1}
@@ -10,35 +10,31 @@ use Rattle.geometry.specs.declared.Rect.{Rect}
 use Rattle.float.proofs.Booleans.{either}
 use Rattle.layout.specs.declared.Layout.{Layout}
 use Rattle.search.specs.Search.{centred, placeGameInAspectOf}
+use Rattle.arranged.specs.Found.{Given, maybe-case}
 use Rattle.band.specs.Band.{aspectOf, controllerBandOf}
 use Rattle.cutouts.specs.Cutouts.{avoidCutoutsOf}
 use Rattle.camera_rails.specs.CameraRails.{analogCameraRailsOf}
-use Rattle.chosen.specs.Chosen.{foundOr, railsWinOf, comparedOf, tryRailsOf, besideOf, areaOf}
+use Rattle.chosen.specs.Chosen.{foundOr, railsWinOf, comparedOf, tryRailsOf, bandOrRailsOf, areaOf}
 
 module _ (C : Layout → Type 0) where
-  pub found-case : {l : Layout} (o : Option Layout) → C l → ((m : Layout) → o ≡ some m → C m) → C (foundOr l o)
-  found-case none p q = p
-  found-case (some m) p q = q m refl
+  pub found-case : {l : Layout} (o : Option Layout) → C l → Given C o → C (foundOr l o)
+  found-case {l} o p q = maybe-case (λ o. C (foundOr l o)) o p q
 
 module _ (w h : Float) (picture : Rect) (cutouts : List Rect) (psp : Bool) where
   -- a layout as it is compared with the rails
   abbrev pub cleared : Layout → Layout
   cleared l = placeGameInAspectOf (avoidCutoutsOf l w h cutouts) picture false k1 centred (aspectOf psp)
 
-  pub rails-case : (C : Layout → Type 0) (l : Layout) → C l → C (cleared l) → ((m : Layout) → analogCameraRailsOf w h picture cutouts psp ≡ some m → C m) → C (tryRailsOf l w h picture cutouts psp)
+  rails-case : (C : Layout → Type 0) (l : Layout) → C l → C (cleared l) → Given C (analogCameraRailsOf w h picture cutouts psp) → C (tryRailsOf l w h picture cutouts psp)
   unfolding tryRailsOf
-  rails-case C l p q r = go (analogCameraRailsOf w h picture cutouts psp) r
-    where
-      go : (o : Option Layout) → ((m : Layout) → o ≡ some m → C m) → C (comparedOf l (cleared l) o)
-      go none f = p
-      go (some m) f = either C (railsWinOf m (cleared l)) (f m refl) q
+  rails-case C l p q r = maybe-case (λ o. C (comparedOf l (cleared l) o)) _ p (λ m e. either C (railsWinOf m (cleared l)) (r m e) q)
 
   -- D of the layout that the rails are compared with
-  pub beside-case : (C D : Layout → Type 0) → ((m : Layout) → D m → C m) → ((m : Layout) → D m → C (cleared m)) → (analog : Bool) {l : Layout} → D l
-      → ((m : Layout) → controllerBandOf w h analog psp picture ≡ some m → D m) → ((m : Layout) → analogCameraRailsOf w h picture cutouts psp ≡ some m → C m) → C (besideOf l w h picture cutouts analog psp)
-  unfolding besideOf
-  beside-case C D f g true p q r = let banded = found-case D _ p q in rails-case C _ (f _ banded) (g _ banded) r
-  beside-case C D f g false p q r = f _ (found-case D _ p q)
+  pub band-or-rails-case : (C D : Layout → Type 0) → ((m : Layout) → D m → C m) → ((m : Layout) → D m → C (cleared m)) → (analog : Bool) {l : Layout} → D l
+      → Given D (controllerBandOf w h analog psp picture) → (analog ≡ true → Given C (analogCameraRailsOf w h picture cutouts psp)) → C (bandOrRailsOf l w h picture cutouts analog psp)
+  unfolding bandOrRailsOf
+  band-or-rails-case C D f g true p q r = let banded = found-case D _ p q in rails-case C _ (f _ banded) (g _ banded) (r refl)
+  band-or-rails-case C D f g false p q r = f _ (found-case D _ p q)
 
 -- the game gets the whole picture's area, but under Maximum
 pub whole-area : (maximum : Bool) (first : Layout) (picture : Rect) → T (not maximum) → areaOf maximum first picture ≡ picture

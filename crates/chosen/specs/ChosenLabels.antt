@@ -9,13 +9,13 @@ use lib.Ieee.{Float}
 use lib.ListN.{length}
 use Rattle.float.specs.Float.{k0, k1}
 use Rattle.geometry.specs.declared.Rect.{Rect}
-use Rattle.float.proofs.Booleans.{either}
+use Rattle.float.proofs.Booleans.{either, or-r}
 use Rattle.layout.specs.declared.Layout.{Layout}
 use Rattle.layout.specs.Actions.{actionElementsOf}
 use Rattle.layout.specs.Labels.{Formed}
 use Rattle.search.specs.declared.Offset.{Offset}
 use Rattle.search.specs.Search.{centred, placeGameInAspectOf}
-use Rattle.toolbar.specs.Toolbar.{anchorToolbarOf}
+use Rattle.toolbar.specs.Toolbar.{anchorToolbarOf, reusableTop}
 use Rattle.band.specs.Band.{aspectOf}
 use Rattle.band.specs.BandLabels.{bandLabels, bandSticks, band-faces, band-counts, band-formed}
 use Rattle.defaults.specs.DefaultLabels.{default-formed, analog-formed, psp-formed}
@@ -23,8 +23,8 @@ use Rattle.cutouts.specs.Cutouts.{avoidCutoutsOf}
 use Rattle.cutouts.specs.CutoutLaws.{face-count}
 use Rattle.camera_rails.specs.CameraLabels.{avoid-formed, camera-rails-formed}
 use Rattle.picture.specs.PictureLabels.{controls-formed}
-use Rattle.chosen.specs.Chosen.{startOf, reusableTop, largestOf, aroundOf, tryRailsOf, besideOf, firstOf, arrangementOf}
-use Rattle.chosen.specs.ChosenCases.{found-case, rails-case}
+use Rattle.chosen.specs.Chosen.{startOf, largestOf, aroundOf, bandOrRailsOf, firstOf, arrangementOf}
+use Rattle.chosen.specs.ChosenCases.{found-case, band-or-rails-case}
 
 -- a layout of a mode: its labels, its sticks, and arrays of 12 and 2
 abbrev pub OfMode : Bool → Bool → Layout → Type 0
@@ -62,31 +62,27 @@ module _ (analog psp : Bool) (l : Layout) (f : OfMode analog psp l) where
   pub avoid-mode : (w h : Float) (cutouts : List Rect) → OfMode analog psp (avoidCutoutsOf l w h cutouts)
   avoid-mode w h cutouts = let n = few analog psp l f in avoid-formed (bandLabels analog psp) (bandSticks analog psp) w h l (n .count) (n .stickcount) cutouts f
 
-module _ (psp : Bool) (l : Layout) (f : OfMode true psp l) (w h : Float) (cutouts : List Rect) (picture : Rect) where
-  pub rails-mode : OfMode true psp (tryRailsOf l w h picture cutouts psp)
-  rails-mode =
-      let clear = place-mode true psp (avoidCutoutsOf l w h cutouts) (avoid-mode true psp l f w h cutouts) picture false k1 centred (aspectOf psp) in
-      rails-case w h picture cutouts psp (OfMode true psp) l f clear (camera-rails-formed w h picture cutouts psp)
-
 module _ (w h : Float) (area : Rect) (cutouts : List Rect) where
-  pub beside-mode : (analog psp : Bool) (l : Layout) → OfMode analog psp l → OfMode analog psp (besideOf l w h area cutouts analog psp)
-  unfolding besideOf
-  beside-mode true psp l f = rails-mode psp _ (found-case (OfMode true psp) _ f (band-formed w h true psp area)) w h cutouts area
-  beside-mode false psp l f = found-case (OfMode false psp) _ f (band-formed w h false psp area)
+  band-or-rails-mode : (analog psp : Bool) (l : Layout) → OfMode analog psp l → OfMode analog psp (bandOrRailsOf l w h area cutouts analog psp)
+  band-or-rails-mode analog psp l f =
+      band-or-rails-case w h area cutouts psp (OfMode analog psp) (OfMode analog psp) (λ m g. g) (λ m g. place-mode analog psp _ (avoid-mode analog psp m g w h cutouts) area false k1 centred (aspectOf psp)) analog f
+      (band-formed w h analog psp area) (λ t. rw t (camera-rails-formed w h area cutouts psp))
 
-  module _ (analog psp : Bool) (k : T psp → T analog) (first : Layout) (f : OfMode analog psp first) where
-    pub around-mode : OfMode analog psp (aroundOf first w h area cutouts analog psp)
-    unfolding aroundOf
-    around-mode = found-case (OfMode analog psp) _ f (λ m. controls-formed w h (largestOf area (aspectOf psp)) analog psp cutouts m k)
+  around-mode : (analog psp : Bool) → (T psp → T analog) → (l : Layout) → OfMode analog psp l → OfMode analog psp (aroundOf l w h area cutouts analog psp)
+  unfolding aroundOf
+  around-mode analog psp k l f = found-case (OfMode analog psp) _ f (controls-formed w h (largestOf area (aspectOf psp)) analog psp cutouts k)
 
-    pub arrangement-mode : (maximum free : Bool) → OfMode analog psp (arrangementOf maximum free first w h area cutouts analog psp)
-    unfolding arrangementOf
-    arrangement-mode maximum free = either (OfMode analog psp) free (either (OfMode analog psp) maximum around-mode (beside-mode analog psp first f)) f
-
-module _ (w h : Float) (cutouts : List Rect) (picture : Rect) where
-  pub first-mode : (psp analog maximum : Bool) → OfMode (analog || psp) psp (firstOf psp analog maximum w h cutouts picture)
+module _ (w h : Float) (cutouts : List Rect) (picture : Rect) (psp analog maximum : Bool) where
+  pub first-mode : OfMode (analog || psp) psp (firstOf psp analog maximum w h cutouts picture)
   unfolding firstOf
-  first-mode psp analog maximum =
+  first-mode =
       let start = startOf psp analog w h cutouts picture in
       let f = start-mode w h cutouts picture psp analog in
       either (OfMode (analog || psp) psp) maximum (anchor-mode (analog || psp) psp start f w h (reusableTop picture) k0 cutouts) f
+
+  pub arrangement-mode : (area : Rect) (plain : Bool) → OfMode (analog || psp) psp (arrangementOf maximum plain (firstOf psp analog maximum w h cutouts picture) w h area cutouts (analog || psp) psp)
+  unfolding arrangementOf
+  arrangement-mode area plain =
+      let sticks = analog || psp in
+      let first = firstOf psp analog maximum w h cutouts picture in
+      either (OfMode sticks psp) plain (either (OfMode sticks psp) maximum (around-mode w h area cutouts sticks psp (or-r analog psp) first first-mode) (band-or-rails-mode w h area cutouts sticks psp first first-mode)) first-mode

@@ -6,21 +6,19 @@ use native.Mathlib.Omega.{arith}
 use lib.Dec.{T}
 use lib.Ieee.{Float}
 use lib.ListN.{length}
-use Rattle.float.specs.Float.{k0, k1}
+use Rattle.float.specs.Float.{k1}
 use Rattle.geometry.specs.declared.Rect.{Rect}
 use Rattle.float.proofs.Booleans.{either}
 use Rattle.layout.specs.declared.Layout.{Layout}
-use Rattle.numerics.specs.Rects.{Element, Area, Key, margin}
-use Rattle.numerics.specs.Range.{In, at, minus}
+use Rattle.numerics.specs.Rects.{Element, Area}
+use Rattle.numerics.specs.Range.{In, at}
 use Rattle.numerics.specs.Each.{Each}
-use Rattle.numerics.specs.Ranges.{in-more, most-in, max-in, neg-in, sized}
-use Rattle.numerics.specs.Literals.{i0}
-use Rattle.search.specs.Bounded.{Every, Bounded, Shrunk}
+use Rattle.numerics.specs.Ranges.{in-more, area-side}
+use Rattle.search.specs.Bounded.{Bounded, Shrunk}
 use Rattle.search.proofs.Changes.{shrunk-bounded, arranged-shrunk, anchored-shrunk}
 use Rattle.search.proofs.Layouts.{place-bounded}
 use Rattle.search.specs.Search.{centred}
-use Rattle.toolbar.specs.Toolbar.{anchorToolbarOf}
-use Rattle.toolbar.specs.ToolbarRanges.{uncovered-in, anchor-in}
+use Rattle.toolbar.specs.ToolbarRanges.{anchored-in, reusable-in}
 use Rattle.band.specs.Band.{aspectOf}
 use Rattle.band.specs.BandRanges.{band-in}
 use Rattle.band.specs.BandLabels.{band-formed}
@@ -29,8 +27,8 @@ use Rattle.cutouts.specs.Cutouts.{avoidCutoutsOf}
 use Rattle.cutouts.specs.CutoutRanges.{avoid-bounded}
 use Rattle.camera_rails.specs.CameraRanges.{camera-bounded, camera-in}
 use Rattle.picture.specs.PictureRanges.{controls-in}
-use Rattle.chosen.specs.Chosen.{startOf, reusableTop, aroundOf, besideOf, firstOf, areaOf, arrangementOf}
-use Rattle.chosen.specs.ChosenCases.{found-case, beside-case}
+use Rattle.chosen.specs.Chosen.{startOf, aroundOf, bandOrRailsOf, firstOf, areaOf, arrangementOf}
+use Rattle.chosen.specs.ChosenCases.{found-case, band-or-rails-case}
 use Rattle.chosen.specs.ChosenLabels.{OfMode, few}
 use Rattle.chosen.specs.MaximumRanges.{largest-in, below-toolbar-in}
 
@@ -49,10 +47,10 @@ holds analog psp l f =
     record { controls = omega arith; sticks = omega arith; stick = omega arith }
 
 module _ {w h : Float} (W : In w (at 1) (at 8192)) (H : In h (at 1) (at 8192)) where
-  wide : In w (at 0) (at 8192)
+  pub wide : In w (at 0) (at 8192)
   wide = in-more (at 0) (at 8192) W tt tt
 
-  high : In h (at 0) (at 8192)
+  pub high : In h (at 0) (at 8192)
   high = in-more (at 0) (at 8192) H tt tt
 
   pub avoid-in : (cutouts : List Rect) (l : Layout) → Holds l → Bounded l → Bounded (avoidCutoutsOf l w h cutouts)
@@ -60,40 +58,37 @@ module _ {w h : Float} (W : In w (at 1) (at 8192)) (H : In h (at 1) (at 8192)) w
 
   module _ {picture : Rect} (A : Area picture) where
     module _ (cutouts : List Rect) (O : Each Element cutouts) where
-      pub anchored-in : {C D : Rect → Type 0} (l : Layout) → Every C D l → Every C (Key margin) (anchorToolbarOf l w h (reusableTop picture) k0 cutouts)
-      anchored-in l L = anchor-in l cutouts wide high (max-in (neg-in (most-in (A .y) tt) tt) i0) (in-more (minus 8192) (at 8192) i0 tt tt) (uncovered-in l cutouts O) L
-
       start-in : (psp analog : Bool) → Shrunk (startOf psp analog w h cutouts picture)
       unfolding startOf
       start-in true analog = psp-default-in W H
       start-in false true = analog-in W H
-      start-in false false = arranged-shrunk (default-in cutouts wide high O A (sized (A .h) (A .h0)))
+      start-in false false = arranged-shrunk (default-in cutouts wide high O A (area-side (A .h) (A .h0)))
 
       pub first-in : (psp analog maximum : Bool) → Shrunk (firstOf psp analog maximum w h cutouts picture)
       unfolding firstOf
-      first-in psp analog maximum = let S = start-in psp analog in either Shrunk maximum (anchored-shrunk (anchored-in _ S)) S
+      first-in psp analog maximum = let S = start-in psp analog in either Shrunk maximum (anchored-shrunk (anchored-in _ cutouts wide high (reusable-in A) O S)) S
 
       module _ (analog psp : Bool) (first : Layout) (F : Shrunk first) (f : OfMode analog psp first) where
-        beside-bounded : Bounded (besideOf first w h picture cutouts analog psp)
-        beside-bounded =
-            beside-case w h picture cutouts psp Bounded (λ m. Shrunk m × OfMode analog psp m) (λ m d. shrunk-bounded (d .0))
+        band-or-rails-bounded : Bounded (bandOrRailsOf first w h picture cutouts analog psp)
+        band-or-rails-bounded =
+            band-or-rails-case w h picture cutouts psp Bounded (λ m. Shrunk m × OfMode analog psp m) (λ m d. shrunk-bounded (d .0))
             (λ m d. place-bounded (avoid-in cutouts m (holds analog psp m (d .1)) (shrunk-bounded (d .0))) picture false k1 centred (aspectOf psp)) analog (F, f)
-            (λ m e. (arranged-shrunk (band-in analog psp wide high A e), band-formed w h analog psp picture m e)) (λ m e. camera-bounded W H A psp cutouts O e)
+            (λ m e. (arranged-shrunk (band-in analog psp wide high A m e), band-formed w h analog psp picture m e)) (λ t. camera-bounded W H A psp cutouts O)
 
-        pub arrangement-bounded : (maximum free : Bool) → Bounded (arrangementOf maximum free first w h (areaOf maximum first picture) cutouts analog psp)
+        pub arrangement-bounded : (maximum plain : Bool) → Bounded (arrangementOf maximum plain first w h (areaOf maximum first picture) cutouts analog psp)
         unfolding arrangementOf areaOf aroundOf
-        arrangement-bounded true free =
+        arrangement-bounded true plain =
             let L = shrunk-bounded F in
-            either Bounded free (found-case Bounded _ L (λ m e. controls-in W H analog psp cutouts (largest-in psp (below-toolbar-in F A)) e)) L
-        arrangement-bounded false free = either Bounded free beside-bounded (shrunk-bounded F)
+            either Bounded plain (found-case Bounded _ L (controls-in W H analog psp cutouts (largest-in psp (below-toolbar-in F A)))) L
+        arrangement-bounded false plain = either Bounded plain band-or-rails-bounded (shrunk-bounded F)
 
     -- ---- with no cutouts no element moves
-    beside-in : (analog psp : Bool) {first : Layout} → Shrunk first → Shrunk (besideOf first w h picture [] analog psp)
+    band-or-rails-in : (analog psp : Bool) {first : Layout} → Shrunk first → Shrunk (bandOrRailsOf first w h picture [] analog psp)
     unfolding avoidCutoutsOf
-    beside-in analog psp F =
-        beside-case w h picture [] psp Shrunk Shrunk (λ m d. d) (λ m d. place-bounded d picture false k1 centred (aspectOf psp)) analog F (λ m e. arranged-shrunk (band-in analog psp wide high A e)) (λ m e. camera-in W H A psp e)
+    band-or-rails-in analog psp F =
+        band-or-rails-case w h picture [] psp Shrunk Shrunk (λ m d. d) (λ m d. place-bounded d picture false k1 centred (aspectOf psp)) analog F (λ m e. arranged-shrunk (band-in analog psp wide high A m e)) (λ t. camera-in W H A psp)
 
-    pub arrangement-in : (analog psp maximum free : Bool) {first : Layout} → T (not maximum) → Shrunk first → Shrunk (arrangementOf maximum free first w h (areaOf maximum first picture) [] analog psp)
+    pub arrangement-in : (analog psp maximum plain : Bool) {first : Layout} → T (not maximum) → Shrunk first → Shrunk (arrangementOf maximum plain first w h (areaOf maximum first picture) [] analog psp)
     unfolding arrangementOf areaOf
-    arrangement-in analog psp true free t F = absurd t
-    arrangement-in analog psp false free t F = either Shrunk free (beside-in analog psp F) F
+    arrangement-in analog psp true plain t F = absurd t
+    arrangement-in analog psp false plain t F = either Shrunk plain (band-or-rails-in analog psp F) F

@@ -16,7 +16,7 @@ use Rattle.numerics.specs.Range.{In, at, minus}
 use Rattle.numerics.specs.Each.{Each, _&_}
 use Rattle.numerics.specs.Lists.{fold-ind}
 use Rattle.numerics.specs.Bounds.{add-law, sub-law, min-ind, max-law, add-most, most-more}
-use Rattle.numerics.specs.Ranges.{in-more, in-reach, most-in, add-in, sub-in, mul-in, div-in, min-in, max-in, sized, clamp-whole-in, range-most}
+use Rattle.numerics.specs.Ranges.{in-more, in-reach, most-in, area-side, add-in, sub-in, mul-in, div-in, min-in, max-in, clamp-whole-in, range-most}
 use Rattle.numerics.specs.Products.{product-most}
 use Rattle.numerics.specs.Literals.{i0, i0·25, i1, f2, f4/3, f480/272}
 use Rattle.numerics.specs.Shrunk.{shrunkMargin}
@@ -144,9 +144,9 @@ pub below-toolbar-in : {l : Layout} {picture : Rect} → Shrunk l → Area pictu
 unfolding belowToolbarOf
 below-toolbar-in {l} L A =
     let y = most-in (A .y) tt in
-    let h = sized (A .h) (A .h0) in
+    let h = area-side (A .h) (A .h0) in
     let lowest = lowest-in (map bottomOf (l .playback ∷ l .speed ∷ l .mute ∷ l .pause ∷ [])) y (key-in (L .playback) & key-in (L .speed) & key-in (L .mute) & key-in (L .pause) & tt) in
     let less = max-in (sub-in h i1 tt) i0 in
     let bottom = in-more (minus 8193) (at 16384) (min-in (lowest .0) (add-in y less tt)) tt tt in
     let rest = rest-in y h bottom (begins y less (lowest .0) (lowest .1)) in
-    record { x = most-in (A .x) tt; y = bottom; w = sized (A .w) (A .w0); h = in-more (at 0) end (max-in rest i1) tt tt }
+    record { x = most-in (A .x) tt; y = bottom; w = area-side (A .w) (A .w0); h = in-more (at 0) end (max-in rest i1) tt tt }

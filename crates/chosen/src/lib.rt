@@ -4,10 +4,10 @@ ghost use mathlib.Core.Bool.{true, _||_};
 ghost use Prim.Native.Nat.{_≤_};
 ghost use Rattle.float.specs.Float.{k0};
 ghost use Rattle.layout.specs.Layout.{cutoutList};
-ghost use Rattle.toolbar.specs.Toolbar.{anchorToolbarOf};
+ghost use Rattle.toolbar.specs.Toolbar.{anchorToolbarOf, reusableTop};
 ghost use Rattle.arranged.specs.Places.{blankOf};
 ghost use Rattle.band.specs.Band.{controllerBandOf};
-ghost use Rattle.chosen.specs.Chosen.{startOf, reusableTop, belowToolbarOf, largestOf, foundOr, aroundOf, railsWinOf, tryRailsOf, besideOf, firstOf, areaOf, arrangementOf};
+ghost use Rattle.chosen.specs.Chosen.{startOf, belowToolbarOf, largestOf, foundOr, aroundOf, railsWinOf, tryRailsOf, bandOrRailsOf, firstOf, areaOf, arrangementOf};
 ghost use Rattle.chosen.specs.ChosenLabels.{OfMode};
 use arranged::BLANK;
 use band::aspect;
@@ -32,7 +32,7 @@ use toolbar::anchor_toolbar;
 
 fn start(psp: bool, analog: bool, w: f32, h: f32, cutouts: Cutouts, picture: Rect) -> Layout
     requires { ⌜ cutouts .count ≤ 16 ⌝ }
-    ensures { λ r. ⌜ (r ≡ startOf psp analog w h (cutoutList cutouts) picture) × OfMode (analog || psp) psp r ⌝ }
+    ensures { λ r. ⌜ r ≡ startOf psp analog w h (cutoutList cutouts) picture ⌝ }
 {
     if psp {
         return defaults::psp(w, h);
@@ -121,7 +121,7 @@ fn banded(layout: Layout, w: f32, h: f32, picture: Rect, analog: bool, psp: bool
     layout
 }
 
-fn beside(
+fn band_or_rails(
     layout: Layout,
     w: f32,
     h: f32,
@@ -131,7 +131,7 @@ fn beside(
     psp: bool,
 ) -> Layout
     requires { ⌜ (cutouts .count ≤ 16) × OfMode analog psp layout ⌝ }
-    ensures { λ r. ⌜ r ≡ besideOf layout w h picture (cutoutList cutouts) analog psp ⌝ }
+    ensures { λ r. ⌜ r ≡ bandOrRailsOf layout w h picture (cutoutList cutouts) analog psp ⌝ }
 {
     let banded = banded(layout, w, h, picture, analog, psp);
     if analog {
@@ -150,7 +150,7 @@ fn first(
     picture: Rect,
 ) -> Layout
     requires { ⌜ cutouts .count ≤ 16 ⌝ }
-    ensures { λ r. ⌜ (r ≡ firstOf psp analog maximum w h (cutoutList cutouts) picture) × OfMode (analog || psp) psp r ⌝ }
+    ensures { λ r. ⌜ r ≡ firstOf psp analog maximum w h (cutoutList cutouts) picture ⌝ }
 {
     let layout = start(psp, analog, w, h, cutouts, picture);
     if maximum {
@@ -192,10 +192,10 @@ fn around(
     first(psp, analog, true, w, h, cutouts, picture)
 }
 
-// The arrangement for that area. free: nothing was saved and no overlap asked for, so that others than the first may be tried.
+// The arrangement for that area. plain: nothing was saved and no overlap asked for, so that others than the first may be tried.
 pub fn arrangement(
     maximum: bool,
-    free: bool,
+    plain: bool,
     psp: bool,
     analog: bool,
     w: f32,
@@ -205,14 +205,14 @@ pub fn arrangement(
     area: Rect,
 ) -> Layout
     requires { ⌜ cutouts .count ≤ 16 ⌝ }
-    ensures { λ r. ⌜ (r ≡ arrangementOf maximum free (firstOf psp analog maximum w h (cutoutList cutouts) picture) w h area (cutoutList cutouts) (analog || psp) psp) × OfMode (analog || psp) psp r ⌝ }
+    ensures { λ r. ⌜ r ≡ arrangementOf maximum plain (firstOf psp analog maximum w h (cutoutList cutouts) picture) w h area (cutoutList cutouts) (analog || psp) psp ⌝ }
 {
-    if !free {
+    if !plain {
         return first(psp, analog, maximum, w, h, cutouts, picture);
     }
     if maximum {
         return around(psp, analog, w, h, cutouts, picture, area);
     }
     let layout = first(psp, analog, false, w, h, cutouts, picture);
-    beside(layout, w, h, area, cutouts, analog | psp, psp)
+    band_or_rails(layout, w, h, area, cutouts, analog | psp, psp)
 }

@@ -38,7 +38,7 @@ default-in {w} {h} cutouts {picture} W H C A high =
     default-case Arranged w h cutouts picture
     (λ compact. place-bounded (arranged-in compact W H) picture false k1 centred (k4 ⊘ k3))
     (place-bounded (side-rails-in cutouts W H high C) picture false k1 centred (k4 ⊘ k3))
-    (λ band e. band-in false false W H A e)
+    (band-in false false W H A)
 
 -- ---- the screen as the picture's area
 screen-area : {w h : Float} → In w (at 1) (at 8192) → In h (at 1) (at 8192) → Area (newOf k0 k0 w h)
@@ -158,7 +158,7 @@ module _ {w h : Float} (W : In w (at 1) (at 8192)) (H : In h (at 1) (at 8192)) w
       let cs = f .1 .0 in
       let ss = f .1 .1 in
       let shrunk = shrunk-layout-in layout {requested = size w h} {full = full} (shrinks W) (shrinks H) (omega arith) (omega arith) (full-in (shrinks W .full) (shrinks H .full)) in
-      band-case Shrunk w h true (newOf k0 k0 w h) (anchored-shrunk (finished-in (shrunkOf layout (size w h) full) wide high shrunk)) (λ band e. arranged-shrunk (band-in true false wide high (screen-area W H) e))
+      band-case Shrunk w h true (newOf k0 k0 w h) (anchored-shrunk (finished-in (shrunkOf layout (size w h) full) wide high shrunk)) (λ band e. arranged-shrunk (band-in true false wide high (screen-area W H) band e))
 
   pub psp-default-in : Shrunk (pspOf w h)
   unfolding pspOf

@@ -1,14 +1,14 @@
 -- Laws of `fit_landscape_controls`: what holds of the layout, and of it with the row, holds of what is chosen; the labels, the counts and the lengths of the arrays stay.
 use mathlib.Core.Path.{_≡_, refl, _∙_}
-use mathlib.Core.Bool.{Bool, true, false, cond, not, _||_}
+use mathlib.Core.Bool.{not, _||_}
 use mathlib.Core.List.{List}
 use Prim.Native.Nat.{ℕ}
 use lib.Dec.{T, eqb, ltb}
 use lib.Ieee.{Float, le}
-use lib.ListN.{length, set, length-set}
+use lib.ListN.{length, length-set}
 use Rattle.float.specs.Float.{_⊕_, _⊗_, k0·01, k1·35}
 use Rattle.geometry.specs.declared.Rect.{Rect}
-use Rattle.float.proofs.Booleans.{either}
+use Rattle.float.proofs.Booleans.{either, by-test}
 use Rattle.layout.specs.declared.Label.{Label}
 use Rattle.layout.specs.declared.Layout.{Layout}
 use Rattle.layout.specs.Labels.{Formed}
@@ -23,20 +23,13 @@ module _ (l : Layout) (w h : Float) (picture : Rect) (aspect : Float) where
 
   pub landscape-case : (C : Layout → Type 0) → C l → (T (not (tightOf (rowOf l w h))) → C fitted) → C (fitLandscapeControlsOf l w h picture aspect)
   unfolding fitLandscapeControlsOf
-  landscape-case C p q = either C (le w (h ⊗ k1·35) || eqb (l .stickcount) 0) p (go (tightOf (rowOf l w h)) q)
-    where
-      go : (b : Bool) → (T (not b) → C fitted) → C (cond b l (cond (le (fitted .game .w) (l .game .w ⊕ k0·01)) l fitted))
-      go true f = p
-      go false f = either C (le (fitted .game .w) (l .game .w ⊕ k0·01)) p (f tt)
+  landscape-case C p q =
+      either C (le w (h ⊗ k1·35) || eqb (l .stickcount) 0) p (by-test C (tightOf (rowOf l w h)) (λ t. p) (λ t. either C (le (fitted .game .w) (l .game .w ⊕ k0·01)) p (q t)))
 
 -- ---- labels, counts and arrays
 row-sticks-length : (sticks : List Rect) (count : ℕ) (r : Row) → length (rowSticksOf sticks count r) ≡ length sticks
 unfolding rowSticksOf
-row-sticks-length sticks count r = go (ltb 1 count) _ _
-  where
-    go : (b : Bool) (left right : Rect) → length (cond b (set (set sticks 0 left) 1 right) (set sticks 0 left)) ≡ length sticks
-    go true left right = rw (length-set, length-set)
-    go false left right = rw length-set
+row-sticks-length sticks count r = either (λ (s : List Rect). length s ≡ length sticks) (ltb 1 count) (rw (length-set, length-set)) (rw length-set)
 
 module _ (labels : List Label) (sticks : ℕ) (l : Layout) (f : Formed labels sticks l) where
   rowed-formed : (r : Row) → Formed labels sticks (rowedOf l r)

@@ -1,5 +1,5 @@
 -- `fit_landscape_controls` keeps a layout in range, on screens up to 8192 by 8192, and its game the widest.
-use mathlib.Core.Bool.{Bool, true, false, cond, not, _||_}
+use mathlib.Core.Bool.{false, not, _||_}
 use mathlib.Core.List.{List, [], _∷_}
 use Prim.Native.Nat.{ℕ, _+_, _≤_, _<_}
 use lib.Dec.{T, ltb}
@@ -7,6 +7,7 @@ use lib.Ieee.{Float, lt}
 use lib.ListN.{length, getD, set}
 use Rattle.float.specs.Float.{k1, k104, k122}
 use Rattle.geometry.specs.declared.Rect.{Rect}
+use Rattle.float.proofs.Booleans.{either, nor-l, nor-r}
 use Rattle.geometry.specs.Rect.{emptyRect}
 use Rattle.layout.specs.declared.Control.{Control}
 use Rattle.layout.specs.declared.Label.{Label}
@@ -15,20 +16,20 @@ use Rattle.layout.specs.declared.Layout.{Layout}
 use Rattle.layout.specs.Actions.{joinOf, actionBoundsOf}
 use Rattle.layout.specs.ActionLaws.{action-bounds}
 use Rattle.layout.specs.Label.{isFaceOf}
-use Rattle.layout.specs.Layout.{anyRect, controlList, elementsOf}
+use Rattle.layout.specs.Layout.{anyRect, controlList}
 use Rattle.layout.specs.Lists.{mapFirst, filterMap, reduce}
 use Rattle.numerics.specs.Value.{AtMost}
 use Rattle.numerics.specs.Rects.{Area, Element, OnScreen, maxArea, maxCorner, maxSide}
 use Rattle.numerics.specs.Range.{In, at, minus}
 use Rattle.numerics.specs.Each.{Each}
-use Rattle.numerics.specs.Lists.{each-take, each-at, each-set, each-imp, fold-ind}
+use Rattle.numerics.specs.Lists.{each-take, each-at, each-set, fold-ind}
 use Rattle.numerics.specs.Bounds.{most-more}
 use Rattle.numerics.specs.Ranges.{in-more, most-in, add-in, sub-in, sub-back, div-in, times-in, min-in, not-below, range-most, element-in, placed-element}
 use Rattle.numerics.specs.Literals.{i0, i0·5, i1, i4, i8, i16, i18, i24, i48, i64, i72, i104, i120, i122, f2}
 use Rattle.numerics.specs.Shrunk.{shrunkMargin}
 use Rattle.search.specs.Bounded.{Every, Bounded, BoundedGame}
-use Rattle.search.specs.Widest.{Widest, centredWidth}
-use Rattle.search.proofs.Changes.{each-mapFirst, every-imp}
+use Rattle.search.specs.Widest.{WidestGame}
+use Rattle.search.proofs.Changes.{each-mapFirst, every-imp, dpad-in, controls-in, sticks-in}
 use Rattle.search.proofs.Layouts.{place-bounded, place-game-in, place-widest}
 use Rattle.search.proofs.Placement.{each-filter}
 use Rattle.search.proofs.Shapes.{Shape}
@@ -39,10 +40,6 @@ use Rattle.moves.specs.Moves.{movedOf}
 use Rattle.landscape.specs.declared.Row.{Row}
 use Rattle.landscape.specs.Landscape.{measureRowOf, tightOf, placeOf, inRow, rowSticksOf, rowedOf, rowOf, fitLandscapeControlsOf}
 use Rattle.landscape.specs.LandscapeLaws.{landscape-case}
-
--- demand 3, of a layout's own game
-abbrev pub WidestGame : ℕ → ℕ → Rect → Float → Layout → Type 0
-WidestGame p q picture aspect l = Widest p q (elementsOf l) picture (centredWidth (elementsOf l) picture aspect) (l .game)
 
 -- an element of the layout
 abbrev Old : Rect → Type 0
@@ -59,27 +56,22 @@ record RowIn (r : Row) : Type 0 where
   pub facey : In (r .facey) (at 0) (at 8192)
   pub shouldery : In (r .shouldery) (at 0) (at 8192)
 
--- no test holds
-none : (a b c : Bool) → T (not (a || (b || c))) → T (not a) × T (not b) × T (not c)
-none true b c t = absurd t
-none false true c t = absurd t
-none false false true t = absurd t
-none false false false t = (tt, tt, tt)
-
 -- the shoulders lie below the toolbar, so the wells below them are on the screen too
 row-in : {w h face stick : Float} → In w (at 1) (at 8192) → In h (at 1) (at 8192) → AtMost face (maxArea + shrunkMargin) → AtMost stick (maxArea + shrunkMargin) → T (not (tightOf (measureRowOf w h face stick))) → RowIn (measureRowOf w h face stick)
 unfolding measureRowOf tightOf
 row-in {w} {h} {face} {stick} W H F S t =
     let r = measureRowOf w h face stick in
-    let n = none (lt (r .shouldery) toolbarHeight) (lt face k122) (lt stick k104) t in
-    let f = in-more (at 122) (at 8200) (not-below (most-in F tt) i122 (n .1)) tt tt in
-    let s = in-more (at 104) (at 8200) (not-below (most-in S tt) i104 (n .2)) tt tt in
+    let tight = lt (r .shouldery) toolbarHeight in
+    let small = lt face k122 || lt stick k104 in
+    let n = nor-r tight small t in
+    let f = in-more (at 122) (at 8200) (not-below (most-in F tt) i122 (nor-l (lt face k122) (lt stick k104) n)) tt tt in
+    let s = in-more (at 104) (at 8200) (not-below (most-in S tt) i104 (nor-r (lt face k122) (lt stick k104) n)) tt tt in
     let rowY = sub-in (sub-in H i4 tt) i48 tt in
     let stickY = sub-in (sub-in rowY i8 tt) s tt in
     let faceY = sub-in (sub-in stickY i8 tt) f tt in
     let above = sub-in faceY i8 tt in
     let high = sub-in above i48 tt in
-    let shoulderY = not-below high i18 (n .0) in
+    let shoulderY = not-below high i18 (nor-l tight small t) in
     record {
       w = W;
       face = f;
@@ -131,35 +123,28 @@ module _ {r : Row} {dx dy : Float} (R : RowIn r) (DX : In dx (minus 17500) (at 9
   place-in B R3 = element-in (sub-in (R .w) i64 tt) (R .rowy) i48 i48 tt
 
   -- the controls past the first n are on the screen as they were
-  controls-in : (n : ℕ) (cs : List Control) → Each (λ c. Old (c .bounds)) cs → Each (λ c. Element (c .bounds)) (mapFirst (inRow r dx dy) n cs)
-  controls-in n cs e = each-mapFirst (λ c. Old (c .bounds)) (λ c. Element (c .bounds)) (inRow r dx dy) (λ c B. place-in B (c .label)) (λ c P. placed-element P tt) n cs e
+  row-controls-in : (n : ℕ) (cs : List Control) → Each (λ c. Old (c .bounds)) cs → Each (λ c. Element (c .bounds)) (mapFirst (inRow r dx dy) n cs)
+  row-controls-in n cs e = each-mapFirst (λ c. Old (c .bounds)) (λ c. Element (c .bounds)) (inRow r dx dy) (λ c B. place-in B (c .label)) (λ c P. placed-element P tt) n cs e
 
-sticks-in : {r : Row} → RowIn r → (sticks : List Rect) (count : ℕ) → Each Element sticks → Each Element (rowSticksOf sticks count r)
+row-sticks-in : {r : Row} → RowIn r → (sticks : List Rect) (count : ℕ) → Each Element sticks → Each Element (rowSticksOf sticks count r)
 unfolding rowSticksOf
-sticks-in R sticks count e =
-    go (ltb 1 count) (element-in i16 (R .sticky) (R .stick) (R .stick) tt) (element-in (sub-in (sub-in (R .w) i16 tt) (R .stick) tt) (R .sticky) (R .stick) (R .stick) tt)
-  where
-    go : (b : Bool) {left right : Rect} → Element left → Element right → Each Element (cond b (set (set sticks 0 left) 1 right) (set sticks 0 left))
-    go true {left} {right} A B = each-set Element 1 (set sticks 0 left) right (each-set Element 0 sticks left e A) B
-    go false {left} A B = each-set Element 0 sticks left e A
+row-sticks-in R sticks count e =
+    let left = each-set Element 0 sticks _ e (element-in i16 (R .sticky) (R .stick) (R .stick) tt) in
+    either (Each Element) (ltb 1 count) (each-set Element 1 (set sticks 0 _) _ left (element-in (sub-in (sub-in (R .w) i16 tt) (R .stick) tt) (R .sticky) (R .stick) (R .stick) tt)) left
 
 -- ---- the layout
 module _ (l : Layout) (cs : l .count ≤ length (l .controls)) (ss : 0 < length (l .sticks)) (L : Every Old Element l) where
+  bounded : Bounded l
+  bounded = every-imp (λ e P. placed-element P tt) (λ e P. P) L
+
   rowed-in : {r : Row} → RowIn r → Bounded (rowedOf l r)
   unfolding rowedOf
   rowed-in R =
       let A = actions-in l cs (L .controls) in
       let dx = in-more (minus 17500) (at 9100) (sub-in (sub-in (sub-in (R .w) i16 tt) (R .face) tt) (A .x) tt) tt tt in
       let dy = in-more (minus 9300) (at 9300) (sub-in (R .facey) (A .y) tt) tt tt in
-      record {
-        dpad = element-in i16 (R .facey) (R .face) (R .face) tt;
-        controls = controls-in R dx dy (l .count) (l .controls) (L .controls);
-        pause = L .pause;
-        playback = L .playback;
-        speed = L .speed;
-        mute = L .mute;
-        sticks = sticks-in R (l .sticks) (l .stickcount) (each-imp Old Element (λ e P. placed-element P tt) (l .sticks) (L .sticks));
-      }
+      let dpad = dpad-in bounded (element-in i16 (R .facey) (R .face) (R .face) tt) in
+      sticks-in (controls-in dpad (row-controls-in R dx dy (l .count) (l .controls) (L .controls))) (row-sticks-in R (l .sticks) (l .stickcount) (bounded .sticks))
 
   stick-in : AtMost (getD (l .sticks) 0 anyRect .w) (maxArea + shrunkMargin)
   stick-in = each-at Old 0 (l .sticks) anyRect ss (L .sticks) .w
@@ -169,8 +154,7 @@ module _ (l : Layout) (cs : l .count ≤ length (l .controls)) (ss : 0 < length 
     row-bounded t = rowed-in (row-in W H (L .dpad .w) stick-in t)
 
     pub landscape-bounded : (picture : Rect) (aspect : Float) → Bounded (fitLandscapeControlsOf l w h picture aspect)
-    landscape-bounded picture aspect =
-        landscape-case l w h picture aspect Bounded (every-imp (λ e P. placed-element P tt) (λ e P. P) L) (λ t. place-bounded (row-bounded t) picture false k1 centred aspect)
+    landscape-bounded picture aspect = landscape-case l w h picture aspect Bounded bounded (λ t. place-bounded (row-bounded t) picture false k1 centred aspect)
 
     module _ {aspect : Float} {p q : ℕ} (S : Shape aspect p q) {picture : Rect} (A : Area picture) where
       pub landscape-game-in : BoundedGame (l .game) → BoundedGame (fitLandscapeControlsOf l w h picture aspect .game)

@@ -165,10 +165,6 @@ above-zero {y} {a} i t =
     let j = lower i (most-in zero-most tt) (le-not 1 k0 y (zero-most .whole) (i .whole) n) in
     omega (arith, j .lo, j .hi, mul-le-mul-left eps (ltb→lt limit a t), eps-pos)))
 
--- a side of an area
-pub sized : {x : Float} → AtMost x maxArea → T (le k0 x) → In x (at 0) (at 8192)
-sized {x} m t = let i = most-in m tt in raise i (most-in zero-most tt) (le-law 1 k0 x (zero-most .whole) (i .whole) t)
-
 -- ---- between two others
 pub between : {x l h : Float} {a b a' b' : ℕ} → Whole x → In l a b → In h a' b' → T (not (lt x l)) → T (not (lt h x)) → In x a b'
 between {x} {l} {h} p i j s t =
@@ -264,6 +260,10 @@ neg-in {x} {a} {b} i t =
     let k = times-sub eps (limit + limit) b (leb→le b (limit + limit) (and-r (leb a (limit + limit)) (leb b (limit + limit)) t)) in
     let l = times-sub eps (limit + limit) a (leb→le a (limit + limit) (and-l (leb a (limit + limit)) (leb b (limit + limit)) t)) in
     record { whole = neg-whole x (i .whole); lo = omega (arith, i .hi, v, k); hi = omega (arith, i .lo, v, l) }
+
+-- ---- a side of a picture's area
+pub area-side : {x : Float} → AtMost x maxArea → T (le k0 x) → In x (at 0) (at 8192)
+area-side {x} m t = raise (most-in m tt) (most-in zero-most tt) (le-law 1 k0 x (zero-most .whole) (m .whole) t)
 
 -- ---- a rectangle by the ranges of its numbers
 pub element-in : {x y w h : Float} {a b a' b' c d c' d' : ℕ} → In x a b → In y a' b' → In w c d → In h c' d'

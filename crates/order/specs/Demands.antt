@@ -3,11 +3,13 @@ use mathlib.Core.Path.{_≡_}
 use mathlib.Core.List.{List}
 use Prim.Native.Nat.{ℕ}
 use Rattle.geometry.specs.Answer.{Answer, accepted}
-use Rattle.search.specs.Widest.{Widest}
+use Rattle.layout.specs.Layout.{elementsOf}
+use Rattle.search.specs.Widest.{centredWidth, Widest}
 use Rattle.settings.specs.declared.Settings.{Settings}
+use Rattle.band.specs.Band.{aspectOf}
 use Rattle.reader.specs.Order.{readOrderOf}
 use Rattle.written.specs.Written.{writtenGame, writtenElements}
-use Rattle.preset.specs.Demand.{KeptClear, shapeWidth, shapeHeight, foundWidth}
+use Rattle.preset.specs.Demand.{KeptClear, shapeWidth, shapeHeight}
 use Rattle.preset.specs.Preset.{settingsLayoutOf}
 
 -- Where an order gives the settings s, of KeepClear without overlap at size factor 1, and its layout is written: no rival is wider than the game by more than 1/16, and the game meets no element by more.
@@ -16,4 +18,4 @@ abbrev pub WidestWritten : List ℕ → Answer ℕ → List ℕ → Type 0
 WidestWritten order answer out =
     (s : Settings) (n : ℕ) → readOrderOf order ≡ accepted s → answer ≡ accepted n → KeptClear (s .preset) →
     let psp = s .preset .psp in
-    Widest (shapeWidth psp) (shapeHeight psp) (writtenElements out) (s .picture) (foundWidth psp (s .picture) (settingsLayoutOf s)) (writtenGame out)
+    Widest (shapeWidth psp) (shapeHeight psp) (writtenElements out) (s .picture) (centredWidth (elementsOf (settingsLayoutOf s)) (s .picture) (aspectOf psp)) (writtenGame out)

@@ -9,6 +9,7 @@ use lib.Ieee.{Float}
 use lib.ListN.{length, drop}
 use Rattle.geometry.specs.Answer.{Answer, accepted, refused, must}
 use Rattle.geometry.specs.AnswerLaws.{never, refused-then}
+use Rattle.float.proofs.Booleans.{either}
 use Rattle.layout.specs.declared.Layout.{Layout}
 use Rattle.limits.specs.SettingsRanges.{accepted-in-range}
 use Rattle.settings.specs.declared.Preset.{Preset}
@@ -99,11 +100,8 @@ layout-refused order out e = written-refused _ (refused-then _ _ (read-number or
 
 pub viewport-refused : (order : List ℕ) (reusable covered : Float) (out : List ℕ) {n : ℕ} → viewportLayoutOf order reusable covered out ≡ refused n → Number n × (viewportOutputOf order reusable covered out ≡ out)
 unfolding viewportLayoutOf viewportOutputOf orderViewport must
-viewport-refused order reusable covered out {n} e = written-refused _ (refused-then _ _ (read-number order) (λ s r. go (topsInLimitsOf reusable covered) _ r)) out e
-  where
-    go : (b : Bool) (l : Layout) → cond b (accepted l) (refused 6) ≡ refused n → Number n
-    go true l r = absurd (never r)
-    go false l r = let six : n ≡ 6 = cc in (omega arith, omega arith)
+viewport-refused order reusable covered out {n} e =
+    written-refused _ (refused-then _ _ (read-number order) (λ s. either (λ a. a ≡ refused n → Number n) (topsInLimitsOf reusable covered) (λ r. absurd (never r)) (λ r. let six : n ≡ 6 = cc in (omega arith, omega arith)))) out e
 
 -- ---- demand 3
 pub order-widest : (order : List ℕ) {s : Settings} → readOrderOf order ≡ accepted s → LayoutIsF32 (settingsLayoutOf s) → (out : List ℕ) → WidestWritten order (writeLayoutOf (settingsLayoutOf s) out) (outputOf (settingsLayoutOf s) out)

@@ -1,8 +1,7 @@
 -- The labels, counts and arrays of `controls`: those of the layout whose controls are moved.
-use mathlib.Core.Path.{_≡_, refl}
+use mathlib.Core.Path.{refl}
 use mathlib.Core.Bool.{Bool, true, false}
 use mathlib.Core.List.{List}
-use mathlib.Core.Option.{some}
 use Prim.Native.Nat.{ℕ}
 use lib.Dec.{T}
 use lib.Ieee.{Float}
@@ -12,11 +11,12 @@ use Rattle.layout.specs.declared.Layout.{Layout}
 use Rattle.layout.specs.Labels.{Formed}
 use Rattle.numerics.specs.Each.{_&_}
 use Rattle.arranged.specs.declared.Places.{Places}
+use Rattle.arranged.specs.Found.{Given}
 use Rattle.arranged.specs.ArrangedLabels.{placed-formed, arranged-formed}
 use Rattle.band.specs.BandLabels.{bandLabels, bandSticks}
 use Rattle.defaults.specs.DefaultLabels.{analog-formed, psp-formed}
 use Rattle.picture.specs.Picture.{arrangeOf, stackedOf, verticalOf, rowedOf, horizontalOf, fittedOf, baseOf, controlsOf}
-use Rattle.picture.specs.PictureCases.{Given, found, vertical-case, horizontal-case, first-case}
+use Rattle.picture.specs.PictureCases.{vertical-case, horizontal-case, first-case}
 
 module _ (labels : List Label) (sticks : ℕ) (base : Layout) (f : Formed labels sticks base) where
   arrange-formed : (dpad : Rect) (places : Places) (first second : Rect) → Formed labels sticks (arrangeOf base dpad places first second)
@@ -45,8 +45,5 @@ module _ (w h : Float) where
   base-formed false true k = absurd (k tt)
   base-formed false false k = arranged-formed w h false
 
-  pub controls-formed : (game : Rect) (analog psp : Bool) (holes : List Rect) (l : Layout) → (T psp → T analog) → controlsOf w h game analog psp holes ≡ some l → Formed (bandLabels analog psp) (bandSticks analog psp) l
-  controls-formed game analog psp holes l k e =
-      let labels = bandLabels analog psp in
-      let sticks = bandSticks analog psp in
-      found (Formed labels sticks) (fitted-formed labels sticks (baseOf w h analog psp) (base-formed analog psp k) w h game analog psp holes) e
+  pub controls-formed : (game : Rect) (analog psp : Bool) (holes : List Rect) → (T psp → T analog) → Given (Formed (bandLabels analog psp) (bandSticks analog psp)) (controlsOf w h game analog psp holes)
+  controls-formed game analog psp holes k = fitted-formed (bandLabels analog psp) (bandSticks analog psp) (baseOf w h analog psp) (base-formed analog psp k) w h game analog psp holes

@@ -1,8 +1,6 @@
 -- The layout of `controls` is in range, about any game in range. The tests bound the wells and the sticks; for the rest coarse ranges suffice.
-use mathlib.Core.Path.{_≡_}
 use mathlib.Core.Bool.{Bool, true, false, not, _&&_, cond}
 use mathlib.Core.List.{List}
-use mathlib.Core.Option.{some}
 use Prim.Native.Nat.{ℕ}
 use lib.Dec.{T, leb}
 use lib.Ieee.{Float, lt}
@@ -21,16 +19,17 @@ use Rattle.numerics.specs.Bounds.{add-most}
 use Rattle.numerics.specs.Ranges.{in-more, add-in, sub-in, times-in, div-in, min-in, max-in, clamp-in, clamp-whole-in, cond-in, neg-in, not-below, range-most, element-in}
 use Rattle.numerics.specs.Literals.{i0, i4, i6, i8, i12, i14, i24, i44, i50, i64, i68, i70, i76, i96, i112, i120, i128, i136, i164, i240, i4√2, f1√2, f2, f3, f4}
 use Rattle.search.specs.Bounded.{Bounded, BoundedGame}
-use Rattle.search.proofs.Changes.{shrunk-bounded, arranged-bounded}
+use Rattle.search.proofs.Changes.{shrunk-bounded, arranged-bounded, dpad-in, sticks-in}
 use Rattle.arranged.specs.declared.Places.{Places}
 use Rattle.arranged.specs.Places.{capOf, atOf}
+use Rattle.arranged.specs.Found.{Given}
 use Rattle.arranged.specs.PlaceRanges.{every-placed}
 use Rattle.arranged.specs.ArrangedRanges.{arranged-in}
 use Rattle.defaults.specs.DefaultRanges.{analog-in, psp-default-in}
 use Rattle.picture.specs.declared.Row.{Row}
 use Rattle.picture.specs.declared.Stack.{Stack}
 use Rattle.picture.specs.Picture.{gap, key, minWell, diamondOf, auxiliaryOf, arrangeOf, squareOf, measureStackOf, stackedOf, verticalOf, measureRowOf, withX, centerKeysOf, rowPlacesOf, rowedOf, horizontalOf, fittedOf, baseOf, controlsOf}
-use Rattle.picture.specs.PictureCases.{Given, found, vertical-case, horizontal-case, first-case}
+use Rattle.picture.specs.PictureCases.{vertical-case, horizontal-case, first-case}
 
 -- a length of the screen, of either sign
 abbrev Span : Float → Type 0
@@ -109,9 +108,7 @@ center-in p P center R3 = with-x-in (P R3) (coarse (add-in center i76 tt) tt tt)
 -- ---- a layout with its controls there
 arrange-in : {l : Layout} {dpad first second : Rect} (places : Places) → Bounded l → Element dpad → PlacesIn places → Element first → Element second → Bounded (arrangeOf l dpad places first second)
 unfolding arrangeOf
-arrange-in places B dpad P first second =
-    let placed = every-placed places B P in
-    record { dpad = dpad; controls = placed .controls; pause = placed .pause; playback = placed .playback; speed = placed .speed; mute = placed .mute; sticks = first & second & tt }
+arrange-in places B dpad P first second = sticks-in (dpad-in (every-placed places B P) dpad) (first & second & tt)
 
 -- ---- `vertical`
 record StackIn (s : Stack) : Type 0 where
@@ -247,5 +244,5 @@ module _ {w h : Float} (W : In w (at 1) (at 8192)) (H : In h (at 1) (at 8192)) w
   base-in true false = shrunk-bounded (analog-in W H)
   base-in false false = arranged-bounded (arranged-in false (in-more (at 0) (at 8192) W tt tt) (in-more (at 0) (at 8192) H tt tt))
 
-  pub controls-in : {game : Rect} (analog psp : Bool) (holes : List Rect) {l : Layout} → BoundedGame game → controlsOf w h game analog psp holes ≡ some l → Bounded l
-  controls-in analog psp holes G e = found Bounded (fitted-in analog psp holes (base-in analog psp) G) e
+  pub controls-in : {game : Rect} (analog psp : Bool) (holes : List Rect) → BoundedGame game → Given Bounded (controlsOf w h game analog psp holes)
+  controls-in analog psp holes G = fitted-in analog psp holes (base-in analog psp) G

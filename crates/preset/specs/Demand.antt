@@ -2,12 +2,11 @@
 use mathlib.Core.Path.{_≡_}
 use mathlib.Core.Bool.{Bool, true, false, cond}
 use Prim.Native.Nat.{ℕ}
-use lib.Ieee.{Float, eq}
+use lib.Ieee.{eq}
 use Rattle.float.specs.Float.{k1}
 use Rattle.geometry.specs.declared.Rect.{Rect}
 use Rattle.layout.specs.declared.Layout.{Layout}
-use Rattle.layout.specs.Layout.{elementsOf}
-use Rattle.search.specs.Widest.{centredWidth, Widest}
+use Rattle.search.specs.Widest.{WidestGame}
 use Rattle.settings.specs.declared.Fit.the-variants.{KeepClear}
 use Rattle.settings.specs.declared.Preset.{Preset}
 use Rattle.settings.specs.declared.Settings.{Settings}
@@ -30,12 +29,8 @@ shapeWidth psp = cond psp 480 4
 abbrev pub shapeHeight : Bool → ℕ
 shapeHeight psp = cond psp 272 3
 
--- "The centred search is what `clear_picture_aspect` does before its side search; its width is the f32 that the source's definition gives for the arguments from which the returned game comes"
-abbrev pub foundWidth : Bool → Rect → Layout → Float
-foundWidth psp area l = centredWidth (elementsOf l) area (aspectOf psp)
-
 abbrev pub WidestPicture : Bool → Rect → Layout → Type 0
-WidestPicture psp area l = Widest (shapeWidth psp) (shapeHeight psp) (elementsOf l) area (foundWidth psp area l) (l .game)
+WidestPicture psp area l = WidestGame (shapeWidth psp) (shapeHeight psp) area (aspectOf psp) l
 
 -- "the area is the order's tag 2 rectangle"
 abbrev pub WidestFor : Settings → Layout → Type 0

@@ -15,11 +15,11 @@ use Rattle.settings.specs.declared.Preset.{Preset}
 use Rattle.settings.specs.declared.Settings.{Settings}
 use Rattle.settings.specs.Settings.{savedList, untouchedOf, pictureFitOf}
 use Rattle.saved.specs.Saved.{isEmpty, withSavedOf}
-use Rattle.toolbar.specs.Toolbar.{anchorToolbarOf}
+use Rattle.toolbar.specs.Toolbar.{anchorToolbarOf, reusableTop}
 use Rattle.band.specs.Band.{aspectOf}
 use Rattle.cutouts.specs.Cutouts.{avoidCutoutsOf}
 use Rattle.landscape.specs.Landscape.{fitLandscapeControlsOf}
-use Rattle.chosen.specs.Chosen.{reusableTop, firstOf, areaOf, arrangementOf}
+use Rattle.chosen.specs.Chosen.{firstOf, areaOf, arrangementOf}
 
 -- the elements where they stay: the saved ones at their places, all clear of cutouts, the toolbar anchored
 unfoldable pub settledOf : Layout → Float → Float → Rect → List Rect → List Rect → Layout
@@ -37,8 +37,8 @@ abbrev pub maximumOf : Preset → Bool
 maximumOf p = isMaximumOf (pictureFitOf p)
 
 -- nothing was saved, and no overlap asked for
-abbrev pub freeOf : Preset → Bool
-freeOf p = isEmpty (savedList p) && not (p .overlap)
+abbrev pub plainOf : Preset → Bool
+plainOf p = isEmpty (savedList p) && not (p .overlap)
 
 -- a psp has a stick, whatever its other mark says
 abbrev pub hasSticks : Preset → Bool
@@ -46,7 +46,7 @@ hasSticks p = p .analog || p .psp
 
 -- the keys beside the sticks may go into a row
 unfoldable pub rowAllowedOf : Preset → List Rect → Bool
-rowAllowedOf p cutouts = hasSticks p && (freeOf p && (not (maximumOf p) && (untouchedOf p && isEmpty cutouts)))
+rowAllowedOf p cutouts = hasSticks p && (plainOf p && (not (maximumOf p) && (untouchedOf p && isEmpty cutouts)))
 
 -- on a screen of 1 by 1 at least
 unfoldable pub laidOutOf : Preset → Float → Float → List Rect → Rect → Layout
@@ -55,7 +55,7 @@ laidOutOf p w h cutouts picture =
     let aspect = aspectOf (p .psp) in
     let first = firstOf (p .psp) (p .analog) maximum w h cutouts picture in
     let area = areaOf maximum first picture in
-    let arrangement = arrangementOf maximum (freeOf p) first w h area cutouts (hasSticks p) (p .psp) in
+    let arrangement = arrangementOf maximum (plainOf p) first w h area cutouts (hasSticks p) (p .psp) in
     let settled = settledOf arrangement w h picture cutouts (savedList p) in
     let placed = placeGameInAspectOf settled area (p .overlap || maximum) (p .scale) (p .offset) aspect in
     cond (rowAllowedOf p cutouts) (fitLandscapeControlsOf placed w h area aspect) placed

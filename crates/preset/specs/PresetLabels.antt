@@ -5,7 +5,7 @@ use lib.Ieee.{Float, lt}
 use Rattle.float.specs.Float.{k0, k1}
 use Rattle.float.specs.MinMax.{maxOf}
 use Rattle.geometry.specs.declared.Rect.{Rect}
-use Rattle.float.proofs.Booleans.{either, or-r}
+use Rattle.float.proofs.Booleans.{either}
 use Rattle.layout.specs.declared.Layout.{Layout}
 use Rattle.layout.specs.LabelLaws.{set-elements-formed}
 use Rattle.layout.specs.Layout.{elementsOf}
@@ -14,15 +14,14 @@ use Rattle.settings.specs.declared.Settings.{Settings}
 use Rattle.settings.specs.Settings.{savedList}
 use Rattle.saved.specs.Saved.{isEmpty, withSavedOf}
 use Rattle.saved.specs.SavedLaws.{length-restored}
-use Rattle.toolbar.specs.Toolbar.{anchorToolbarOf}
+use Rattle.toolbar.specs.Toolbar.{anchorToolbarOf, reusableTop}
 use Rattle.band.specs.Band.{aspectOf}
 use Rattle.band.specs.BandLabels.{bandLabels, bandSticks}
 use Rattle.cutouts.specs.Cutouts.{avoidCutoutsOf}
 use Rattle.landscape.specs.LandscapeLaws.{landscape-formed}
-use Rattle.chosen.specs.Chosen.{reusableTop}
-use Rattle.chosen.specs.ChosenLabels.{OfMode, Few, few, anchor-mode, place-mode, avoid-mode, arrangement-mode, first-mode}
-use Rattle.preset.specs.PresetCases.{firstFor, areaFor, arrangementFor, placedFor, laid-out-case}
-use Rattle.preset.specs.Preset.{settledOf, maximumOf, freeOf, hasSticks, laidOutOf, layoutInOf, viewportLayoutOf, settingsLayoutOf, settingsViewportOf}
+use Rattle.chosen.specs.ChosenLabels.{OfMode, Few, few, anchor-mode, place-mode, avoid-mode, arrangement-mode}
+use Rattle.preset.specs.PresetCases.{areaFor, arrangementFor, placedFor, laid-out-case}
+use Rattle.preset.specs.Preset.{settledOf, maximumOf, plainOf, hasSticks, laidOutOf, layoutInOf, viewportLayoutOf, settingsLayoutOf, settingsViewportOf}
 
 pub saved-mode : (analog psp : Bool) (l : Layout) → OfMode analog psp l → (w h : Float) (saved : List Rect) → OfMode analog psp (withSavedOf l w h saved)
 unfolding withSavedOf
@@ -38,9 +37,7 @@ module _ (w h : Float) (cutouts : List Rect) (picture : Rect) where
 
 module _ (p : Preset) (w h : Float) (cutouts : List Rect) (picture : Rect) where
   pub arranged-mode : OfMode (hasSticks p) (p .psp) (arrangementFor p w h cutouts picture)
-  arranged-mode =
-      arrangement-mode w h (areaFor p w h cutouts picture) cutouts (hasSticks p) (p .psp) (or-r (p .analog) (p .psp)) (firstFor p w h cutouts picture) (first-mode w h cutouts picture (p .psp) (p .analog) (maximumOf p)) (maximumOf p)
-      (freeOf p)
+  arranged-mode = arrangement-mode w h cutouts picture (p .psp) (p .analog) (maximumOf p) (areaFor p w h cutouts picture) (plainOf p)
 
   pub placed-mode : OfMode (hasSticks p) (p .psp) (placedFor p w h cutouts picture)
   placed-mode =

@@ -12,8 +12,8 @@ use Rattle.numerics.specs.Value.{Whole}
 use Rattle.numerics.specs.Rects.{Element, Area, OnScreen, Key, margin}
 use Rattle.numerics.specs.Range.{In, at, minus}
 use Rattle.numerics.specs.Each.{Each}
-use Rattle.numerics.specs.Ranges.{in-more, max-in, placed-element}
-use Rattle.numerics.specs.Literals.{i0, i1}
+use Rattle.numerics.specs.Ranges.{max-in, placed-element}
+use Rattle.numerics.specs.Literals.{i1}
 use Rattle.numerics.specs.Shrunk.{shrunkMargin}
 use Rattle.search.specs.Bounded.{Every, Bounded, Shrunk, BoundedGame}
 use Rattle.search.specs.Search.{placeGameInAspectOf}
@@ -27,7 +27,7 @@ use Rattle.saved.specs.Saved.{isEmpty, withSavedOf}
 use Rattle.saved.specs.SavedLaws.{not-empty}
 use Rattle.saved.specs.SavedRanges.{saved-bounded}
 use Rattle.toolbar.specs.Toolbar.{anchorToolbarOf}
-use Rattle.toolbar.specs.ToolbarRanges.{avoided-in, uncovered-in, anchor-in}
+use Rattle.toolbar.specs.ToolbarRanges.{avoided-in, anchor-in, anchored-in, reusable-in}
 use Rattle.band.specs.Band.{aspectOf}
 use Rattle.cutouts.specs.Cutouts.{avoidCutoutsOf}
 use Rattle.landscape.specs.LandscapeRanges.{landscape-bounded, landscape-game-in}
@@ -35,8 +35,8 @@ use Rattle.chosen.specs.Chosen.{areaOf}
 use Rattle.chosen.specs.ChosenCases.{whole-area}
 use Rattle.chosen.specs.ChosenLabels.{OfMode, anchor-mode, first-mode}
 use Rattle.chosen.specs.MaximumRanges.{shape, lowered-game-in, below-toolbar-in}
-use Rattle.chosen.specs.ChosenRanges.{Holds, holds, avoid-in, anchored-in, first-in, arrangement-bounded, arrangement-in}
-use Rattle.preset.specs.Preset.{settledOf, maximumOf, freeOf, hasSticks, rowAllowedOf, laidOutOf, layoutInOf, viewportLayoutOf, settingsLayoutOf}
+use Rattle.chosen.specs.ChosenRanges.{Holds, holds, wide, high, avoid-in, first-in, arrangement-bounded, arrangement-in}
+use Rattle.preset.specs.Preset.{settledOf, maximumOf, plainOf, hasSticks, rowAllowedOf, laidOutOf, layoutInOf, viewportLayoutOf, settingsLayoutOf}
 use Rattle.preset.specs.PresetCases.{firstFor, settledFor, placedFor, laid-out-case, RowAllowed, row-allowed}
 use Rattle.preset.specs.PresetLabels.{saved-mode, arranged-mode, placed-mode, layout-mode}
 
@@ -51,19 +51,19 @@ module _ {w h : Float} (W : In w (at 1) (at 8192)) (H : In h (at 1) (at 8192)) {
       let restored = withSavedOf l w h saved in
       let J = holds analog psp l f in
       let K = holds analog psp restored (saved-mode analog psp l f w h saved) in
-      keys-in (anchored-in W H A cutouts O _ (avoid-in W H cutouts restored K (saved-bounded W H l (J .controls) (J .sticks) L saved)))
+      keys-in (anchored-in _ cutouts (wide W H) (high W H) (reusable-in A) O (avoid-in W H cutouts restored K (saved-bounded W H l (J .controls) (J .sticks) L saved)))
 
   -- ---- with no cutouts and nothing saved no element moves
   settled-in : (saved : List Rect) → T (isEmpty saved) → {l : Layout} → Shrunk l → Every (OnScreen shrunkMargin) Element (settledOf l w h picture [] saved)
   unfolding settledOf withSavedOf avoidCutoutsOf
-  settled-in [] t L = keys-in (anchored-in W H A [] tt _ L)
+  settled-in [] t L = keys-in (anchored-in _ [] (wide W H) (high W H) (reusable-in A) tt L)
   settled-in (r ∷ rs) t L = absurd (not-empty r rs t)
 
   pub row-in : (p : Preset) (cutouts : List Rect) → Each Element cutouts → T (rowAllowedOf p cutouts) → Every (OnScreen shrunkMargin) Element (placedFor p w h cutouts picture)
   row-in p cutouts O t = go cutouts O (row-allowed p cutouts t)
     where
       go : (cutouts : List Rect) → Each Element cutouts → RowAllowed p cutouts → Every (OnScreen shrunkMargin) Element (placedFor p w h cutouts picture)
-      go [] O a = place-bounded (settled-in (savedList p) (a .saved) (arrangement-in W H A (hasSticks p) (p .psp) (maximumOf p) (freeOf p) (a .fit) (first-in W H A [] tt (p .psp) (p .analog) (maximumOf p)))) _ _ _ _ _
+      go [] O a = place-bounded (settled-in (savedList p) (a .saved) (arrangement-in W H A (hasSticks p) (p .psp) (maximumOf p) (plainOf p) (a .fit) (first-in W H A [] tt (p .psp) (p .analog) (maximumOf p)))) _ _ _ _ _
       go (c ∷ cs) O a = absurd (not-empty c cs (a .clear))
 
   -- ---- the layout
@@ -73,7 +73,7 @@ module _ {w h : Float} (W : In w (at 1) (at 8192)) (H : In h (at 1) (at 8192)) {
         let first = firstFor p w h cutouts picture in
         let F = first-in W H A cutouts O (p .psp) (p .analog) (maximumOf p) in
         let f = first-mode w h cutouts picture (p .psp) (p .analog) (maximumOf p) in
-        settled-bounded cutouts O (hasSticks p) (p .psp) _ (arranged-mode p w h cutouts picture) (arrangement-bounded W H A cutouts O (hasSticks p) (p .psp) first F f (maximumOf p) (freeOf p)) (savedList p)
+        settled-bounded cutouts O (hasSticks p) (p .psp) _ (arranged-mode p w h cutouts picture) (arrangement-bounded W H A cutouts O (hasSticks p) (p .psp) first F f (maximumOf p) (plainOf p)) (savedList p)
 
     pub placed-holds : Holds (placedFor p w h cutouts picture)
     placed-holds = holds (hasSticks p) (p .psp) (placedFor p w h cutouts picture) (placed-mode p w h cutouts picture)
@@ -112,7 +112,7 @@ module _ (p : Preset) {w h : Float} (W : In w (at 0) (at 8192)) (H : In h (at 0)
       let l = layoutInOf p w h cutouts picture in
       let anchored = anchorToolbarOf l w h reusable k0 cutouts in
       let K = holds (hasSticks p) (p .psp) anchored (anchor-mode (hasSticks p) (p .psp) l (layout-mode p w h cutouts picture) w h reusable k0 cutouts) in
-      let L = keys-in (anchor-in l cutouts W H R (in-more (minus 8192) (at 8192) i0 tt tt) (uncovered-in l cutouts O) layout-bounded) in
+      let L = keys-in (anchored-in l cutouts W H R O layout-bounded) in
       either Bounded (lt k0 covered) (keys-in (anchor-in anchored cutouts W H R C (avoided-in anchored covered cutouts (K .controls) (K .sticks) L O) L)) L
 
   pub viewport-game-bounded : (reusable covered : Float) → Whole (p .scale) → Whole (p .offset .x) → Whole (p .offset .y) → BoundedGame (viewportLayoutOf p w h picture reusable covered cutouts .game)

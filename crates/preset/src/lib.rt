@@ -6,7 +6,7 @@ ghost use lib.ListN.{take};
 ghost use Rattle.layout.specs.Layout.{cutoutList};
 ghost use Rattle.settings.specs.Settings.{acceptedOf};
 ghost use Rattle.chosen.specs.ChosenLabels.{OfMode};
-ghost use Rattle.preset.specs.Preset.{settledOf, isMaximumOf, freeOf, rowAllowedOf, laidOutOf, layoutInOf, layoutWithCutoutsOf, viewportLayoutOf, settingsLayoutOf, settingsViewportOf};
+ghost use Rattle.preset.specs.Preset.{settledOf, isMaximumOf, plainOf, rowAllowedOf, laidOutOf, layoutInOf, layoutWithCutoutsOf, viewportLayoutOf, settingsLayoutOf, settingsViewportOf};
 use band::aspect;
 use chosen::area;
 use chosen::arrangement;
@@ -36,7 +36,7 @@ fn settled(
     psp: bool,
 ) -> Layout
     requires { ⌜ (cutouts .count ≤ 16) × ((n ≤ 32) × OfMode analog psp arrangement) ⌝ }
-    ensures { λ r. ⌜ (r ≡ settledOf arrangement w h picture (cutoutList cutouts) (take n saved)) × OfMode analog psp r ⌝ }
+    ensures { λ r. ⌜ r ≡ settledOf arrangement w h picture (cutoutList cutouts) (take n saved) ⌝ }
 {
     let layout = with_saved(arrangement, w, h, saved, n);
     let clear = avoid_cutouts(layout, w, h, cutouts);
@@ -54,9 +54,9 @@ fn is_maximum(fit: Fit) -> bool
 }
 
 // Nothing was saved, and no overlap asked for.
-fn free(p: Preset) -> bool
+fn plain(p: Preset) -> bool
     requires { ⌜ p .count ≤ 32 ⌝ }
-    ensures { λ r. ⌜ r ≡ freeOf p ⌝ }
+    ensures { λ r. ⌜ r ≡ plainOf p ⌝ }
 {
     (p.count == 0) & !p.overlap
 }
@@ -66,9 +66,9 @@ fn row_allowed(p: Preset, cutouts: Cutouts) -> bool
     requires { ⌜ (p .count ≤ 32) × (cutouts .count ≤ 16) ⌝ }
     ensures { λ r. ⌜ r ≡ rowAllowedOf p (cutoutList cutouts) ⌝ }
 {
-    let free = free(p);
+    let plain = plain(p);
     let kept = !is_maximum(p.picture_fit());
-    (p.analog | p.psp) & (free & (kept & (p.untouched() & (cutouts.count == 0))))
+    (p.analog | p.psp) & (plain & (kept & (p.untouched() & (cutouts.count == 0))))
 }
 
 // On a screen of 1 by 1 at least.
@@ -79,16 +79,16 @@ fn laid_out(p: Preset, w: f32, h: f32, cutouts: Cutouts, picture: Rect) -> Layou
     let psp = p.psp;
     let sticks = p.analog | psp;
     let maximum = is_maximum(p.picture_fit());
-    let free = free(p);
-    let bounds = area(maximum, w, h, cutouts, picture);
-    let layout = arrangement(maximum, free, psp, p.analog, w, h, cutouts, picture, bounds);
+    let plain = plain(p);
+    let area = area(maximum, w, h, cutouts, picture);
+    let layout = arrangement(maximum, plain, psp, p.analog, w, h, cutouts, picture, area);
     let saved = p.elements;
     let elements = settled(layout, w, h, picture, cutouts, saved, p.count, sticks, psp);
     let shape = aspect(psp);
     let overlap = p.overlap | maximum;
-    let placed = place_game_in_aspect(elements, bounds, overlap, p.scale, p.offset, shape);
+    let placed = place_game_in_aspect(elements, area, overlap, p.scale, p.offset, shape);
     if row_allowed(p, cutouts) {
-        return fit_landscape_controls(placed, w, h, bounds, shape);
+        return fit_landscape_controls(placed, w, h, area, shape);
     }
     placed
 }

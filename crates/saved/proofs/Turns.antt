@@ -38,10 +38,6 @@ module _ (w h : Float) where
   restored-front (suc n) (r ∷ rs) [] = refl
   restored-front (suc n) (r ∷ rs) (e ∷ es) = ap (λ (t : List Rect). restoreOf w h r e ∷ t) (restored-front n rs es)
 
-  pub restored-none : (es : List Rect) → es ≡ restoredOf w h [] es
-  unfolding restoredOf
-  restored-none es = refl
-
 -- as many of the changed elements as are counted
 pub mapped-front : (f : Rect → Rect) (n : ℕ) (at old : List Rect) → replaceFirst n (map f at) old ≡ replaceFirst n (map f (take n at)) old
 mapped-front f n at old = ap (λ (t : List Rect). t ++ drop n old) (take-map f n at ∙ sym (take-map f n (take n at) ∙ ap (map f) (take-take n n at (omega arith))))

@@ -1,17 +1,15 @@
 -- Every restored element is in range.
 use mathlib.Core.Path.{_∙_}
-use mathlib.Core.Bool.{Bool, true, false, cond, _&&_}
 use mathlib.Core.List.{List, [], _∷_}
 use Prim.Native.Nat.{_≤_}
 use native.Mathlib.Omega.{arith}
 use lib.Dec.{T}
 use lib.Ieee.{Float, nan, inf, fin, lt}
-use lib.Ieee.Fits.{and-l, and-r}
 use lib.Ieee.Scale.{finite}
 use lib.ListN.{length}
 use Rattle.float.specs.MinMax.{absOf}
 use Rattle.geometry.specs.declared.Rect.{Rect}
-use Rattle.float.proofs.Booleans.{either}
+use Rattle.float.proofs.Booleans.{either, by-test, all-four}
 use Rattle.layout.specs.declared.Layout.{Layout}
 use Rattle.layout.specs.Layout.{elementsOf}
 use Rattle.layout.specs.ElementLaws.{length-elements}
@@ -37,29 +35,20 @@ module _ {w h : Float} (W : In w (at 1) (at 8192)) (H : In h (at 1) (at 8192)) w
   on-screen-in : (r : Rect) → T (usableOf r) → Element (onScreenOf w h r)
   unfolding onScreenOf usableOf
   on-screen-in r t =
-      let t1 : Bool = isFiniteOf (r .x) in
-      let t2 : Bool = isFiniteOf (r .y) in
-      let t3 : Bool = isFiniteOf (r .w) in
-      let t4 : Bool = isFiniteOf (r .h) in
-      let u = and-r t1 (t2 && (t3 && t4)) t in
-      let v = and-r t2 (t3 && t4) u in
+      let f = all-four (isFiniteOf (r .x)) (isFiniteOf (r .y)) (isFiniteOf (r .w)) (isFiniteOf (r .h)) t in
       let across = whole-finite w (W .whole) in
       let down = whole-finite h (H .whole) in
-      let width = saved-in (r .w) w (is-finite (r .w) (and-l t3 t4 v)) across (min-in i24 W) W in
-      let height = saved-in (r .h) h (is-finite (r .h) (and-r t3 t4 v)) down (min-in i24 H) H in
-      let x = saved-in (r .x) w (is-finite (r .x) (and-l t1 (t2 && (t3 && t4)) t)) across i0 (sub-in W width tt) in
-      let y = saved-in (r .y) h (is-finite (r .y) (and-l t2 (t3 && t4) u)) down i0 (sub-in H height tt) in
+      let width = saved-in (r .w) w (is-finite (r .w) (f .2)) across (min-in i24 W) W in
+      let height = saved-in (r .h) h (is-finite (r .h) (f .3)) down (min-in i24 H) H in
+      let x = saved-in (r .x) w (is-finite (r .x) (f .0)) across i0 (sub-in W width tt) in
+      let y = saved-in (r .y) h (is-finite (r .y) (f .1)) down i0 (sub-in H height tt) in
       element-in x y width height tt
 
   restored-in : (saved es : List Rect) → Each Element es → Each Element (restoredOf w h saved es)
   unfolding restoredOf restoreOf
   restored-in [] es E = E
   restored-in (r ∷ rs) [] E = tt
-  restored-in (r ∷ rs) (e ∷ es) E = (go (usableOf r) (on-screen-in r), restored-in rs es (E .1))
-    where
-      go : (b : Bool) → (T b → Element (onScreenOf w h r)) → Element (cond b (onScreenOf w h r) e)
-      go true f = f tt
-      go false f = E .0
+  restored-in (r ∷ rs) (e ∷ es) E = (by-test Element (usableOf r) (on-screen-in r) (λ t. E .0), restored-in rs es (E .1))
 
   pub saved-bounded : (l : Layout) → l .count ≤ length (l .controls) → l .stickcount ≤ length (l .sticks) → Bounded l → (saved : List Rect) → Bounded (withSavedOf l w h saved)
   unfolding withSavedOf

@@ -1,4 +1,4 @@
--- Layouts in range: arranged ones are bounded, scaled down or not, and what a change keeps: another d-pad, the inputs of a psp, a rectangle for each element, a change of every element.
+-- Layouts in range: arranged ones are bounded, scaled down or not, and what a change keeps: another d-pad, other controls or sticks, the inputs of a psp, a rectangle for each element, a change of every element.
 use mathlib.Core.Path.{_≡_, sym, ap, _∙_, subst}
 use mathlib.Core.Bool.{Bool}
 use mathlib.Core.List.{List, [], _∷_, _++_, map, map-append, zipWith}
@@ -9,7 +9,7 @@ use lib.Seq.{getD-append-add, drop-append-add}
 use Rattle.geometry.specs.declared.Rect.{Rect}
 use Rattle.layout.specs.declared.Control.{Control}
 use Rattle.layout.specs.declared.Layout.{Layout}
-use Rattle.layout.specs.Layout.{anyRect, withBounds, withDpad, stickList, boundsOf, elementsOf}
+use Rattle.layout.specs.Layout.{anyRect, withBounds, withDpad, withControls, withSticks, stickList, boundsOf, elementsOf}
 use Rattle.layout.specs.Lists.{mapFirst, retain, compact}
 use Rattle.layout.specs.Elements.{replaceFirst, setElementsOf}
 use Rattle.layout.specs.ElementLaws.{length-bounds}
@@ -75,6 +75,12 @@ anchored-shrunk L = every-imp (λ r P. P) (λ r P. placed-shrunk P tt) L
 module _ {C D : Rect → Type 0} {l : Layout} (L : Every C D l) where
   pub dpad-in : {r : Rect} → C r → Every C D (withDpad l r)
   dpad-in e = record { dpad = e; controls = L .controls; pause = L .pause; playback = L .playback; speed = L .speed; mute = L .mute; sticks = L .sticks }
+
+  pub controls-in : {cs : List Control} → Each (λ c. C (c .bounds)) cs → Every C D (withControls l cs)
+  controls-in e = record { dpad = L .dpad; controls = e; pause = L .pause; playback = L .playback; speed = L .speed; mute = L .mute; sticks = L .sticks }
+
+  pub sticks-in : {rs : List Rect} → Each C rs → Every C D (withSticks l rs)
+  sticks-in e = record { dpad = L .dpad; controls = L .controls; pause = L .pause; playback = L .playback; speed = L .speed; mute = L .mute; sticks = e }
 
   pub psp-in : Every C D (pspInputsOf l)
   unfolding pspInputsOf

@@ -19,7 +19,7 @@ use Rattle.numerics.specs.Products.{product-most}
 use Rattle.numerics.specs.Literals.{i0, i0·25, i1}
 use Rattle.search.specs.declared.Offset.{Offset}
 use Rattle.search.specs.Search.{obstaclesOf, gameOf, placeGameInAspectOf}
-use Rattle.search.specs.Widest.{centredWidth, Widest}
+use Rattle.search.specs.Widest.{WidestGame}
 use Rattle.search.specs.Bounded.{Every, Bounded, BoundedGame}
 use Rattle.search.proofs.Shapes.{Shape}
 use Rattle.search.proofs.Clearance.{Inside}
@@ -35,10 +35,6 @@ elements-in {C} l B =
     B .dpad
     & each-append C (boundsOf l) _ (bounds-in l B)
     (B .pause & B .playback & B .speed & B .mute & each-take C (l .stickcount) (l .sticks) (B .sticks))
-
-pub layout-widest : {a : Float} {p q : ℕ} → Shape a p q → (l : Layout) → Bounded l → {b : Rect} → Area b → (offset : Offset) → Whole (offset .x) → Whole (offset .y)
-    → Widest p q (elementsOf l) b (centredWidth (elementsOf l) b a) (gameOf (elementsOf l) b k1 offset a)
-layout-widest S l L B offset ox oy = game-widest B S (elementsOf l) (elements-in l L) offset ox oy
 
 -- ---- the game, for any size factor
 abbrev most : ℕ
@@ -90,6 +86,6 @@ module _ {a : Float} {p q : ℕ} (S : Shape a p q) (l : Layout) (L : Bounded l) 
   place-game-in false factor fw = game-in S (elementsOf l) (elements-in l L) B factor fw offset ox oy
 
   -- demand 3, of a layout placed at size factor 1 without overlap
-  pub place-widest : Widest p q (elementsOf (placeGameInAspectOf l b false k1 offset a)) b (centredWidth (elementsOf (placeGameInAspectOf l b false k1 offset a)) b a) (placeGameInAspectOf l b false k1 offset a .game)
+  pub place-widest : WidestGame p q b a (placeGameInAspectOf l b false k1 offset a)
   unfolding placeGameInAspectOf elementsOf
-  place-widest = layout-widest S l L B offset ox oy
+  place-widest = game-widest B S (elementsOf l) (elements-in l L) offset ox oy

@@ -9,6 +9,8 @@ use lib.IntN.{ℤ, pos, _+ℤ_, _-ℤ_, _*ℤ_}
 use lib.Signed.{leZ, ltZ}
 use lib.Ieee.{Float}
 use Rattle.geometry.specs.declared.Rect.{Rect}
+use Rattle.layout.specs.declared.Layout.{Layout}
+use Rattle.layout.specs.Layout.{elementsOf}
 use Rattle.numerics.specs.Each.{Each}
 use Rattle.numerics.specs.Rects.{WholeRect}
 use Rattle.numerics.specs.Value.{value}
@@ -60,7 +62,7 @@ middle r = r .x +ℤ r .x +ℤ r .w
 unfoldable pub sixteenth : ℕ
 sixteenth = 2 ^ 145
 
--- the width of "the centred search", for the elements and the area from which a game comes
+-- "The centred search is what `clear_picture_aspect` does before its side search; its width is the f32 that the source's definition gives for the arguments from which the returned game comes"
 abbrev pub centredWidth : List Rect → Rect → Float → Float
 centredWidth elements area aspect = centeredOf (area .w) (area .h) (obstaclesOf area elements) aspect .w
 
@@ -78,3 +80,7 @@ pub record Widest (p q : ℕ) (elements : List Rect) (area : Rect) (found : Floa
   pub finite : WholeRect game
   pub widest : (d : ℕ) → 0 < d → (r : Exact) → Rival p q elements area found d r → T (leZ (r .w) ((value (game .w) +ℤ pos sixteenth) *ℤ pos d))
   pub apart : Each (λ e. T (leZ (meetAcross (over 1 game) (over 1 e)) (pos sixteenth) || leZ (meetDown (over 1 game) (over 1 e)) (pos sixteenth))) elements
+
+-- a layout's own game, in an area and for an aspect
+abbrev pub WidestGame : ℕ → ℕ → Rect → Float → Layout → Type 0
+WidestGame p q area aspect l = Widest p q (elementsOf l) area (centredWidth (elementsOf l) area aspect) (l .game)

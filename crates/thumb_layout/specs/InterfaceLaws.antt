@@ -11,6 +11,7 @@ use lib.IntN.{ℤ, negsuc}
 use lib.ListN.{length, drop}
 use lib.Signed.{mag}
 use Rattle.geometry.specs.Answer.{Answer, accepted, refused, must, andThen}
+use Rattle.float.proofs.Booleans.{either}
 use Rattle.settings.specs.declared.Settings.{Settings}
 use Rattle.settings.specs.Settings.{topsInLimitsOf}
 use Rattle.safe_area.specs.Safe.{allOnScaleOf, contentOf, safeContentOf, mergedOf, safeEdgesOf}
@@ -18,19 +19,14 @@ use Rattle.reader.specs.Accepted.{refused-order}
 use Rattle.reader.specs.Order.{readOrderOf}
 use Rattle.order.specs.Orders.{orderLayout, layoutOf, layoutOutputOf, orderViewport, viewportLayoutOf, viewportOutputOf}
 use Rattle.order.specs.OrderLaws.{bytesFor, roomFor, layout-answer, viewport-answer, layout-refused, viewport-refused, touch-refused}
-use Rattle.film_sheet.specs.Film.{filmTextOf, filmSheetOf}
+use Rattle.film_sheet.specs.Film.{filmSheetOf}
 use Rattle.film_sheet.specs.FilmLaws.{film-fits}
 use Rattle.thumb_layout.specs.Interface.{numberOf, tlLayoutOf, tlTouchOf, tlViewportLayoutOf, tlFilmOf, tlFilmOutputOf, twoOf, fourOf, areaNumbers, edgeNumbers, roomOf, statusOf, fourOutput, contentFour, tlSafeContentOf, tlSafeContentOutputOf, edgesFour, tlSafeEdgesOf, tlSafeEdgesOutputOf}
 
 -- ---- bytes: 353 at most
 room-small : (analog psp : Bool) (out : List ℕ) → mag (numberOf (roomFor (bytesFor analog psp) out)) ≤ 353
-room-small analog psp out = go analog psp (leb (bytesFor analog psp) (length out))
-  where
-    go : (a p room : Bool) → mag (numberOf (cond room (accepted (bytesFor a p)) (refused 8))) ≤ 353
-    go a true true = omega arith
-    go true false true = omega arith
-    go false false true = omega arith
-    go a p false = omega arith
+room-small analog psp out =
+    either (λ a. mag (numberOf a) ≤ 353) (leb (bytesFor analog psp) (length out)) (either (λ n. n ≤ 353) psp (omega arith) (either (λ n. n ≤ 353) analog (omega arith) (omega arith))) (omega arith)
 
 refused-small : (order : List ℕ) (n : ℕ) → readOrderOf order ≡ refused n → mag (numberOf (refused n)) ≤ 353
 refused-small order zero e = omega arith
@@ -57,11 +53,7 @@ module _ (order out : List ℕ) where
 -- ---- a film sheet's text: 788 bytes at most
 pub film-small : (order sheet : List ℕ) → mag (tlFilmOf order sheet) ≤ 788
 unfolding tlFilmOf filmSheetOf must
-film-small order sheet = go (leb 1024 (length sheet))
-  where
-    go : (room : Bool) → mag (numberOf (cond room (accepted (length (filmTextOf order))) (refused 8))) ≤ 788
-    go true = film-fits order
-    go false = omega arith
+film-small order sheet = either (λ a. mag (numberOf a) ≤ 788) (leb 1024 (length sheet)) (film-fits order) (omega arith)
 
 -- ---- numbers below 0: minus one of the refusals, and nothing changes
 number-refused : (a : Answer ℕ) {n : ℕ} → numberOf a ≡ negsuc n → a ≡ refused (suc n)

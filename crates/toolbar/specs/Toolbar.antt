@@ -24,8 +24,8 @@ abbrev pub obstacleList : Obstacles → List Rect
 obstacleList o = take (o .count) (o .at)
 
 -- the bar moved past the obstacle c, away from its own edge of the screen
-unfoldable pub besideOf : Rect → Bool → Rect → Rect
-besideOf bar left c = newOf (cond left (c .x ⊕ c .w ⊕ k8) (c .x ⊖ bar .w ⊖ k8)) (bar .y) (bar .w) (bar .h)
+unfoldable pub candidateOf : Rect → Bool → Rect → Rect
+candidateOf bar left c = newOf (cond left (c .x ⊕ c .w ⊕ k8) (c .x ⊖ bar .w ⊖ k8)) (bar .y) (bar .w) (bar .h)
 
 -- a bar may move across as far as the middle of the screen
 unfoldable pub roomOf : Rect → Bool → Float → Bool
@@ -40,7 +40,7 @@ module _ (left : Bool) (w h : Float) (obstacles : List Rect) where
   -- one turn of the pass, for the first obstacle that the bar overlaps
   unfoldable pub moved : Rect → Rect → Rect
   moved bar c =
-      let candidate = besideOf bar left c in
+      let candidate = candidateOf bar left c in
       cond (roomOf candidate left w && not (anyOf (overlapsOf candidate) obstacles)) candidate (belowOf bar h c)
 
   -- so many turns of the pass, which ends as soon as the bar is free
@@ -85,3 +85,7 @@ anchorToolbarOf l w h reusableTop coveredTop cutouts =
     (newOf (a .x ⊕ size ⊕ gap) (a .y) timeWidth height)
     (newOf (b .x) (b .y) size height)
     (newOf (b .x ⊕ size ⊕ gap) (b .y) size height)
+
+-- what a picture that begins above the screen has there
+abbrev pub reusableTop : Rect → Float
+reusableTop picture = maxOf (neg (picture .y)) k0

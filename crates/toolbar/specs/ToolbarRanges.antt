@@ -16,7 +16,7 @@ use Rattle.layout.specs.Layout.{elementOf, stickList, boundsOf}
 use Rattle.layout.specs.Elements.{controllerElementsOf}
 use Rattle.layout.specs.ElementLaws.{controller-elements}
 use Rattle.layout.specs.Lists.{anyOf, find}
-use Rattle.numerics.specs.Rects.{Element, Key, margin}
+use Rattle.numerics.specs.Rects.{Element, Area, Key, margin}
 use Rattle.numerics.specs.Range.{In, at, minus}
 use Rattle.numerics.specs.Each.{Each, _&_}
 use Rattle.numerics.specs.Lists.{each-take, each-append}
@@ -26,7 +26,7 @@ use Rattle.numerics.specs.Products.{product-most}
 use Rattle.numerics.specs.Literals.{i0, i0·01, i1, i1·4, i8, i18, i28, i40, f0·01, f0·055, f2, f3, f4}
 use Rattle.search.specs.Bounded.{Every, Bounded}
 use Rattle.search.proofs.Layouts.{bounds-in}
-use Rattle.toolbar.specs.Toolbar.{besideOf, roomOf, belowOf, moved, pass, pairOf, avoidedOf, anchorToolbarOf}
+use Rattle.toolbar.specs.Toolbar.{candidateOf, roomOf, belowOf, moved, pass, pairOf, avoidedOf, anchorToolbarOf, reusableTop}
 
 -- what is found holds
 module _ {A B : Type 0} (C : B → Type 0) (D : A → Type 0) (p : A → Bool) (hit : A → B) (none : B) (found : (x : A) → D x → T (p x) → C (hit x)) (otherwise : C none) where
@@ -43,9 +43,9 @@ record BarIn (bar : Rect) : Type 0 where
 
 module _ (left : Bool) {w h : Float} (W : In w (at 0) (at 8192)) (H : In h (at 0) (at 8192)) (obstacles : List Rect) where
   -- it is at least 0 and ends within the screen
-  beside-in : (bar c : Rect) → BarIn bar → Element c → T (roomOf (besideOf bar left c) left w) → BarIn (besideOf bar left c)
-  unfolding besideOf roomOf
-  beside-in bar c B E t =
+  candidate-in : (bar c : Rect) → BarIn bar → Element c → T (roomOf (candidateOf bar left c) left w) → BarIn (candidateOf bar left c)
+  unfolding candidateOf roomOf
+  candidate-in bar c B E t =
       let x = most-in (E .x) tt in
       let s : Float = cond left (c .x ⊕ c .w ⊕ k8) (c .x ⊖ bar .w ⊖ k8) in
       let r = and-three (le k0 s) (le (s ⊕ bar .w) w) (cond left (le (s ⊕ bar .w) (w ⊘ k2)) (le (w ⊘ k2) s)) t in
@@ -65,9 +65,9 @@ module _ (left : Bool) {w h : Float} (W : In w (at 0) (at 8192)) (H : In h (at 0
   moved-bar : (bar c : Rect) → BarIn bar → Element c → T (overlapsOf bar c) → BarIn (moved left w h obstacles bar c)
   unfolding moved
   moved-bar bar c B E t =
-      let r : Bool = roomOf (besideOf bar left c) left w in
-      let f : Bool = not (anyOf (overlapsOf (besideOf bar left c)) obstacles) in
-      by-test BarIn (r && f) (λ s. beside-in bar c B E (and-l r f s)) (λ s. below-in bar c B E t)
+      let r : Bool = roomOf (candidateOf bar left c) left w in
+      let f : Bool = not (anyOf (overlapsOf (candidateOf bar left c)) obstacles) in
+      by-test BarIn (r && f) (λ s. candidate-in bar c B E (and-l r f s)) (λ s. below-in bar c B E t)
 
   pass-in : Each Element obstacles → (turns : ℕ) (bar : Rect) → BarIn bar → BarIn (pass left w h obstacles turns bar)
   unfolding pass
@@ -76,10 +76,10 @@ module _ (left : Bool) {w h : Float} (W : In w (at 0) (at 8192)) (H : In h (at 0
       find-ind BarIn Element (overlapsOf bar) (λ c. pass left w h obstacles turns (moved left w h obstacles bar c)) bar (λ c E t. pass-in O turns (moved left w h obstacles bar c) (moved-bar bar c B E t)) B obstacles O
 
 -- ---- the obstacles
-module _ (l : Layout) (coveredTop : Float) (cutouts : List Rect) where
-  pub avoided-in : l .count ≤ length (l .controls) → l .stickcount ≤ length (l .sticks) → Bounded l → Each Element cutouts → Each Element (avoidedOf l coveredTop cutouts)
+module _ (l : Layout) (covered : Float) (cutouts : List Rect) where
+  pub avoided-in : l .count ≤ length (l .controls) → l .stickcount ≤ length (l .sticks) → Bounded l → Each Element cutouts → Each Element (avoidedOf l covered cutouts)
   unfolding avoidedOf
-  avoided-in cs ss L O = either (Each Element) (lt k0 coveredTop) (each-append Element cutouts (map (elementOf l) (controllerElementsOf l)) O controls) O
+  avoided-in cs ss L O = either (Each Element) (lt k0 covered) (each-append Element cutouts (map (elementOf l) (controllerElementsOf l)) O controls) O
     where
       controls : Each Element (map (elementOf l) (controllerElementsOf l))
       controls =
@@ -91,16 +91,13 @@ pub uncovered : (l : Layout) (cutouts : List Rect) → avoidedOf l k0 cutouts �
 unfolding avoidedOf lt ofBits
 uncovered l cutouts = refl
 
-pub uncovered-in : (l : Layout) (cutouts : List Rect) → Each Element cutouts → Each Element (avoidedOf l k0 cutouts)
-uncovered-in l cutouts O = rw uncovered O
-
 -- ---- the keys
-pub anchor-in : {C D : Rect → Type 0} (l : Layout) {w h reusableTop coveredTop : Float} (cutouts : List Rect)
-    → In w (at 0) (at 8192) → In h (at 0) (at 8192) → In reusableTop (at 0) (at 8192) → In coveredTop (minus 8192) (at 8192) → Each Element (avoidedOf l coveredTop cutouts)
-    → Every C D l → Every C (Key margin) (anchorToolbarOf l w h reusableTop coveredTop cutouts)
+pub anchor-in : {C D : Rect → Type 0} (l : Layout) {w h reusable covered : Float} (cutouts : List Rect)
+    → In w (at 0) (at 8192) → In h (at 0) (at 8192) → In reusable (at 0) (at 8192) → In covered (minus 8192) (at 8192) → Each Element (avoidedOf l covered cutouts)
+    → Every C D l → Every C (Key margin) (anchorToolbarOf l w h reusable covered cutouts)
 unfolding anchorToolbarOf pairOf
-anchor-in l {w} {coveredTop = coveredTop} cutouts W H R C O L =
-    let obstacles = avoidedOf l coveredTop cutouts in
+anchor-in l {w} {covered = covered} cutouts W H R C O L =
+    let obstacles = avoidedOf l covered cutouts in
     let padding = min-in i28 (mul-in W f0·055 tt) in
     let gap = min-in i8 (mul-in W f0·01 tt) in
     let share = max-in (div-in (sub-in (sub-in W (times-in f2 padding tt) tt) (times-in f3 gap tt) tt) f4 tt) i1 in
@@ -121,3 +118,11 @@ anchor-in l {w} {coveredTop = coveredTop} cutouts W H R C O L =
       pause = placed-in (add-in (add-in (b .x) size tt) gap tt) (b .y) size height tt;
       sticks = L .sticks;
     }
+
+-- where no decoration shows
+pub anchored-in : {C D : Rect → Type 0} (l : Layout) {w h reusable : Float} (cutouts : List Rect) → In w (at 0) (at 8192) → In h (at 0) (at 8192) → In reusable (at 0) (at 8192) → Each Element cutouts
+    → Every C D l → Every C (Key margin) (anchorToolbarOf l w h reusable k0 cutouts)
+anchored-in l cutouts W H R O L = anchor-in l cutouts W H R (in-more (minus 8192) (at 8192) i0 tt tt) (rw uncovered O) L
+
+pub reusable-in : {picture : Rect} → Area picture → In (reusableTop picture) (at 0) (at 8192)
+reusable-in A = max-in (neg-in (most-in (A .y) tt) tt) i0

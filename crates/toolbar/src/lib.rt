@@ -4,7 +4,7 @@ ghost use mathlib.Core.List.{_++_};
 ghost use Prim.Native.Nat.{_≤_};
 ghost use lib.ListN.{take};
 ghost use Rattle.layout.specs.Layout.{cutoutList, elementList};
-ghost use Rattle.toolbar.specs.Toolbar.{obstacleList, avoidedOf, BarsOf, besideOf, roomOf, belowOf, pairOf, anchorToolbarOf};
+ghost use Rattle.toolbar.specs.Toolbar.{obstacleList, avoidedOf, BarsOf, candidateOf, roomOf, belowOf, pairOf, anchorToolbarOf};
 use geometry::EMPTY;
 use geometry::Rect;
 use layout::Cutouts;
@@ -20,8 +20,8 @@ struct Obstacles {
 }
 
 // The bar moved past the obstacle c, away from its own edge of the screen.
-fn beside(bar: Rect, left: bool, c: Rect) -> Rect
-    ensures { λ r. ⌜ r ≡ besideOf bar left c ⌝ }
+fn candidate(bar: Rect, left: bool, c: Rect) -> Rect
+    ensures { λ r. ⌜ r ≡ candidateOf bar left c ⌝ }
 {
     let shifted = float::pick(left, c.x + c.w + 8.0, c.x - bar.w - 8.0);
     Rect::new(shifted, bar.y, bar.w, bar.h)
@@ -76,7 +76,7 @@ fn pair(
         if !met {
             break;
         }
-        let candidate = beside(bar, left, c);
+        let candidate = candidate(bar, left, c);
         let mut blocked = !room(candidate, left, w);
         let mut j = 0;
         while !blocked & (j < n) {

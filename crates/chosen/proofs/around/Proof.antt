@@ -9,7 +9,7 @@ returns c = rw (← c .before .before .before .before .aspect .ensures, ← c .b
 
 returns-2 : tie.Need-returns-2
 unfolding aroundOf
-returns-2 c = rw (← c .before .before .before .before .aspect .ensures, ← c .before .before .before .largest .ensures, ← c .before .before .controls .ensures .0, c .before .if1 .left) (c .first .ensures .0)
+returns-2 c = rw (← c .before .before .before .before .aspect .ensures, ← c .before .before .before .largest .ensures, ← c .before .before .controls .ensures .0, c .before .if1 .left) (c .first .ensures)
 
 pub around-spec : {M : Type 1} → statement M
 around-spec =

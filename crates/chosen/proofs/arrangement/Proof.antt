@@ -1,38 +1,24 @@
-use mathlib.Core.Bool.{_||_}
-use Rattle.chosen.proofs.Kept.{holds}
-use Rattle.layout.specs.Layout.{cutoutList}
-use Rattle.float.proofs.Booleans.{or-r}
-use Rattle.chosen.specs.ChosenLabels.{OfMode, arrangement-mode, first-mode}
+use Rattle.chosen.specs.ChosenLabels.{first-mode}
 use borrow.Author.Tests.{not-true, not-false}
 use borrow.Author.Needs.{needs}
 use Rattle.chosen.proofs.arrangement.Statement.{statement}
 use Rattle.chosen.proofs.arrangement.Tie as tie
-use Rattle.chosen.specs.Chosen.{firstOf, arrangementOf}
+use Rattle.chosen.specs.Chosen.{arrangementOf}
 
 returns : tie.Need-returns
 unfolding arrangementOf
-returns c = (rw (not-true (c .before .before .args .free) (c .before .if1 .taken)) (c .first .ensures .0), c .first .ensures .1)
+returns c = rw (not-true (c .before .before .args .plain) (c .before .if1 .taken)) (c .first .ensures)
 
 returns-2 : tie.Need-returns-2
 unfolding arrangementOf
-returns-2 c =
-    let a = c .before .before .before .args in
-    let first = firstOf (a .psp) (a .analog) (a .maximum) (a .w) (a .h) (cutoutList (a .cutouts)) (a .picture) in
-    holds (OfMode (a .analog || a .psp) (a .psp))
-    (arrangement-mode (a .w) (a .h) (a .area) (cutoutList (a .cutouts)) (a .analog || a .psp) (a .psp) (or-r (a .analog) (a .psp)) first (first-mode (a .w) (a .h) (cutoutList (a .cutouts)) (a .picture) (a .psp) (a .analog) (a .maximum)) (a .maximum) (a .free))
-    (rw (not-false (a .free) (c .before .before .if1 .left), c .before .if2 .taken) (c .around .ensures))
+returns-2 c = rw (not-false (c .before .before .before .args .plain) (c .before .before .if1 .left), c .before .if2 .taken) (c .around .ensures)
 
-beside-requires : tie.Need-beside-requires
-beside-requires c κs = (c .before .before .before .pre, c .first2 .ensures .1)
+band-or-rails-requires : tie.Need-band-or-rails-requires
+band-or-rails-requires c κs = (c .before .before .before .pre, rw (c .first2 .ensures) (first-mode _ _ _ _ _ _ _))
 
 returns-3 : tie.Need-returns-3
 unfolding arrangementOf
-returns-3 c =
-    let a = c .before .before .before .before .args in
-    let first = firstOf (a .psp) (a .analog) (a .maximum) (a .w) (a .h) (cutoutList (a .cutouts)) (a .picture) in
-    holds (OfMode (a .analog || a .psp) (a .psp))
-    (arrangement-mode (a .w) (a .h) (a .area) (cutoutList (a .cutouts)) (a .analog || a .psp) (a .psp) (or-r (a .analog) (a .psp)) first (first-mode (a .w) (a .h) (cutoutList (a .cutouts)) (a .picture) (a .psp) (a .analog) (a .maximum)) (a .maximum) (a .free))
-    (rw (not-false (a .free) (c .before .before .before .if1 .left), c .before .before .if2 .left, ← c .before .first2 .ensures .0) (c .beside .ensures))
+returns-3 c = rw (not-false (c .before .before .before .before .args .plain) (c .before .before .before .if1 .left), c .before .before .if2 .left, ← c .before .first2 .ensures) (c .band-or-rails .ensures)
 
 pub arrangement-spec : {M : Type 1} → statement M
 arrangement-spec =
@@ -43,5 +29,5 @@ arrangement-spec =
     (λ c κs. search needs)
     returns-2
     (λ c κs. search needs)
-    beside-requires
+    band-or-rails-requires
     returns-3)

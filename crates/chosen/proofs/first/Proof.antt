@@ -1,6 +1,4 @@
-use Rattle.chosen.proofs.Kept.{holds}
-use Rattle.layout.specs.Layout.{cutoutList}
-use Rattle.chosen.specs.ChosenLabels.{OfMode, few, first-mode}
+use Rattle.chosen.specs.ChosenLabels.{Few, few, start-mode}
 use mathlib.Core.Bool.{_||_}
 use borrow.Author.Needs.{needs}
 use Rattle.chosen.proofs.first.Statement.{statement}
@@ -8,15 +6,19 @@ use Rattle.chosen.proofs.first.Tie as tie
 use Rattle.chosen.specs.Chosen.{firstOf}
 
 anchor-toolbar-requires : tie.Need-anchor-toolbar-requires
-anchor-toolbar-requires c κs = let a = c .before .before .before .before .args in let n = few (a .analog || a .psp) (a .psp) (c .before .before .before .start .result) (c .before .before .before .start .ensures .1) in (c .before .before .before .before .pre, n .count, n .stickcount)
+anchor-toolbar-requires c κs =
+    let s = c .before .before .before in
+    let a = s .before .args in
+    let n : Few (s .start .result) = rw (s .start .ensures) (few (a .analog || a .psp) (a .psp) _ (start-mode _ _ _ _ (a .psp) (a .analog))) in
+    (s .before .pre, n .count, n .stickcount)
 
 returns : tie.Need-returns
 unfolding firstOf
-returns c = let a = c .before .before .before .before .before .args in holds (OfMode (a .analog || a .psp) (a .psp)) (first-mode (a .w) (a .h) (cutoutList (a .cutouts)) (a .picture) (a .psp) (a .analog) (a .maximum)) (rw (c .before .before .before .if1 .taken, ← c .before .before .before .before .start .ensures .0, ← c .before .max .ensures) (c .anchor-toolbar .ensures))
+returns c = rw (c .before .before .before .if1 .taken, ← c .before .before .before .before .start .ensures, ← c .before .max .ensures) (c .anchor-toolbar .ensures)
 
 returns-2 : tie.Need-returns-2
 unfolding firstOf
-returns-2 c = let a = c .before .before .args in holds (OfMode (a .analog || a .psp) (a .psp)) (first-mode (a .w) (a .h) (cutoutList (a .cutouts)) (a .picture) (a .psp) (a .analog) (a .maximum)) (rw (c .if1 .left) (c .before .start .ensures .0))
+returns-2 c = rw (c .if1 .left) (c .before .start .ensures)
 
 pub first-spec : {M : Type 1} → statement M
 first-spec =

@@ -1,7 +1,3 @@
-use Rattle.chosen.proofs.Kept.{holds}
-use Rattle.layout.specs.Layout.{cutoutList}
-use Rattle.chosen.specs.ChosenLabels.{OfMode, start-mode}
-use mathlib.Core.Bool.{_||_}
 use borrow.Author.Needs.{needs}
 use Rattle.chosen.proofs.start.Statement.{statement}
 use Rattle.chosen.proofs.start.Tie as tie
@@ -9,15 +5,15 @@ use Rattle.chosen.specs.Chosen.{startOf}
 
 returns : tie.Need-returns
 unfolding startOf
-returns c = let a = c .before .before .args in holds (OfMode (a .analog || a .psp) (a .psp)) (start-mode (a .w) (a .h) (cutoutList (a .cutouts)) (a .picture) (a .psp) (a .analog)) (rw (c .before .if1 .taken) (c .psp .ensures .0))
+returns c = rw (c .before .if1 .taken) (c .psp .ensures .0)
 
 returns-2 : tie.Need-returns-2
 unfolding startOf
-returns-2 c = let a = c .before .before .before .args in holds (OfMode (a .analog || a .psp) (a .psp)) (start-mode (a .w) (a .h) (cutoutList (a .cutouts)) (a .picture) (a .psp) (a .analog)) (rw (c .before .before .if1 .left, c .before .if2 .taken) (c .analog-default .ensures .0))
+returns-2 c = rw (c .before .before .if1 .left, c .before .if2 .taken) (c .analog-default .ensures .0)
 
 returns-3 : tie.Need-returns-3
 unfolding startOf
-returns-3 c = let a = c .before .before .before .args in holds (OfMode (a .analog || a .psp) (a .psp)) (start-mode (a .w) (a .h) (cutoutList (a .cutouts)) (a .picture) (a .psp) (a .analog)) (rw (c .before .before .if1 .left, c .before .if2 .left) (c .default-in .ensures .0))
+returns-3 c = rw (c .before .before .if1 .left, c .before .if2 .left) (c .default-in .ensures .0)
 
 pub start-spec : {M : Type 1} → statement M
 start-spec =

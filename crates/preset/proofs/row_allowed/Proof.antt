@@ -13,7 +13,7 @@ unfolding rowAllowedOf
 returns c =
     let s = c .before .before .before .before .before .before in
     let at : length (s .args .cutouts .at) ≡ 16 = search sized in
-    rw (← c .before .before .before .before .before .free .ensures, ← c .before .before .before .before .picture-fit .ensures, ← c .before .before .before .is-maximum .ensures, ← c .before .untouched .ensures, none-counted (s .args .cutouts .count) (s .args .cutouts .at) (omega arith))
+    rw (← c .before .before .before .before .before .plain .ensures, ← c .before .before .before .before .picture-fit .ensures, ← c .before .before .before .is-maximum .ensures, ← c .before .untouched .ensures, none-counted (s .args .cutouts .count) (s .args .cutouts .at) (omega arith))
 
 pub row-allowed-spec : {M : Type 1} → statement M
 row-allowed-spec =

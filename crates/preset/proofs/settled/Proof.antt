@@ -1,12 +1,9 @@
-use Rattle.chosen.proofs.Kept.{holds}
-use Rattle.chosen.specs.ChosenLabels.{OfMode, Few, few, avoid-mode}
-use Rattle.preset.specs.PresetLabels.{saved-mode, settled-mode}
-use lib.ListN.{take}
+use Rattle.chosen.specs.ChosenLabels.{Few, few, avoid-mode}
+use Rattle.preset.specs.PresetLabels.{saved-mode}
 use borrow.Author.Needs.{needs}
 use Rattle.preset.proofs.settled.Statement.{statement}
 use Rattle.preset.proofs.settled.Tie as tie
 use Rattle.preset.specs.Preset.{settledOf}
-use Rattle.layout.specs.Layout.{cutoutList}
 
 with-saved-requires : tie.Need-with-saved-requires
 with-saved-requires c κs =
@@ -30,10 +27,7 @@ anchor-toolbar-requires c κs =
 
 returns : tie.Need-returns
 unfolding settledOf
-returns c =
-    let a = c .before .before .before .before .before .args in
-    let m = settled-mode (a .w) (a .h) (cutoutList (a .cutouts)) (a .picture) (a .analog) (a .psp) (a .arrangement) (c .before .before .before .before .before .pre .1 .1) (take (a .n) (a .saved)) in
-    holds (OfMode (a .analog) (a .psp)) m (rw (← c .before .before .before .before .with-saved .ensures, ← c .before .before .before .avoid-cutouts .ensures, ← c .before .max .ensures) (c .anchor-toolbar .ensures))
+returns c = rw (← c .before .before .before .before .with-saved .ensures, ← c .before .before .before .avoid-cutouts .ensures, ← c .before .max .ensures) (c .anchor-toolbar .ensures)
 
 pub settled-spec : {M : Type 1} → statement M
 settled-spec =

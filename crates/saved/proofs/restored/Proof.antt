@@ -3,7 +3,7 @@ use lib.Seq.{getD-take, length-take-le}
 use Rattle.saved.specs.Saved.{restoreOf, restoredOf}
 use mathlib.Core.Path.{sym, refl, ap, _∙_, _≡_}
 use Rattle.geometry.specs.declared.Rect.{Rect}
-use Rattle.saved.proofs.Turns.{restored-none, restored-turn, restored-past, restored-front}
+use Rattle.saved.proofs.Turns.{restored-turn, restored-past, restored-front}
 use mathlib.Core.Logic.{⊎-elim}
 use Rattle.layout.specs.Layout.{anyRect}
 use Rattle.layout.proofs.Loops.{sized}
@@ -20,7 +20,8 @@ abbrev μ-loop : tie.MeasureT-loop
 μ-loop w h n saved count at₀ i₀ at i = count - i
 
 loop-holds : tie.Need-loop-holds Inv-loop μ-loop
-loop-holds c = let n : length (c .before .args .elements .at) ≡ 19 = search sized in (omega arith, n, restored-none _ _ _)
+unfolding restoredOf
+loop-holds c = let n : length (c .before .args .elements .at) ≡ 19 = search sized in (omega arith, n, refl)
 
 loop-again : tie.Need-loop-again Inv-loop μ-loop
 loop-again c = let l = c .before .before in

@@ -65,7 +65,7 @@ loop2-again c =
 loop3-holds : tie.Need-loop3-holds Inv-loop2 μ-loop2 Inv-loop3 μ-loop3 Inv-loop μ-loop
 unfolding moved
 loop3-holds c =
-    record { fits = c .before .before .before .before .loop2 .inv .fits; most = zero-le; answer = rw (← c .before .beside .ensures, ← c .room .ensures) (scan-first (overlapsOf (c .before .beside .result)) _ _ _ (c .room .result)) }
+    record { fits = c .before .before .before .before .loop2 .inv .fits; most = zero-le; answer = rw (← c .before .candidate .ensures, ← c .room .ensures) (scan-first (overlapsOf (c .before .candidate .result)) _ _ _ (c .room .result)) }
 
 array-copy-out-o : tie.Need-array-copy-out-o Inv-loop2 μ-loop2 Inv-loop3 μ-loop3 Inv-loop μ-loop
 array-copy-out-o c = omega (arith, scan-open (c .before .loop3 .inv) (c .loop3-test .taken))

@@ -1,10 +1,10 @@
 use Rattle.band.specs.BandLabels.{band-formed}
-use Rattle.chosen.specs.Chosen.{besideOf}
+use Rattle.chosen.specs.Chosen.{bandOrRailsOf}
 use Rattle.chosen.specs.ChosenCases.{found-case}
 use Rattle.chosen.specs.ChosenLabels.{OfMode}
 use borrow.Author.Needs.{needs}
-use Rattle.chosen.proofs.beside.Statement.{statement}
-use Rattle.chosen.proofs.beside.Tie as tie
+use Rattle.chosen.proofs.band_or_rails.Statement.{statement}
+use Rattle.chosen.proofs.band_or_rails.Tie as tie
 
 try-rails-requires : tie.Need-try-rails-requires
 try-rails-requires c κs =
@@ -14,12 +14,12 @@ try-rails-requires c κs =
     (s .pre .0, rw (c .if1 .taken) at m)
 
 returns : tie.Need-returns
-unfolding besideOf
+unfolding bandOrRailsOf
 returns c = rw (← c .before .before .banded .ensures, c .before .if1 .taken) (c .try-rails .ensures)
 
 returns-2 : tie.Need-returns-2
-unfolding besideOf
+unfolding bandOrRailsOf
 returns-2 c = rw (← c .before .banded .ensures, c .if1 .left)
 
-pub beside-spec : {M : Type 1} → statement M
-beside-spec = tie.close (tie.spec (λ c κs. search needs) try-rails-requires returns returns-2)
+pub band-or-rails-spec : {M : Type 1} → statement M
+band-or-rails-spec = tie.close (tie.spec (λ c κs. search needs) try-rails-requires returns returns-2)

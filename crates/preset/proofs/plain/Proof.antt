@@ -3,8 +3,8 @@ use lib.ListN.{length}
 use native.Mathlib.Omega.{arith}
 use Rattle.layout.proofs.Loops.{sized}
 use mathlib.Core.Path.{_≡_}
-use Rattle.preset.proofs.free.Statement.{statement}
-use Rattle.preset.proofs.free.Tie as tie
+use Rattle.preset.proofs.plain.Statement.{statement}
+use Rattle.preset.proofs.plain.Tie as tie
 
 returns : tie.Need-returns
 returns c =
@@ -12,5 +12,5 @@ returns c =
     let all : length (p .elements) ≡ 32 = search sized in
     rw (none-counted (p .count) (p .elements) (omega arith))
 
-pub free-spec : {M : Type 1} → statement M
-free-spec = tie.close (tie.spec returns)
+pub plain-spec : {M : Type 1} → statement M
+plain-spec = tie.close (tie.spec returns)
