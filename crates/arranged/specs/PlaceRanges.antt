@@ -14,7 +14,7 @@ use Rattle.numerics.specs.Rects.{OnScreen, margin}
 use Rattle.numerics.specs.Range.{In, at, minus}
 use Rattle.numerics.specs.Each.{Each, _&_}
 use Rattle.numerics.specs.Ranges.{in-more, add-in, sub-in, div-in, placed-in}
-use Rattle.numerics.specs.Literals.{i0, i4√2, f1√2, f2}
+use Rattle.numerics.specs.Literals.{lit, i4√2, f1√2, f2}
 use Rattle.search.specs.Bounded.{Every}
 use Rattle.search.proofs.Changes.{each-mapFirst, controls-in}
 use Rattle.arranged.specs.declared.Faces.{Faces}
@@ -83,7 +83,7 @@ at-in P L3 = P .l3
 at-in P R3 = P .r3
 
 pub empty-in : OnScreen margin emptyRect
-empty-in = placed-in i0 i0 i0 i0 tt
+empty-in = placed-in (lit 0) (lit 0) (lit 0) (lit 0) tt
 
 pub controller-in : {p : Places} {dpad : Rect} (count : ℕ) (sticks : List Rect) (stickcount : ℕ) → PlacesIn p → OnScreen margin dpad → Each (OnScreen margin) sticks
     → Every (OnScreen margin) (OnScreen margin) (controllerOf p dpad count sticks stickcount)

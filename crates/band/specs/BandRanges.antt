@@ -15,7 +15,7 @@ use Rattle.numerics.specs.Each.{_&_}
 use Rattle.numerics.specs.Lists.{each-set}
 use Rattle.numerics.specs.Ranges.{in-more, most-in, add-in, sub-in, mul-in, times-in, div-in, min-in, clamp-in, cond-in, not-below, placed-in}
 use Rattle.numerics.specs.Products.{scaled-in}
-use Rattle.numerics.specs.Literals.{i0, i1, i2, i3, i4, i8, i16, i18, i24, i28, i48, i52, i56, i64, i72, i80, i100, i104, i112, i122, i128, i136, i160, i176, i184, i204, i272, i288, i480, f0·75, f2, f4, f52, psp-high}
+use Rattle.numerics.specs.Literals.{lit, f0·75, f2, f4, f52, psp-high}
 use Rattle.search.specs.Bounded.{Every, Arranged}
 use Rattle.search.proofs.Layouts.{place-bounded}
 use Rattle.search.proofs.Changes.{dpad-in, psp-in}
@@ -39,12 +39,12 @@ room-in : {w h : Float} (analog psp : Bool) {picture : Rect} → In w (at 0) (at
 unfolding findRoomOf
 room-in {w} {h} analog psp {picture} W H A =
     let deep = findRoomOf w h analog psp picture .deep in
-    let high = cond-in psp (scaled-in 1 W i272 i480 psp-high tt) (mul-in W f0·75 tt) in
-    let available = in-more (minus 24576) (at 24576) (sub-in (sub-in H (add-in (add-in (most-in (A .y) tt) i18 tt) high tt) tt) i4 tt) tt tt in
-    let outer = cond-in deep i8 i28 in
+    let high = cond-in psp (scaled-in 1 W (lit 272) (lit 480) psp-high tt) (mul-in W f0·75 tt) in
+    let available = in-more (minus 24576) (at 24576) (sub-in (sub-in H (add-in (add-in (most-in (A .y) tt) (lit 18) tt) high tt) tt) (lit 4) tt) tt tt in
+    let outer = cond-in deep (lit 8) (lit 28) in
     let inner = sub-in W (times-in f2 outer tt) tt in
-    let wide = cond-in analog (div-in (sub-in (sub-in inner i16 tt) i204 tt) f4 tt) (div-in (sub-in inner i288 tt) f2 tt) in
-    record { available = available; outer = outer; face = in-more (minus 24576) (at 184) (cond-in deep i128 (min-in (min-in available wide) i184)) tt tt }
+    let wide = cond-in analog (div-in (sub-in (sub-in inner (lit 16) tt) (lit 204) tt) f4 tt) (div-in (sub-in inner (lit 288) tt) f2 tt) in
+    record { available = available; outer = outer; face = in-more (minus 24576) (at 184) (cond-in deep (lit 128) (min-in (min-in available wide) (lit 184))) tt tt }
 
 record BandIn (b : Band) : Type 0 where
   pub w : In (b .w) (at 0) (at 8192)
@@ -59,11 +59,11 @@ record BandIn (b : Band) : Type 0 where
 measured-in : {w h : Float} (analog : Bool) {room : Room} → In w (at 0) (at 8192) → In h (at 0) (at 8192) → RoomIn room → In (room .face) (at 122) (at 184) → BandIn (measureBandOf w h analog room)
 unfolding measureBandOf
 measured-in analog {room} W H R face =
-    let stick = cond-in (room .deep) i176 face in
-    let gap = clamp-in (sub-in (sub-in (R .available) face tt) i48 tt) i8 i16 in
-    let low = sub-in H i4 tt in
-    let y = cond-in (room .deep) (sub-in (sub-in (sub-in low i48 tt) gap tt) face tt) (sub-in low face tt) in
-    let x = in-more (at 0) (at 256) (cond-in analog (add-in (add-in (R .outer) stick tt) i8 tt) (R .outer)) tt tt in
+    let stick = cond-in (room .deep) (lit 176) face in
+    let gap = clamp-in (sub-in (sub-in (R .available) face tt) (lit 48) tt) (lit 8) (lit 16) in
+    let low = sub-in H (lit 4) tt in
+    let y = cond-in (room .deep) (sub-in (sub-in (sub-in low (lit 48) tt) gap tt) face tt) (sub-in low face tt) in
+    let x = in-more (at 0) (at 256) (cond-in analog (add-in (add-in (R .outer) stick tt) (lit 8) tt) (R .outer)) tt tt in
     let cap = cap-in (in-more (at 122) (at 200) face tt tt) in
     let half = div-in face f2 tt in
     let step = step-in (div-in (sub-in face cap tt) f2 tt) tt tt in
@@ -83,18 +83,18 @@ module _ {b : Band} (B : BandIn b) where
   plain-in : PlacesIn (plainPlacesOf b)
   unfolding plainPlacesOf
   plain-in =
-      let x = add-in (add-in (B .outer) (B .face) tt) i8 tt in
+      let x = add-in (add-in (B .outer) (B .face) tt) (lit 8) tt in
       let right = sub-in (B .w) x tt in
       let half = div-in (B .w) f2 tt in
-      let low = sub-in (sub-in (B .h) i4 tt) i80 tt in
+      let low = sub-in (sub-in (B .h) (lit 4) tt) (lit 80) tt in
       record {
         faces = B .faces;
-        l1 = placed-in x (B .mainy) i64 i64 tt;
-        l2 = placed-in (add-in x i72 tt) (B .mainy) i64 i64 tt;
-        r1 = placed-in (sub-in right i64 tt) (B .mainy) i64 i64 tt;
-        r2 = placed-in (sub-in right i136 tt) (B .mainy) i64 i64 tt;
-        select = placed-in (sub-in half i104 tt) low i80 i80 tt;
-        start = placed-in (add-in half i24 tt) low i80 i80 tt;
+        l1 = placed-in x (B .mainy) (lit 64) (lit 64) tt;
+        l2 = placed-in (add-in x (lit 72) tt) (B .mainy) (lit 64) (lit 64) tt;
+        r1 = placed-in (sub-in right (lit 64) tt) (B .mainy) (lit 64) (lit 64) tt;
+        r2 = placed-in (sub-in right (lit 136) tt) (B .mainy) (lit 64) (lit 64) tt;
+        select = placed-in (sub-in half (lit 104) tt) low (lit 80) (lit 80) tt;
+        start = placed-in (add-in half (lit 24) tt) low (lit 80) (lit 80) tt;
         l3 = empty-in;
         r3 = empty-in;
       }
@@ -104,43 +104,43 @@ module _ {b : Band} (B : BandIn b) where
   deep-in =
       let right = sub-in (B .w) (B .digitalx) tt in
       let half = div-in (B .w) f2 tt in
-      let low = sub-in (sub-in (B .h) i4 tt) i48 tt in
-      let upper = sub-in low i48 tt in
+      let low = sub-in (sub-in (B .h) (lit 4) tt) (lit 48) tt in
+      let upper = sub-in low (lit 48) tt in
       record {
         faces = B .faces;
-        l1 = placed-in (B .digitalx) low i48 i48 tt;
-        l2 = placed-in (add-in (B .digitalx) i56 tt) low i48 i48 tt;
-        l3 = placed-in (add-in (B .digitalx) i112 tt) low i48 i48 tt;
-        r1 = placed-in (sub-in right i48 tt) low i48 i48 tt;
-        r2 = placed-in (sub-in right i104 tt) low i48 i48 tt;
-        r3 = placed-in (sub-in right i160 tt) low i48 i48 tt;
-        select = placed-in (sub-in half i52 tt) upper i48 i48 tt;
-        start = placed-in (add-in half i4 tt) upper i48 i48 tt;
+        l1 = placed-in (B .digitalx) low (lit 48) (lit 48) tt;
+        l2 = placed-in (add-in (B .digitalx) (lit 56) tt) low (lit 48) (lit 48) tt;
+        l3 = placed-in (add-in (B .digitalx) (lit 112) tt) low (lit 48) (lit 48) tt;
+        r1 = placed-in (sub-in right (lit 48) tt) low (lit 48) (lit 48) tt;
+        r2 = placed-in (sub-in right (lit 104) tt) low (lit 48) (lit 48) tt;
+        r3 = placed-in (sub-in right (lit 160) tt) low (lit 48) (lit 48) tt;
+        select = placed-in (sub-in half (lit 52) tt) upper (lit 48) (lit 48) tt;
+        start = placed-in (add-in half (lit 4) tt) upper (lit 48) (lit 48) tt;
       }
 
   row-in : PlacesIn (rowPlacesOf b)
   unfolding rowPlacesOf
   row-in =
-      let x = div-in (sub-in (B .w) i204 tt) f2 tt in
-      let y = sub-in (sub-in (B .h) i4 tt) i100 tt in
-      let none = mul-in i0 f52 tt in
-      let one = mul-in i1 f52 tt in
+      let x = div-in (sub-in (B .w) (lit 204) tt) f2 tt in
+      let y = sub-in (sub-in (B .h) (lit 4) tt) (lit 100) tt in
+      let none = mul-in (lit 0) f52 tt in
+      let one = mul-in (lit 1) f52 tt in
       let x0 = add-in x none tt in
       let x1 = add-in x one tt in
-      let x2 = add-in x (mul-in i2 f52 tt) tt in
-      let x3 = add-in x (mul-in i3 f52 tt) tt in
+      let x2 = add-in x (mul-in (lit 2) f52 tt) tt in
+      let x3 = add-in x (mul-in (lit 3) f52 tt) tt in
       let upper = add-in y none tt in
       let lower = add-in y one tt in
       record {
         faces = B .faces;
-        l1 = placed-in x0 upper i48 i48 tt;
-        l2 = placed-in x1 upper i48 i48 tt;
-        r2 = placed-in x2 upper i48 i48 tt;
-        r1 = placed-in x3 upper i48 i48 tt;
-        l3 = placed-in x0 lower i48 i48 tt;
-        select = placed-in x1 lower i48 i48 tt;
-        start = placed-in x2 lower i48 i48 tt;
-        r3 = placed-in x3 lower i48 i48 tt;
+        l1 = placed-in x0 upper (lit 48) (lit 48) tt;
+        l2 = placed-in x1 upper (lit 48) (lit 48) tt;
+        r2 = placed-in x2 upper (lit 48) (lit 48) tt;
+        r1 = placed-in x3 upper (lit 48) (lit 48) tt;
+        l3 = placed-in x0 lower (lit 48) (lit 48) tt;
+        select = placed-in x1 lower (lit 48) (lit 48) tt;
+        start = placed-in x2 lower (lit 48) (lit 48) tt;
+        r3 = placed-in x3 lower (lit 48) (lit 48) tt;
       }
 
   band-places-in : (analog deep : Bool) → PlacesIn (bandPlacesOf analog deep b)
@@ -167,14 +167,14 @@ unfolding bandedOf
 banded-in {w} {h} analog deep {b} W H B =
     let places = band-places-in B analog deep in
     let placed = dpad-in (controls-placed (λ r P. P) (arranged-in false W H) places) (placed-in (B .digitalx) (B .mainy) (B .face) (B .face) tt) in
-    let y = sub-in (sub-in (B .h) i4 tt) (B .stick) tt in
+    let y = sub-in (sub-in (B .h) (lit 4) tt) (B .stick) tt in
     let left = placed-in (B .outer) y (B .stick) (B .stick) tt in
     let right = placed-in (sub-in (sub-in (B .w) (B .outer) tt) (B .stick) tt) y (B .stick) (B .stick) tt in
     either Arranged analog (with-analog-in placed (places .l3) (places .r3) left right) placed
 
 pub band-in : {w h : Float} (analog psp : Bool) {picture : Rect} → In w (at 0) (at 8192) → In h (at 0) (at 8192) → Area picture → Given Arranged (controllerBandOf w h analog psp picture)
 band-in {w} {h} analog psp {picture} W H A =
-    controller-band-case w h analog psp picture Arranged (λ t. place-bounded (inputs (anchored (not-below (R .face) i122 t))) picture false k1 centred (aspectOf psp))
+    controller-band-case w h analog psp picture Arranged (λ t. place-bounded (inputs (anchored (not-below (R .face) (lit 122) t))) picture false k1 centred (aspectOf psp))
   where
     room : Room
     room = bandRoom w h analog psp picture

@@ -16,7 +16,7 @@ use Rattle.numerics.specs.Each.{Each, _&_}
 use Rattle.numerics.specs.Lists.{fold-ind}
 use Rattle.numerics.specs.Bounds.{sub-law, div-law}
 use Rattle.numerics.specs.Ranges.{in-reach, in-more, most-in, area-side, add-in, sub-in, mul-in, div-in, min-in, cond-in, not-below, placed-in}
-use Rattle.numerics.specs.Literals.{i4, i8, i24, i32, i48, i52, i104, i122, i128, i156, i184, i224, i272, i480, f2, f3, f4, psp-wide}
+use Rattle.numerics.specs.Literals.{lit, f2, f3, f4, psp-wide}
 use Rattle.numerics.specs.Shrunk.{signed-in, placed-shrunk}
 use Rattle.search.specs.Bounded.{Bounded, Shrunk}
 use Rattle.search.proofs.Placement.{each-filter}
@@ -42,27 +42,27 @@ record RailIn (w rail : Float) : Type 0 where
 
 -- the width of a picture of full height
 wide-in : {high : Float} (psp : Bool) → In high (at 0) (at 8192) → In (cond psp (high ⊗ k480 ⊘ k272) (high ⊗ k4 ⊘ k3)) (minus 1) (at 16385)
-wide-in psp H = in-more (minus 1) (at 16385) (cond-in psp (signed-in 2 i480 i272 psp-wide tt tt H tt tt) (div-in (mul-in H f4 tt) f3 tt)) tt tt
+wide-in psp H = in-more (minus 1) (at 16385) (cond-in psp (signed-in 2 (lit 480) (lit 272) psp-wide tt tt H tt tt) (div-in (mul-in H f4 tt) f3 tt)) tt tt
 
 -- The rail is half the screen at most, and its keys lie inside it.
 right-in : {w wide : Float} → In w (at 1) (at 8192) → In wide (minus 1) (at 16385) → In ((w ⊖ wide) ⊘ k2) (at 184) (at 4097) → In (w ⊖ ((w ⊖ wide) ⊘ k2 ⊖ k48)) (at 0) (at 8192)
 unfolding P N E
 right-in W F R =
     let left = sub-in W F tt in
-    let inner = sub-in R i48 tt in
+    let inner = sub-in R (lit 48) tt in
     let right = in-more (minus 8192) (at 8192) (sub-in W inner tt) tt tt in
     let a = sub-law 1 (in-reach W) (in-reach F) tt .over in
     let b = div-law 1 (in-reach left) f2 tt .over in
-    let c = sub-law 1 (in-reach R) (in-reach i48) tt .over in
+    let c = sub-law 1 (in-reach R) (in-reach (lit 48)) tt .over in
     let d = sub-law 1 (in-reach W) (in-reach inner) tt .under in
-    record { whole = right .whole; lo = omega (arith, W .lo, F .lo, i48 .lo); hi = right .hi }
+    record { whole = right .whole; lo = omega (arith, W .lo, F .lo, (lit 48) .lo); hi = right .hi }
 
 rail-in : {w : Float} (psp : Bool) {picture : Rect} → In w (at 1) (at 8192) → Area picture → T (not (lt (measureRailOf w picture psp) k184)) → RailIn w (measureRailOf w picture psp)
 unfolding measureRailOf
 rail-in psp W A t =
     let wide = wide-in psp (area-side (A .h) (A .h0)) in
     let rail = in-more (minus 8193) (at 4097) (div-in (sub-in W wide tt) f2 tt) tt tt in
-    let room = not-below rail i184 t in
+    let room = not-below rail (lit 184) t in
     record { width = room; right = right-in W wide room }
 
 -- ---- the digital well
@@ -75,33 +75,33 @@ camera-top-in w rail {h} cutouts H O =
 face-in : (w : Float) {h rail : Float} (cutouts : List Rect) → In h (at 1) (at 8192) → In rail (at 184) (at 4097) → Each Element cutouts → T (not (lt (sizeFaceOf w h rail cutouts) k122)) → In (sizeFaceOf w h rail cutouts) (at 122) (at 184)
 unfolding sizeFaceOf
 face-in w {rail = rail} cutouts H R O t =
-    let below = sub-in (sub-in (camera-top-in w rail cutouts H O) i32 tt) i8 tt in
-    let face = in-more (minus 24576) (at 184) (min-in (min-in (min-in (sub-in R i8 tt) i184) below) (sub-in (sub-in H i32 tt) i224 tt)) tt tt in
-    not-below face i122 t
+    let below = sub-in (sub-in (camera-top-in w rail cutouts H O) (lit 32) tt) (lit 8) tt in
+    let face = in-more (minus 24576) (at 184) (min-in (min-in (min-in (sub-in R (lit 8) tt) (lit 184)) below) (sub-in (sub-in H (lit 32) tt) (lit 224) tt)) tt tt in
+    not-below face (lit 122) t
 
 -- ---- the places of the controls
 camera-places-in : {w rail face : Float} → In w (at 1) (at 8192) → RailIn w rail → In face (at 122) (at 184) → PlacesIn (cameraPlacesOf w rail face)
 unfolding cameraPlacesOf
 camera-places-in W R face =
-    let y = add-in (add-in i32 face tt) i8 tt in
+    let y = add-in (add-in (lit 32) face tt) (lit 8) tt in
     let cap = cap-in (in-more (at 122) (at 200) face tt tt) in
     let step = step-in (div-in (sub-in face cap tt) f2 tt) tt tt in
     let half = div-in face f2 tt in
-    let left = sub-in (R .width) i48 tt in
-    let right = sub-in (R .right) i48 tt in
-    let y1 = add-in y i52 tt in
-    let y2 = add-in y i104 tt in
-    let y3 = add-in y i156 tt in
+    let left = sub-in (R .width) (lit 48) tt in
+    let right = sub-in (R .right) (lit 48) tt in
+    let y1 = add-in y (lit 52) tt in
+    let y2 = add-in y (lit 104) tt in
+    let y3 = add-in y (lit 156) tt in
     record {
-      faces = faces-in (coordinate (sub-in (sub-in W i4 tt) half tt) tt) (coordinate (add-in i32 half tt) tt) step step cap;
-      l1 = placed-in left y1 i48 i48 tt;
-      l2 = placed-in left y i48 i48 tt;
-      r2 = placed-in right y i48 i48 tt;
-      r1 = placed-in right y1 i48 i48 tt;
-      select = placed-in left y2 i48 i48 tt;
-      start = placed-in right y2 i48 i48 tt;
-      l3 = placed-in left y3 i48 i48 tt;
-      r3 = placed-in right y3 i48 i48 tt;
+      faces = faces-in (coordinate (sub-in (sub-in W (lit 4) tt) half tt) tt) (coordinate (add-in (lit 32) half tt) tt) step step cap;
+      l1 = placed-in left y1 (lit 48) (lit 48) tt;
+      l2 = placed-in left y (lit 48) (lit 48) tt;
+      r2 = placed-in right y (lit 48) (lit 48) tt;
+      r1 = placed-in right y1 (lit 48) (lit 48) tt;
+      select = placed-in left y2 (lit 48) (lit 48) tt;
+      start = placed-in right y2 (lit 48) (lit 48) tt;
+      l3 = placed-in left y3 (lit 48) (lit 48) tt;
+      r3 = placed-in right y3 (lit 48) (lit 48) tt;
     }
 
 -- ---- the layout
@@ -115,9 +115,9 @@ module _ {w h : Float} (W : In w (at 1) (at 8192)) (H : In h (at 1) (at 8192)) w
   railed-in : {rail face : Float} → RailIn w rail → In face (at 122) (at 184) → Shrunk (cameraRailedOf w h rail face)
   unfolding cameraRailedOf
   railed-in R face =
-      let y = sub-in (sub-in H i24 tt) i128 tt in
-      let L = dpad-in (controls-placed (λ r P. placed-shrunk P tt) (analog-in W H) (camera-places-in W R face)) (placed-in i4 i32 face face tt) in
-      sticks-in L (placed-in i4 y i128 i128 tt & placed-in (sub-in (sub-in W i4 tt) i128 tt) y i128 i128 tt & tt)
+      let y = sub-in (sub-in H (lit 24) tt) (lit 128) tt in
+      let L = dpad-in (controls-placed (λ r P. placed-shrunk P tt) (analog-in W H) (camera-places-in W R face)) (placed-in (lit 4) (lit 32) face face tt) in
+      sticks-in L (placed-in (lit 4) y (lit 128) (lit 128) tt & placed-in (sub-in (sub-in W (lit 4) tt) (lit 128) tt) y (lit 128) (lit 128) tt & tt)
 
   module _ {picture : Rect} (A : Area picture) (psp : Bool) where
     anchored-rails-in : (cutouts : List Rect) → Each Element cutouts → T (not (lt (cameraRail w h picture cutouts psp) k184)) → T (not (lt (cameraFace w h picture cutouts psp) k122)) → Shrunk (cameraLayout w h picture cutouts psp)

@@ -18,7 +18,7 @@ use Rattle.numerics.specs.Lists.{fold-ind}
 use Rattle.numerics.specs.Bounds.{add-law, sub-law, min-ind, max-law, add-most, most-more}
 use Rattle.numerics.specs.Ranges.{in-more, in-reach, most-in, area-side, add-in, sub-in, mul-in, div-in, min-in, max-in, clamp-whole-in, range-most}
 use Rattle.numerics.specs.Products.{product-most}
-use Rattle.numerics.specs.Literals.{i0, i0·25, i1, f2, f4/3, f480/272}
+use Rattle.numerics.specs.Literals.{lit, i0·25, f2, f4/3, f480/272}
 use Rattle.numerics.specs.Shrunk.{shrunkMargin}
 use Rattle.search.specs.declared.Offset.{Offset}
 use Rattle.search.specs.Bounded.{Shrunk, BoundedGame}
@@ -43,7 +43,7 @@ record PictureIn (g : Rect) : Type 0 where
   pub h : In (g .h) (minus 1) end
 
 no-picture : PictureIn emptyRect
-no-picture = record { x = in-more (minus 4097) (at 4097) i0 tt tt; y = i0; w = in-more (at 0) end i0 tt tt; h = in-more (minus 1) end i0 tt tt }
+no-picture = record { x = in-more (minus 4097) (at 4097) (lit 0) tt tt; y = (lit 0); w = in-more (at 0) end (lit 0) tt tt; h = in-more (minus 1) end (lit 0) tt tt }
 
 times-aspect : {x : Float} (psp : Bool) → In x (minus 1) (at 8193) → In (x ⊗ aspectOf psp) (minus 2) (at 16384)
 times-aspect true i = in-more (minus 2) (at 16384) (mul-in i f480/272 tt) tt tt
@@ -56,11 +56,11 @@ over-aspect false i = in-more (minus 1) end (div-in i f4/3 tt) tt tt
 module _ (psp : Bool) {w h : Float} (W : In w (at 0) (at 8192)) (H : In h (at 0) end) where
   better-in : {x width : Float} → In x (minus 4097) (at 4097) → In width (at 0) end → PictureIn (betterOf emptyRect x k0 width (aspectOf psp))
   unfolding betterOf
-  better-in {width = width} x i = either PictureIn (lt k0 width || (eq width k0 && lt k0 k0)) (record { x = x; y = i0; w = i; h = over-aspect psp i }) no-picture
+  better-in {width = width} x i = either PictureIn (lt k0 width || (eq width k0 && lt k0 k0)) (record { x = x; y = (lit 0); w = i; h = over-aspect psp i }) no-picture
 
   -- the height gives a width too
   width-in : {x : Float} → In x (minus 1) end → In (maxOf (minOf x ((h ⊖ k0) ⊗ aspectOf psp)) k0) (at 0) end
-  width-in i = in-more (at 0) end (max-in (min-in i (times-aspect psp (in-more (minus 1) (at 8193) (sub-in H i0 tt) tt tt))) i0) tt tt
+  width-in i = in-more (at 0) end (max-in (min-in i (times-aspect psp (in-more (minus 1) (at 8193) (sub-in H (lit 0) tt) tt tt))) (lit 0)) tt tt
 
   centered-in : PictureIn (centeredOf w h [] (aspectOf psp))
   unfolding centeredOf tryAt widthAt
@@ -71,8 +71,8 @@ module _ (psp : Bool) {w h : Float} (W : In w (at 0) (at 8192)) (H : In h (at 0)
   side-in : PictureIn (sideOf w h [] (aspectOf psp))
   unfolding sideOf tryColumn trySideAt sideWidthAt
   side-in =
-      let wide = width-in (in-more (minus 1) end (sub-in W i0 tt) tt tt) in
-      either PictureIn (withinOf k0 w) (either PictureIn (withinOf k0 h) (better-in (in-more (minus 4097) (at 4097) i0 tt tt) wide) no-picture) no-picture
+      let wide = width-in (in-more (minus 1) end (sub-in W (lit 0) tt) tt tt) in
+      either PictureIn (withinOf k0 w) (either PictureIn (withinOf k0 h) (better-in (in-more (minus 4097) (at 4097) (lit 0) tt tt) wide) no-picture) no-picture
 
   clear-in : PictureIn (clearPictureAspectOf w h [] (aspectOf psp))
   unfolding clearPictureAspectOf
@@ -100,12 +100,12 @@ pub lowered-game-in : (psp : Bool) {b : Rect} → Lowered b → (factor : Float)
 unfolding obstaclesOf
 lowered-game-in psp {b} B factor fw offset ox oy =
     let g = clear-in psp (B .w) (B .h) in
-    let s = clamp-whole-in factor fw i0·25 i1 in
-    let rest = in-reach (sub-in i1 s tt) in
+    let s = clamp-whole-in factor fw i0·25 (lit 1) in
+    let rest = in-reach (sub-in (lit 1) s tt) in
     let wide = range-most most (g .w) tt in
     let high = range-most most (g .h) tt in
-    let across = product-most 1581070 (product-most 1581069 wide rest tt tt) (in-reach (clamp-whole-in (offset .x) ox i0 i1)) tt tt in
-    let down = product-most 1581070 (product-most 1581069 high rest tt tt) (in-reach (clamp-whole-in (offset .y) oy i0 i1)) tt tt in
+    let across = product-most 1581070 (product-most 1581069 wide rest tt tt) (in-reach (clamp-whole-in (offset .x) ox (lit 0) (lit 1))) tt tt in
+    let down = product-most 1581070 (product-most 1581069 high rest tt tt) (in-reach (clamp-whole-in (offset .y) oy (lit 0) (lit 1))) tt tt in
     rw (game-is (shape psp) [] b factor offset)
     (record {
       x = most-more (add-most (in-reach (add-in (B .x) (g .x) tt)) across tt) (256 * 22561) tt;
@@ -146,7 +146,7 @@ below-toolbar-in {l} L A =
     let y = most-in (A .y) tt in
     let h = area-side (A .h) (A .h0) in
     let lowest = lowest-in (map bottomOf (l .playback ∷ l .speed ∷ l .mute ∷ l .pause ∷ [])) y (key-in (L .playback) & key-in (L .speed) & key-in (L .mute) & key-in (L .pause) & tt) in
-    let less = max-in (sub-in h i1 tt) i0 in
+    let less = max-in (sub-in h (lit 1) tt) (lit 0) in
     let bottom = in-more (minus 8193) (at 16384) (min-in (lowest .0) (add-in y less tt)) tt tt in
     let rest = rest-in y h bottom (begins y less (lowest .0) (lowest .1)) in
-    record { x = most-in (A .x) tt; y = bottom; w = area-side (A .w) (A .w0); h = in-more (at 0) end (max-in rest i1) tt tt }
+    record { x = most-in (A .x) tt; y = bottom; w = area-side (A .w) (A .w0); h = in-more (at 0) end (max-in rest (lit 1)) tt tt }

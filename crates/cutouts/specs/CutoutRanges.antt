@@ -25,7 +25,7 @@ use Rattle.numerics.specs.Rects.{maxCorner, maxSide, Element}
 use Rattle.numerics.specs.Operations.{fits-whole, size-is, less}
 use Rattle.numerics.specs.Bounds.{eps-pos, most-magnitude, between-most, le-law, zero-most, zero-parts}
 use Rattle.numerics.specs.Ranges.{add-in, most-in, moved-in, range-most, tested}
-use Rattle.numerics.specs.Literals.{i8192}
+use Rattle.numerics.specs.Literals.{lit}
 use Rattle.float.proofs.Booleans.{either, by-test, all-four}
 use Rattle.search.specs.Bounded.{Bounded}
 use Rattle.search.proofs.Layouts.{elements-in}
@@ -87,7 +87,7 @@ side-in {x} {r} {w} f R W s t = go (far x r f R s)
   where
     go : AtMost x (256 * 32768) ⊎ T (le (k8192 ⊕ k8192) (x ⊕ r)) → AtMost x maxCorner
     go (inl n) = range-most maxCorner (moved-in n (most-in R tt) W tt tt s t) tt
-    go (inr k) = let i = tested (x ⊕ r) (add-fits binary32 x r) (add-in i8192 i8192 tt) W k t in let e = eps-pos in absurd (let y : ⊥ = omega (arith, i .lo, i .hi, e) in y)
+    go (inr k) = let i = tested (x ⊕ r) (add-fits binary32 x r) (add-in (lit 8192) (lit 8192) tt) W k t in let e = eps-pos in absurd (let y : ⊥ = omega (arith, i .lo, i .hi, e) in y)
 
 module _ {w h : Float} (W : In w (at 0) (at 8192)) (H : In h (at 0) (at 8192)) where
   settled-in : (old new : Rect) → Settled w h old new → Element old → Element new

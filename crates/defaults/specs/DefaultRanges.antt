@@ -16,7 +16,7 @@ use Rattle.numerics.specs.Range.{In, at}
 use Rattle.numerics.specs.Each.{Each}
 use Rattle.numerics.specs.Bounds.{most-more, max-law, zero-most}
 use Rattle.numerics.specs.Ranges.{in-more, add-in, sub-in, div-in, max-in, above-zero, clamp-in, cond-in, range-most, placed-in}
-use Rattle.numerics.specs.Literals.{i0, i8, i16, i20, i24, i32, i48, i56, i76, i88, i104, i122, i128, i184, i336, i360, f2}
+use Rattle.numerics.specs.Literals.{lit, f2}
 use Rattle.numerics.specs.Shrunk.{Shrinks, shrunkMargin, shrunk-placed, placed-shrunk}
 use Rattle.search.specs.Bounded.{Arranged, Shrunk}
 use Rattle.search.proofs.Layouts.{place-bounded}
@@ -58,12 +58,12 @@ sizes-in : {w h : Float} → In w (at 360) (at 8192) → In h (at 360) (at 8192)
 unfolding sizeHalvesOf
 sizes-in {w} {h} W H =
     let landscape = lt (h ⊗ k1·35) w in
-    let bottom = in-more (at 24) (at 32) (cond-in landscape (clamp-in (sub-in H i336 tt) i24 i32) i32) tt tt in
+    let bottom = in-more (at 24) (at 32) (cond-in landscape (clamp-in (sub-in H (lit 336) tt) (lit 24) (lit 32)) (lit 32)) tt tt in
     let half = div-in W f2 tt in
-    let stick = in-more (at 104) (at 128) (cond-in landscape i104 (clamp-in (sub-in half i76 tt) i104 i128)) tt tt in
-    let face = in-more (at 122) (at 184) (cond-in landscape (clamp-in (sub-in (sub-in (sub-in (sub-in (sub-in H i56 tt) i48 tt) i16 tt) stick tt) bottom tt) i122 i184) (clamp-in (sub-in half i20 tt) i122 i184)) tt tt in
-    let column = in-more (at 122) (at 192) (max-in face (add-in stick i56 tt)) tt tt in
-    record { bottom = bottom; stick = stick; face = face; column = column; shoulder = in-more (at 48) (at 96) (cond-in (sizeHalvesOf w h .middle) i88 (div-in (sub-in column i8 tt) f2 tt)) tt tt }
+    let stick = in-more (at 104) (at 128) (cond-in landscape (lit 104) (clamp-in (sub-in half (lit 76) tt) (lit 104) (lit 128))) tt tt in
+    let face = in-more (at 122) (at 184) (cond-in landscape (clamp-in (sub-in (sub-in (sub-in (sub-in (sub-in H (lit 56) tt) (lit 48) tt) (lit 16) tt) stick tt) bottom tt) (lit 122) (lit 184)) (clamp-in (sub-in half (lit 20) tt) (lit 122) (lit 184))) tt tt in
+    let column = in-more (at 122) (at 192) (max-in face (add-in stick (lit 56) tt)) tt tt in
+    record { bottom = bottom; stick = stick; face = face; column = column; shoulder = in-more (at 48) (at 96) (cond-in (sizeHalvesOf w h .middle) (lit 88) (div-in (sub-in column (lit 8) tt) f2 tt)) tt tt }
 
 record HalvesIn (b : Halves) : Type 0 where
   pub w : In (b .w) (at 360) (at 8192)
@@ -83,42 +83,42 @@ halves-in : {w h : Float} {s : Sizes} → In w (at 360) (at 8192) → In h (at 3
 unfolding measureHalvesOf
 halves-in {s = s} W H S =
     let mainY = sub-in (sub-in H (S .bottom) tt) (S .stick) tt in
-    let faceY = sub-in (sub-in mainY i8 tt) (S .face) tt in
+    let faceY = sub-in (sub-in mainY (lit 8) tt) (S .face) tt in
     let cap = cap-in (in-more (at 122) (at 200) (S .face) tt tt) in
     let step = step-in (div-in (sub-in (S .face) cap tt) f2 tt) tt tt in
-    let inner = add-in (add-in i16 (S .column) tt) i8 tt in
-    let above = sub-in faceY i56 tt in
+    let inner = add-in (add-in (lit 16) (S .column) tt) (lit 8) tt in
+    let above = sub-in faceY (lit 56) tt in
     record {
       w = W;
       stick = S .stick;
       face = S .face;
       shoulder = S .shoulder;
-      digitalx = coordinate (add-in i16 (div-in (sub-in (S .column) (S .face) tt) f2 tt) tt) tt;
+      digitalx = coordinate (add-in (lit 16) (div-in (sub-in (S .column) (S .face) tt) f2 tt) tt) tt;
       mainy = coordinate mainY tt;
       facey = coordinate faceY tt;
-      faces = faces-in (coordinate (sub-in (sub-in W i16 tt) (div-in (S .column) f2 tt) tt) tt) (coordinate (add-in faceY (div-in (S .face) f2 tt) tt) tt) step step cap;
-      x1 = in-more (at 0) (at 256) (cond-in (s .middle) inner (add-in i16 i0 tt)) tt tt;
-      x2 = in-more (at 0) (at 256) (cond-in (s .middle) inner (add-in i16 (add-in (S .shoulder) i8 tt) tt)) tt tt;
-      y1 = coordinate (cond-in (s .middle) (add-in faceY i56 tt) above) tt;
-      y2 = coordinate (cond-in (s .middle) (add-in faceY i0 tt) above) tt;
+      faces = faces-in (coordinate (sub-in (sub-in W (lit 16) tt) (div-in (S .column) f2 tt) tt) tt) (coordinate (add-in faceY (div-in (S .face) f2 tt) tt) tt) step step cap;
+      x1 = in-more (at 0) (at 256) (cond-in (s .middle) inner (add-in (lit 16) (lit 0) tt)) tt tt;
+      x2 = in-more (at 0) (at 256) (cond-in (s .middle) inner (add-in (lit 16) (add-in (S .shoulder) (lit 8) tt) tt)) tt tt;
+      y1 = coordinate (cond-in (s .middle) (add-in faceY (lit 56) tt) above) tt;
+      y2 = coordinate (cond-in (s .middle) (add-in faceY (lit 0) tt) above) tt;
     }
 
 half-places-in : {b : Halves} → HalvesIn b → PlacesIn (halfPlacesOf b)
 unfolding halfPlacesOf
 half-places-in B =
-    let left = add-in (add-in i16 (B .stick) tt) i8 tt in
-    let right = sub-in (sub-in (sub-in (B .w) i16 tt) (B .stick) tt) i56 tt in
-    let lower = sub-in (add-in (B .mainy) (B .stick) tt) i48 tt in
+    let left = add-in (add-in (lit 16) (B .stick) tt) (lit 8) tt in
+    let right = sub-in (sub-in (sub-in (B .w) (lit 16) tt) (B .stick) tt) (lit 56) tt in
+    let lower = sub-in (add-in (B .mainy) (B .stick) tt) (lit 48) tt in
     record {
       faces = B .faces;
-      l1 = placed-in (B .x1) (B .y1) (B .shoulder) i48 tt;
-      l2 = placed-in (B .x2) (B .y2) (B .shoulder) i48 tt;
-      r2 = placed-in (sub-in (sub-in (B .w) (B .x2) tt) (B .shoulder) tt) (B .y2) (B .shoulder) i48 tt;
-      r1 = placed-in (sub-in (sub-in (B .w) (B .x1) tt) (B .shoulder) tt) (B .y1) (B .shoulder) i48 tt;
-      select = placed-in left (B .mainy) i48 i48 tt;
-      start = placed-in right (B .mainy) i48 i48 tt;
-      l3 = placed-in left lower i48 i48 tt;
-      r3 = placed-in right lower i48 i48 tt;
+      l1 = placed-in (B .x1) (B .y1) (B .shoulder) (lit 48) tt;
+      l2 = placed-in (B .x2) (B .y2) (B .shoulder) (lit 48) tt;
+      r2 = placed-in (sub-in (sub-in (B .w) (B .x2) tt) (B .shoulder) tt) (B .y2) (B .shoulder) (lit 48) tt;
+      r1 = placed-in (sub-in (sub-in (B .w) (B .x1) tt) (B .shoulder) tt) (B .y1) (B .shoulder) (lit 48) tt;
+      select = placed-in left (B .mainy) (lit 48) (lit 48) tt;
+      start = placed-in right (B .mainy) (lit 48) (lit 48) tt;
+      l3 = placed-in left lower (lit 48) (lit 48) tt;
+      r3 = placed-in right lower (lit 48) (lit 48) tt;
     }
 
 full-in : {w h : Float} → In w (at 360) (at 8192) → In h (at 360) (at 8192) → Arranged (analogFullOf w h)
@@ -129,7 +129,7 @@ full-in W H =
     let high = in-more (at 0) (at 8192) H tt tt in
     let standard = default-in [] (in-more (at 0) (at 8192) W tt tt) high tt (screen-area (in-more (at 1) (at 8192) W tt tt) (in-more (at 1) (at 8192) H tt tt)) high in
     let digital = dpad-in (controls-placed (λ r P. P) standard places) (placed-in (B .digitalx) (B .facey) (B .face) (B .face) tt) in
-    with-analog-in digital (places .l3) (places .r3) (placed-in i16 (B .mainy) (B .stick) (B .stick) tt) (placed-in (sub-in (sub-in (B .w) i16 tt) (B .stick) tt) (B .mainy) (B .stick) (B .stick) tt)
+    with-analog-in digital (places .l3) (places .r3) (placed-in (lit 16) (B .mainy) (B .stick) (B .stick) tt) (placed-in (sub-in (sub-in (B .w) (lit 16) tt) (B .stick) tt) (B .mainy) (B .stick) (B .stick) tt)
 
 -- ---- `shrunk`
 shrunk-layout-in : (l : Layout) {requested full : Size} → Shrinks (requested .w) (full .w) → Shrinks (requested .h) (full .h) → l .count ≤ length (l .controls) → l .stickcount ≤ length (l .sticks) → Arranged l
@@ -141,7 +141,7 @@ shrunk-layout-in l {requested} {full} W H cs ss L =
     (arranged-shrunk L)
 
 shrinks : {x : Float} → In x (at 1) (at 8192) → Shrinks x (maxOf x k360)
-shrinks {x} X = record { part = X; full = in-more (at 360) (at 8192) (max-in X i360) tt tt; less = max-law 1 x k360 (X .whole) (i360 .whole) .first }
+shrinks {x} X = record { part = X; full = in-more (at 360) (at 8192) (max-in X (lit 360)) tt tt; less = max-law 1 x k360 (X .whole) ((lit 360) .whole) .first }
 
 -- ---- `analog_default` and `psp`, on screens of 1 by 1 at least
 module _ {w h : Float} (W : In w (at 1) (at 8192)) (H : In h (at 1) (at 8192)) where

@@ -25,7 +25,7 @@ use Rattle.numerics.specs.Each.{Each}
 use Rattle.numerics.specs.Lists.{each-take, each-at, each-set, fold-ind}
 use Rattle.numerics.specs.Bounds.{most-more}
 use Rattle.numerics.specs.Ranges.{in-more, most-in, add-in, sub-in, sub-back, div-in, times-in, min-in, not-below, range-most, element-in, placed-element}
-use Rattle.numerics.specs.Literals.{i0, i0·5, i1, i4, i8, i16, i18, i24, i48, i64, i72, i104, i120, i122, f2}
+use Rattle.numerics.specs.Literals.{lit, i0·5, f2}
 use Rattle.numerics.specs.Shrunk.{shrunkMargin}
 use Rattle.search.specs.Bounded.{Every, Bounded, BoundedGame}
 use Rattle.search.specs.Widest.{WidestGame}
@@ -64,22 +64,22 @@ row-in {w} {h} {face} {stick} W H F S t =
     let tight = lt (r .shouldery) toolbarHeight in
     let small = lt face k122 || lt stick k104 in
     let n = nor-r tight small t in
-    let f = in-more (at 122) (at 8200) (not-below (most-in F tt) i122 (nor-l (lt face k122) (lt stick k104) n)) tt tt in
-    let s = in-more (at 104) (at 8200) (not-below (most-in S tt) i104 (nor-r (lt face k122) (lt stick k104) n)) tt tt in
-    let rowY = sub-in (sub-in H i4 tt) i48 tt in
-    let stickY = sub-in (sub-in rowY i8 tt) s tt in
-    let faceY = sub-in (sub-in stickY i8 tt) f tt in
-    let above = sub-in faceY i8 tt in
-    let high = sub-in above i48 tt in
-    let shoulderY = not-below high i18 (nor-l tight small t) in
+    let f = in-more (at 122) (at 8200) (not-below (most-in F tt) (lit 122) (nor-l (lt face k122) (lt stick k104) n)) tt tt in
+    let s = in-more (at 104) (at 8200) (not-below (most-in S tt) (lit 104) (nor-r (lt face k122) (lt stick k104) n)) tt tt in
+    let rowY = sub-in (sub-in H (lit 4) tt) (lit 48) tt in
+    let stickY = sub-in (sub-in rowY (lit 8) tt) s tt in
+    let faceY = sub-in (sub-in stickY (lit 8) tt) f tt in
+    let above = sub-in faceY (lit 8) tt in
+    let high = sub-in above (lit 48) tt in
+    let shoulderY = not-below high (lit 18) (nor-l tight small t) in
     record {
       w = W;
       face = f;
       stick = s;
-      shoulder = in-more (at 0) (at 4200) (div-in (sub-in f i8 tt) f2 tt) tt tt;
+      shoulder = in-more (at 0) (at 4200) (div-in (sub-in f (lit 8) tt) f2 tt) tt tt;
       rowy = in-more (minus 64) (at 8192) rowY tt tt;
       sticky = in-more (minus 8400) (at 8192) stickY tt tt;
-      facey = in-more (at 0) (at 8192) (sub-back (at 1) faceY i8 (sub-back (at 10) above i48 shoulderY tt tt) tt tt) tt tt;
+      facey = in-more (at 0) (at 8192) (sub-back (at 1) faceY (lit 8) (sub-back (at 10) above (lit 48) shoulderY tt tt) tt tt) tt tt;
       shouldery = in-more (at 0) (at 8192) shoulderY tt tt;
     }
 
@@ -93,7 +93,7 @@ unfolding joinOf
 join-corner a b A B = record { x = min-in (A .x) (B .x); y = min-in (A .y) (B .y) }
 
 boxes-corner : (rs : List Rect) → Each Corner rs → Corner (reduce joinOf emptyRect rs)
-boxes-corner [] e = let zero = in-more (minus shrunkMargin) (at (8192 + shrunkMargin)) i0 tt tt in record { x = zero; y = zero }
+boxes-corner [] e = let zero = in-more (minus shrunkMargin) (at (8192 + shrunkMargin)) (lit 0) tt tt in record { x = zero; y = zero }
 boxes-corner (r ∷ rs) e = fold-ind Corner Corner joinOf join-corner rs r (e .0) (e .1)
 
 actions-in : (l : Layout) → l .count ≤ length (l .controls) → Each (λ c. Old (c .bounds)) (l .controls) → Corner (actionBoundsOf l)
@@ -113,14 +113,14 @@ module _ {r : Row} {dx dy : Float} (R : RowIn r) (DX : In dx (minus 17500) (at 9
   place-in B O = face-in B
   place-in B X = face-in B
   place-in B Sq = face-in B
-  place-in B L1 = element-in i16 (R .shouldery) (R .shoulder) i48 tt
-  place-in B L2 = element-in (add-in i24 (R .shoulder) tt) (R .shouldery) (R .shoulder) i48 tt
-  place-in B R2 = element-in (sub-in (sub-in (R .w) i24 tt) (times-in f2 (R .shoulder) tt) tt) (R .shouldery) (R .shoulder) i48 tt
-  place-in B R1 = element-in (sub-in (sub-in (R .w) i16 tt) (R .shoulder) tt) (R .shouldery) (R .shoulder) i48 tt
-  place-in B Select = element-in i72 (R .rowy) i48 i48 tt
-  place-in B Start = element-in (sub-in (R .w) i120 tt) (R .rowy) i48 i48 tt
-  place-in B L3 = element-in i16 (R .rowy) i48 i48 tt
-  place-in B R3 = element-in (sub-in (R .w) i64 tt) (R .rowy) i48 i48 tt
+  place-in B L1 = element-in (lit 16) (R .shouldery) (R .shoulder) (lit 48) tt
+  place-in B L2 = element-in (add-in (lit 24) (R .shoulder) tt) (R .shouldery) (R .shoulder) (lit 48) tt
+  place-in B R2 = element-in (sub-in (sub-in (R .w) (lit 24) tt) (times-in f2 (R .shoulder) tt) tt) (R .shouldery) (R .shoulder) (lit 48) tt
+  place-in B R1 = element-in (sub-in (sub-in (R .w) (lit 16) tt) (R .shoulder) tt) (R .shouldery) (R .shoulder) (lit 48) tt
+  place-in B Select = element-in (lit 72) (R .rowy) (lit 48) (lit 48) tt
+  place-in B Start = element-in (sub-in (R .w) (lit 120) tt) (R .rowy) (lit 48) (lit 48) tt
+  place-in B L3 = element-in (lit 16) (R .rowy) (lit 48) (lit 48) tt
+  place-in B R3 = element-in (sub-in (R .w) (lit 64) tt) (R .rowy) (lit 48) (lit 48) tt
 
   -- the controls past the first n are on the screen as they were
   row-controls-in : (n : ℕ) (cs : List Control) → Each (λ c. Old (c .bounds)) cs → Each (λ c. Element (c .bounds)) (mapFirst (inRow r dx dy) n cs)
@@ -129,8 +129,8 @@ module _ {r : Row} {dx dy : Float} (R : RowIn r) (DX : In dx (minus 17500) (at 9
 row-sticks-in : {r : Row} → RowIn r → (sticks : List Rect) (count : ℕ) → Each Element sticks → Each Element (rowSticksOf sticks count r)
 unfolding rowSticksOf
 row-sticks-in R sticks count e =
-    let left = each-set Element 0 sticks _ e (element-in i16 (R .sticky) (R .stick) (R .stick) tt) in
-    either (Each Element) (ltb 1 count) (each-set Element 1 (set sticks 0 _) _ left (element-in (sub-in (sub-in (R .w) i16 tt) (R .stick) tt) (R .sticky) (R .stick) (R .stick) tt)) left
+    let left = each-set Element 0 sticks _ e (element-in (lit 16) (R .sticky) (R .stick) (R .stick) tt) in
+    either (Each Element) (ltb 1 count) (each-set Element 1 (set sticks 0 _) _ left (element-in (sub-in (sub-in (R .w) (lit 16) tt) (R .stick) tt) (R .sticky) (R .stick) (R .stick) tt)) left
 
 -- ---- the layout
 module _ (l : Layout) (cs : l .count ≤ length (l .controls)) (ss : 0 < length (l .sticks)) (L : Every Old Element l) where
@@ -141,9 +141,9 @@ module _ (l : Layout) (cs : l .count ≤ length (l .controls)) (ss : 0 < length 
   unfolding rowedOf
   rowed-in R =
       let A = actions-in l cs (L .controls) in
-      let dx = in-more (minus 17500) (at 9100) (sub-in (sub-in (sub-in (R .w) i16 tt) (R .face) tt) (A .x) tt) tt tt in
+      let dx = in-more (minus 17500) (at 9100) (sub-in (sub-in (sub-in (R .w) (lit 16) tt) (R .face) tt) (A .x) tt) tt tt in
       let dy = in-more (minus 9300) (at 9300) (sub-in (R .facey) (A .y) tt) tt tt in
-      let dpad = dpad-in bounded (element-in i16 (R .facey) (R .face) (R .face) tt) in
+      let dpad = dpad-in bounded (element-in (lit 16) (R .facey) (R .face) (R .face) tt) in
       sticks-in (controls-in dpad (row-controls-in R dx dy (l .count) (l .controls) (L .controls))) (row-sticks-in R (l .sticks) (l .stickcount) (bounded .sticks))
 
   stick-in : AtMost (getD (l .sticks) 0 anyRect .w) (maxArea + shrunkMargin)
@@ -159,7 +159,7 @@ module _ (l : Layout) (cs : l .count ≤ length (l .controls)) (ss : 0 < length 
     module _ {aspect : Float} {p q : ℕ} (S : Shape aspect p q) {picture : Rect} (A : Area picture) where
       pub landscape-game-in : BoundedGame (l .game) → BoundedGame (fitLandscapeControlsOf l w h picture aspect .game)
       landscape-game-in g =
-          landscape-case l w h picture aspect (λ m. BoundedGame (m .game)) g (λ t. place-game-in S (rowedOf l (rowOf l w h)) (row-bounded t) A centred (i0·5 .whole) (i0·5 .whole) false k1 (i1 .whole))
+          landscape-case l w h picture aspect (λ m. BoundedGame (m .game)) g (λ t. place-game-in S (rowedOf l (rowOf l w h)) (row-bounded t) A centred (i0·5 .whole) (i0·5 .whole) false k1 ((lit 1) .whole))
 
       pub landscape-widest : WidestGame p q picture aspect l → WidestGame p q picture aspect (fitLandscapeControlsOf l w h picture aspect)
       landscape-widest g =

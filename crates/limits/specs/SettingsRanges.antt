@@ -20,14 +20,14 @@ use Rattle.numerics.specs.Range.{In, at, minus}
 use Rattle.numerics.specs.Rects.{maxArea, Element, Area}
 use Rattle.numerics.specs.Each.{Each}
 use Rattle.numerics.specs.Ranges.{max-in, neg-in, tested, range-most, element-in}
-use Rattle.numerics.specs.Literals.{i0, i1, i8192}
+use Rattle.numerics.specs.Literals.{lit}
 use Rattle.settings.specs.declared.Settings.{Settings}
 use Rattle.settings.specs.Settings.{least, inLimitsOf, screenInLimitsOf, rectInLimitsOf, placeInLimitsOf, cutoutsInLimitsOf, acceptedOf, rectIsF32, IsF32}
 use Rattle.settings.specs.Accepted.{accepted-parts}
 use Rattle.limits.specs.InRange.{InRange}
 
 least-in : In least (minus 8192) (minus 8192)
-least-in = neg-in i8192 tt
+least-in = neg-in (lit 8192) tt
 
 -- a number that passed the tests, from low to 8192
 record Limited (low : Float) (a : ℕ) (x : Float) : Type 0 where
@@ -38,7 +38,7 @@ limited : {low x : Float} {a b : ℕ} → In low a b → fits binary32 x ≡ tru
 unfolding inLimitsOf
 limited {low} {x} i f e =
     let b = both (le low x) (le x k8192) e in
-    record { range = tested x (passes _ f) i i8192 (passes _ (b .0)) (passes _ (b .1)); above = passes _ (b .0) }
+    record { range = tested x (passes _ f) i (lit 8192) (passes _ (b .0)) (passes _ (b .1)); above = passes _ (b .0) }
 
 -- a rectangle whose w and h are from low
 record LimitedRect (low : Float) (a : ℕ) (r : Rect) : Type 0 where
@@ -98,14 +98,14 @@ accepted-in-range s e f =
     let screen = both _ _ (a .screen) in
     let place = both _ _ (a .place) in
     let offset = both _ _ (place .1) in
-    let w = limited i0 (f .w) (screen .0) .range in
-    let h = limited i0 (f .h) (screen .1) .range in
-    let p = limited-rect i0 (s .picture) (a .picture) (f .picture) in
+    let w = limited (lit 0) (f .w) (screen .0) .range in
+    let h = limited (lit 0) (f .h) (screen .1) .range in
+    let p = limited-rect (lit 0) (s .picture) (a .picture) (f .picture) in
     record {
       w = w;
       h = h;
-      raised-w = max-in w i1;
-      raised-h = max-in h i1;
+      raised-w = max-in w (lit 1);
+      raised-h = max-in h (lit 1);
       area = area p;
       cutouts = elements (cutoutList (s .cutouts)) (a .cutouts) (f .cutouts);
       scale = limited least-in (f .scale) (place .0) .range .whole;

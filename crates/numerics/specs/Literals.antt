@@ -1,18 +1,82 @@
--- The source's literals: iN is the range of N, by computation, and fN says that N is a fraction, for products and quotients by it. And constants made of them.
-use mathlib.Core.Path.{_≡_, refl, ap, _∙_}
-use Prim.Native.Nat.{ℕ, _+_, _*_, _≤_}
-use native.Mathlib.Nat.{mul-le-mul-right, zero-mul}
+-- The source's literals: `lit n` is the range of the whole number n, and iN that of another literal N, by computation; fN says that N is a fraction, for products
+-- and quotients by it. And constants made of them.
+use mathlib.Core.Path.{_≡_, refl, sym, ap, _∙_}
+use mathlib.Core.Bool.{Bool, true, false, _&&_, cond}
+use Prim.Native.Nat.{ℕ, zero, suc, _+_, _-_, _*_, _/_, _%_, _^_, _≤_, _<_}
+use native.Mathlib.Nat.{mul-assoc, mul-comm, mul-add, add-comm, add-zero, zero-add, le-of-eq, mul-le-mul-right, zero-mul}
 use native.Mathlib.Omega.{arith}
-use lib.Dec.{lit≤}
-use lib.Ieee.{ofBits, add, mul, div}
-use Rattle.float.specs.Float.{_⊕_, _⊗_, _⊘_, k0, k0·01, k0·055, k0·25, k0·4, k0·5, k0·75, k1, k1·4, k2, k3, k4, k6, k8, k12, k14, k16, k18, k20, k24, k28, k32, k40, k44, k48, k50, k52, k56, k64, k68, k70, k72, k76, k80, k84, k88, k96, k100, k104, k112, k120, k122, k128, k136, k140, k156, k160, k164, k168, k176, k184, k196, k200, k204, k224, k240, k272, k288, k336, k360, k480, k8192, √2}
+use borrow.Author.Tests.{lt-leb}
+use lib.Dec.{T, ltb, leb, leb→le, ltb→lt, lit≤}
+use lib.Pow.{pow-add}
+use lib.Ieee.{Float, binary32, ofBits, add, mul, div}
+use lib.Ieee.Exact.{HasValue}
+use Rattle.float.proofs.Booleans.{and-three}
+use Rattle.float.proofs.Patterns.{ofBits-is, fields-normal}
+use Rattle.float.specs.Float.{_⊕_, _⊗_, _⊘_, k0·01, k0·055, k0·25, k0·4, k0·5, k0·75, k1, k1·4, k2, k3, k4, k52, k272, k480, √2}
 use Rattle.numerics.specs.Value.{magnitude, posPart, negPart, eps, limit, AtMost, Fraction, P, N, E}
 use Rattle.numerics.specs.Range.{In, at}
+use Rattle.numerics.specs.Operations.{value-is}
 use Rattle.numerics.specs.Ranges.{literal, fraction, range-most}
 
-pub i0 : In k0 (at 0) (at 0)
-i0 = unfold ofBits magnitude posPart negPart eps in (literal refl tt tt)
+-- ---- whole numbers: `lit n` is the range of the literal n
 
+-- how many binary digits n has, of at most k
+abbrev digits : ℕ → ℕ → ℕ
+digits zero n = 0
+digits (suc k) n = cond (ltb n 1) 0 (suc (digits k (n / 2)))
+
+-- n, of d digits, as an f32: its significand, whether that has 24 digits, and the bit pattern
+abbrev significand : ℕ → ℕ → ℕ
+significand n d = n * 2 ^ (24 - d)
+
+abbrev normal : ℕ → ℕ → Bool
+normal n d = ltb d 24 && (leb 0x80_0000 (significand n d) && ltb (significand n d) 0x100_0000)
+
+abbrev pattern : ℕ → ℕ → ℕ
+pattern n d = (126 + d) * 0x80_0000 + (significand n d - 0x80_0000)
+
+-- the f32 n, or 0 where n is 0 or not below 2^14
+abbrev known : ℕ → Bool
+known n = normal n (digits 14 n)
+
+abbrev number : ℕ → Float
+number n = ofBits binary32 (cond (known n) (pattern n (digits 14 n)) 0)
+
+parts : (x t : ℕ) → x < 255 → t < 0x80_0000 → (leb 0x8000_0000 (x * 0x80_0000 + t) ≡ false) × ((x * 0x80_0000 + t) % 0x8000_0000 / 0x80_0000 ≡ x) × ((x * 0x80_0000 + t) % 0x80_0000 ≡ t)
+parts x t h k = (lt-leb 0x8000_0000 (x * 0x80_0000 + t) (omega arith), omega arith, omega arith)
+
+has-value : (n d : ℕ) → T (normal n d) → HasValue (ofBits binary32 (pattern n d)) false (n * 2 ^ 149) (2 ^ 149)
+has-value n d t =
+    let r = and-three (ltb d 24) (leb 0x80_0000 (significand n d)) (ltb (significand n d) 0x100_0000) t in
+    let few = ltb→lt d 24 (r .0) in
+    let least = leb→le 0x80_0000 (significand n d) (r .1) in
+    let most = ltb→lt (significand n d) 0x100_0000 (r .2) in
+    let p = parts (126 + d) (significand n d - 0x80_0000) (omega arith) (omega arith) in
+    let x : 126 + d ≡ suc (125 + d) = omega arith in
+    let e : 24 - d + (125 + d) ≡ 149 = omega arith in
+    let s : 0x80_0000 + (significand n d - 0x80_0000) ≡ significand n d = omega arith in
+    let v : (0x80_0000 + (significand n d - 0x80_0000)) * 2 ^ (125 + d) ≡ n * 2 ^ 149 = rw s (mul-assoc n _ _ ∙ rw (← pow-add, e)) in
+    rw (ofBits-is binary32, p .0, p .1, p .2, x, ← v) (fields-normal binary32 false (125 + d) (significand n d - 0x80_0000) (omega arith))
+
+-- `omega` takes no number of more than 38 digits, so the powers are variables here
+scaled : (e n : ℕ) → e * (limit + 256 * n) ≡ n * (e * 256) + e * limit
+scaled e n = rw (mul-add, ← mul-assoc e 256 n, mul-comm (e * 256) n) (add-comm _ _)
+
+whole-in : (x : Float) (n : ℕ) → HasValue x false (n * 2 ^ 149) (2 ^ 149) → In x (at n) (at n)
+unfolding posPart negPart eps
+whole-in x n h =
+    let v = value-is x false (n * 2 ^ 149) h in
+    let e = scaled (2 ^ 141) n in
+    record { whole = v .0; lo = rw (v .1, v .2, add-zero) (le-of-eq e); hi = rw (v .1, v .2, zero-add) (le-of-eq (sym e)) }
+
+pub lit : (n : ℕ) → In (number n) (at (cond (known n) n 0)) (at (cond (known n) n 0))
+lit n = go n (digits 14 n) (known n) (has-value n (digits 14 n))
+  where
+    go : (n d : ℕ) (b : Bool) → (T b → HasValue (ofBits binary32 (pattern n d)) false (n * 2 ^ 149) (2 ^ 149)) → In (ofBits binary32 (cond b (pattern n d) 0)) (at (cond b n 0)) (at (cond b n 0))
+    go n d true h = whole-in _ n (h tt)
+    go n d false h = unfold ofBits magnitude posPart negPart eps in (literal refl tt tt)
+
+-- ---- other literals
 pub i0·01 : In k0·01 (limit + 2) (limit + 3)
 i0·01 = unfold ofBits magnitude posPart negPart eps in (literal refl tt tt)
 
@@ -22,170 +86,8 @@ i0·25 = unfold ofBits magnitude posPart negPart eps in (literal refl tt tt)
 pub i0·5 : In k0·5 (limit + 128) (limit + 128)
 i0·5 = unfold ofBits magnitude posPart negPart eps in (literal refl tt tt)
 
-pub i1 : In k1 (at 1) (at 1)
-i1 = unfold ofBits magnitude posPart negPart eps in (literal refl tt tt)
-
 pub i1·4 : In k1·4 (limit + 358) (limit + 359)
 i1·4 = unfold ofBits magnitude posPart negPart eps in (literal refl tt tt)
-
-pub i2 : In k2 (at 2) (at 2)
-i2 = unfold ofBits magnitude posPart negPart eps in (literal refl tt tt)
-
-pub i3 : In k3 (at 3) (at 3)
-i3 = unfold ofBits magnitude posPart negPart eps in (literal refl tt tt)
-
-pub i4 : In k4 (at 4) (at 4)
-i4 = unfold ofBits magnitude posPart negPart eps in (literal refl tt tt)
-
-pub i6 : In k6 (at 6) (at 6)
-i6 = unfold ofBits magnitude posPart negPart eps in (literal refl tt tt)
-
-pub i8 : In k8 (at 8) (at 8)
-i8 = unfold ofBits magnitude posPart negPart eps in (literal refl tt tt)
-
-pub i12 : In k12 (at 12) (at 12)
-i12 = unfold ofBits magnitude posPart negPart eps in (literal refl tt tt)
-
-pub i14 : In k14 (at 14) (at 14)
-i14 = unfold ofBits magnitude posPart negPart eps in (literal refl tt tt)
-
-pub i16 : In k16 (at 16) (at 16)
-i16 = unfold ofBits magnitude posPart negPart eps in (literal refl tt tt)
-
-pub i18 : In k18 (at 18) (at 18)
-i18 = unfold ofBits magnitude posPart negPart eps in (literal refl tt tt)
-
-pub i20 : In k20 (at 20) (at 20)
-i20 = unfold ofBits magnitude posPart negPart eps in (literal refl tt tt)
-
-pub i24 : In k24 (at 24) (at 24)
-i24 = unfold ofBits magnitude posPart negPart eps in (literal refl tt tt)
-
-pub i28 : In k28 (at 28) (at 28)
-i28 = unfold ofBits magnitude posPart negPart eps in (literal refl tt tt)
-
-pub i32 : In k32 (at 32) (at 32)
-i32 = unfold ofBits magnitude posPart negPart eps in (literal refl tt tt)
-
-pub i40 : In k40 (at 40) (at 40)
-i40 = unfold ofBits magnitude posPart negPart eps in (literal refl tt tt)
-
-pub i44 : In k44 (at 44) (at 44)
-i44 = unfold ofBits magnitude posPart negPart eps in (literal refl tt tt)
-
-pub i48 : In k48 (at 48) (at 48)
-i48 = unfold ofBits magnitude posPart negPart eps in (literal refl tt tt)
-
-pub i50 : In k50 (at 50) (at 50)
-i50 = unfold ofBits magnitude posPart negPart eps in (literal refl tt tt)
-
-pub i52 : In k52 (at 52) (at 52)
-i52 = unfold ofBits magnitude posPart negPart eps in (literal refl tt tt)
-
-pub i56 : In k56 (at 56) (at 56)
-i56 = unfold ofBits magnitude posPart negPart eps in (literal refl tt tt)
-
-pub i64 : In k64 (at 64) (at 64)
-i64 = unfold ofBits magnitude posPart negPart eps in (literal refl tt tt)
-
-pub i68 : In k68 (at 68) (at 68)
-i68 = unfold ofBits magnitude posPart negPart eps in (literal refl tt tt)
-
-pub i70 : In k70 (at 70) (at 70)
-i70 = unfold ofBits magnitude posPart negPart eps in (literal refl tt tt)
-
-pub i72 : In k72 (at 72) (at 72)
-i72 = unfold ofBits magnitude posPart negPart eps in (literal refl tt tt)
-
-pub i76 : In k76 (at 76) (at 76)
-i76 = unfold ofBits magnitude posPart negPart eps in (literal refl tt tt)
-
-pub i80 : In k80 (at 80) (at 80)
-i80 = unfold ofBits magnitude posPart negPart eps in (literal refl tt tt)
-
-pub i84 : In k84 (at 84) (at 84)
-i84 = unfold ofBits magnitude posPart negPart eps in (literal refl tt tt)
-
-pub i88 : In k88 (at 88) (at 88)
-i88 = unfold ofBits magnitude posPart negPart eps in (literal refl tt tt)
-
-pub i96 : In k96 (at 96) (at 96)
-i96 = unfold ofBits magnitude posPart negPart eps in (literal refl tt tt)
-
-pub i100 : In k100 (at 100) (at 100)
-i100 = unfold ofBits magnitude posPart negPart eps in (literal refl tt tt)
-
-pub i104 : In k104 (at 104) (at 104)
-i104 = unfold ofBits magnitude posPart negPart eps in (literal refl tt tt)
-
-pub i112 : In k112 (at 112) (at 112)
-i112 = unfold ofBits magnitude posPart negPart eps in (literal refl tt tt)
-
-pub i120 : In k120 (at 120) (at 120)
-i120 = unfold ofBits magnitude posPart negPart eps in (literal refl tt tt)
-
-pub i122 : In k122 (at 122) (at 122)
-i122 = unfold ofBits magnitude posPart negPart eps in (literal refl tt tt)
-
-pub i128 : In k128 (at 128) (at 128)
-i128 = unfold ofBits magnitude posPart negPart eps in (literal refl tt tt)
-
-pub i136 : In k136 (at 136) (at 136)
-i136 = unfold ofBits magnitude posPart negPart eps in (literal refl tt tt)
-
-pub i140 : In k140 (at 140) (at 140)
-i140 = unfold ofBits magnitude posPart negPart eps in (literal refl tt tt)
-
-pub i156 : In k156 (at 156) (at 156)
-i156 = unfold ofBits magnitude posPart negPart eps in (literal refl tt tt)
-
-pub i160 : In k160 (at 160) (at 160)
-i160 = unfold ofBits magnitude posPart negPart eps in (literal refl tt tt)
-
-pub i164 : In k164 (at 164) (at 164)
-i164 = unfold ofBits magnitude posPart negPart eps in (literal refl tt tt)
-
-pub i168 : In k168 (at 168) (at 168)
-i168 = unfold ofBits magnitude posPart negPart eps in (literal refl tt tt)
-
-pub i176 : In k176 (at 176) (at 176)
-i176 = unfold ofBits magnitude posPart negPart eps in (literal refl tt tt)
-
-pub i184 : In k184 (at 184) (at 184)
-i184 = unfold ofBits magnitude posPart negPart eps in (literal refl tt tt)
-
-pub i196 : In k196 (at 196) (at 196)
-i196 = unfold ofBits magnitude posPart negPart eps in (literal refl tt tt)
-
-pub i200 : In k200 (at 200) (at 200)
-i200 = unfold ofBits magnitude posPart negPart eps in (literal refl tt tt)
-
-pub i204 : In k204 (at 204) (at 204)
-i204 = unfold ofBits magnitude posPart negPart eps in (literal refl tt tt)
-
-pub i224 : In k224 (at 224) (at 224)
-i224 = unfold ofBits magnitude posPart negPart eps in (literal refl tt tt)
-
-pub i240 : In k240 (at 240) (at 240)
-i240 = unfold ofBits magnitude posPart negPart eps in (literal refl tt tt)
-
-pub i272 : In k272 (at 272) (at 272)
-i272 = unfold ofBits magnitude posPart negPart eps in (literal refl tt tt)
-
-pub i288 : In k288 (at 288) (at 288)
-i288 = unfold ofBits magnitude posPart negPart eps in (literal refl tt tt)
-
-pub i336 : In k336 (at 336) (at 336)
-i336 = unfold ofBits magnitude posPart negPart eps in (literal refl tt tt)
-
-pub i360 : In k360 (at 360) (at 360)
-i360 = unfold ofBits magnitude posPart negPart eps in (literal refl tt tt)
-
-pub i480 : In k480 (at 480) (at 480)
-i480 = unfold ofBits magnitude posPart negPart eps in (literal refl tt tt)
-
-pub i8192 : In k8192 (at 8192) (at 8192)
-i8192 = unfold ofBits magnitude posPart negPart eps in (literal refl tt tt)
 
 -- ---- constants
 pub i4√2 : In (k4 ⊗ √2) (limit + 1448) (limit + 1449)

@@ -17,7 +17,7 @@ use Rattle.numerics.specs.Range.{In, at, minus}
 use Rattle.numerics.specs.Each.{_&_}
 use Rattle.numerics.specs.Bounds.{add-most}
 use Rattle.numerics.specs.Ranges.{in-more, add-in, sub-in, times-in, div-in, min-in, max-in, clamp-in, clamp-whole-in, cond-in, neg-in, not-below, range-most, element-in}
-use Rattle.numerics.specs.Literals.{i0, i4, i6, i8, i12, i14, i24, i44, i50, i64, i68, i70, i76, i96, i112, i120, i128, i136, i164, i240, i4√2, f1√2, f2, f3, f4}
+use Rattle.numerics.specs.Literals.{lit, i4√2, f1√2, f2, f3, f4}
 use Rattle.search.specs.Bounded.{Bounded, BoundedGame}
 use Rattle.search.proofs.Changes.{shrunk-bounded, arranged-bounded, dpad-in, sticks-in}
 use Rattle.arranged.specs.declared.Places.{Places}
@@ -67,25 +67,25 @@ module _ {x y well shoulders system : Float} {left right : Rect} (fx : Coarse x)
   step = in-more (at 16) (at 64) (div-in (sub-in face cap tt) f2 tt) tt tt
 
   pair : In (clampOf ((left .w ⊖ k12 ⊖ gap) ⊘ k2) key k64) (at 44) (at 64)
-  pair = clamp-in (div-in (sub-in (sub-in (L .w) i12 tt) i8 tt) f2 tt) i44 i64
+  pair = clamp-in (div-in (sub-in (sub-in (L .w) (lit 12) tt) (lit 8) tt) f2 tt) (lit 44) (lit 64)
 
   edge : {r : Rect} → ColumnIn r → In (r .x ⊕ (r .w ⊖ k2 ⊗ clampOf ((left .w ⊖ k12 ⊖ gap) ⊘ k2) key k64 ⊖ gap) ⊘ k2) (minus 16384) (at 16384)
-  edge C = in-more (minus 16384) (at 16384) (add-in (C .x) (div-in (sub-in (sub-in (C .w) (times-in f2 pair tt) tt) i8 tt) f2 tt) tt) tt tt
+  edge C = in-more (minus 16384) (at 16384) (add-in (C .x) (div-in (sub-in (sub-in (C .w) (times-in f2 pair tt) tt) (lit 8) tt) f2 tt) tt) tt tt
 
   auxiliary-in : PlacesIn (auxiliaryOf (diamondOf (newOf x y well well)) left right shoulders system)
   unfolding auxiliaryOf diamondOf atOf
-  auxiliary-in Tri = element-in (add-in (add-in fx step tt) i0 tt) (add-in (add-in fy step tt) (neg-in step tt) tt) cap cap tt
-  auxiliary-in O = element-in (add-in (add-in fx step tt) step tt) (add-in (add-in fy step tt) i0 tt) cap cap tt
-  auxiliary-in X = element-in (add-in (add-in fx step tt) i0 tt) (add-in (add-in fy step tt) step tt) cap cap tt
-  auxiliary-in Sq = element-in (add-in (add-in fx step tt) (neg-in step tt) tt) (add-in (add-in fy step tt) i0 tt) cap cap tt
-  auxiliary-in L1 = element-in (edge L) upper pair i44 tt
-  auxiliary-in L2 = element-in (add-in (add-in (edge L) pair tt) i8 tt) upper pair i44 tt
-  auxiliary-in R2 = element-in (edge R) upper pair i44 tt
-  auxiliary-in R1 = element-in (add-in (add-in (edge R) pair tt) i8 tt) upper pair i44 tt
-  auxiliary-in Select = element-in (add-in (L .x) i6 tt) lower i64 i44 tt
-  auxiliary-in Start = element-in (sub-in (add-in (R .x) (R .w) tt) i70 tt) lower i64 i44 tt
-  auxiliary-in L3 = element-in (sub-in (add-in (L .x) (L .w) tt) i50 tt) lower i44 i44 tt
-  auxiliary-in R3 = element-in (add-in (R .x) i6 tt) lower i44 i44 tt
+  auxiliary-in Tri = element-in (add-in (add-in fx step tt) (lit 0) tt) (add-in (add-in fy step tt) (neg-in step tt) tt) cap cap tt
+  auxiliary-in O = element-in (add-in (add-in fx step tt) step tt) (add-in (add-in fy step tt) (lit 0) tt) cap cap tt
+  auxiliary-in X = element-in (add-in (add-in fx step tt) (lit 0) tt) (add-in (add-in fy step tt) step tt) cap cap tt
+  auxiliary-in Sq = element-in (add-in (add-in fx step tt) (neg-in step tt) tt) (add-in (add-in fy step tt) (lit 0) tt) cap cap tt
+  auxiliary-in L1 = element-in (edge L) upper pair (lit 44) tt
+  auxiliary-in L2 = element-in (add-in (add-in (edge L) pair tt) (lit 8) tt) upper pair (lit 44) tt
+  auxiliary-in R2 = element-in (edge R) upper pair (lit 44) tt
+  auxiliary-in R1 = element-in (add-in (add-in (edge R) pair tt) (lit 8) tt) upper pair (lit 44) tt
+  auxiliary-in Select = element-in (add-in (L .x) (lit 6) tt) lower (lit 64) (lit 44) tt
+  auxiliary-in Start = element-in (sub-in (add-in (R .x) (R .w) tt) (lit 70) tt) lower (lit 64) (lit 44) tt
+  auxiliary-in L3 = element-in (sub-in (add-in (L .x) (L .w) tt) (lit 50) tt) lower (lit 44) (lit 44) tt
+  auxiliary-in R3 = element-in (add-in (R .x) (lit 6) tt) lower (lit 44) (lit 44) tt
 
 with-x-in : {r : Rect} {x : Float} → Element r → Coarse x → Element (withX r x)
 with-x-in E x = record { x = range-most maxCorner x tt; y = E .y; w = E .w; h = E .h }
@@ -100,10 +100,10 @@ center-in p P center L1 = P L1
 center-in p P center L2 = P L2
 center-in p P center R2 = P R2
 center-in p P center R1 = P R1
-center-in p P center Select = with-x-in (P Select) (coarse (sub-in center i68 tt) tt tt)
-center-in p P center Start = with-x-in (P Start) (coarse (add-in center i4 tt) tt tt)
-center-in p P center L3 = with-x-in (P L3) (coarse (sub-in center i120 tt) tt tt)
-center-in p P center R3 = with-x-in (P R3) (coarse (add-in center i76 tt) tt tt)
+center-in p P center Select = with-x-in (P Select) (coarse (sub-in center (lit 68) tt) tt tt)
+center-in p P center Start = with-x-in (P Start) (coarse (add-in center (lit 4) tt) tt tt)
+center-in p P center L3 = with-x-in (P L3) (coarse (sub-in center (lit 120) tt) tt tt)
+center-in p P center R3 = with-x-in (P R3) (coarse (add-in center (lit 76) tt) tt tt)
 
 -- ---- a layout with its controls there
 arrange-in : {l : Layout} {dpad first second : Rect} (places : Places) → Bounded l → Element dpad → PlacesIn places → Element first → Element second → Bounded (arrangeOf l dpad places first second)
@@ -121,23 +121,23 @@ module _ {left right : Rect} (L : ColumnIn left) (R : ColumnIn right) where
   width-in = min-in (L .w) (R .w)
 
   bottom-in : In (minOf (left .y ⊕ left .h) (right .y ⊕ right .h) ⊖ k14) (minus 16640) (at 16640)
-  bottom-in = in-more (minus 16640) (at 16640) (sub-in (min-in (add-in (L .y) (L .h) tt) (add-in (R .y) (R .h) tt)) i14 tt) tt tt
+  bottom-in = in-more (minus 16640) (at 16640) (sub-in (min-in (add-in (L .y) (L .h) tt) (add-in (R .y) (R .h) tt)) (lit 14) tt) tt tt
 
   -- the height between the two rows of keys
   height-in : In (minOf (left .y ⊕ left .h) (right .y ⊕ right .h) ⊖ k14 ⊖ maxOf (maxOf (left .y) (right .y)) k24 ⊖ k2 ⊗ key) (minus 25600) (at 25600)
-  height-in = in-more (minus 25600) (at 25600) (sub-in (sub-in bottom-in (max-in (max-in (L .y) (R .y)) i24) tt) (times-in f2 i44 tt) tt) tt tt
+  height-in = in-more (minus 25600) (at 25600) (sub-in (sub-in bottom-in (max-in (max-in (L .y) (R .y)) (lit 24)) tt) (times-in f2 (lit 44) tt) tt) tt tt
 
   stick-in : (analog : Bool) → T (not (analog && lt (measureStackOf left right analog .stick) k96)) → In (measureStackOf left right analog .stick) (at 0) (at 128)
   unfolding measureStackOf
-  stick-in true t = in-more (at 0) (at 128) (not-below (min-in (clamp-in (sub-in width-in i12 tt) i96 i128) (sub-in (sub-in height-in (times-in f3 i8 tt) tt) i112 tt)) i96 t) tt tt
-  stick-in false t = in-more (at 0) (at 128) i0 tt tt
+  stick-in true t = in-more (at 0) (at 128) (not-below (min-in (clamp-in (sub-in width-in (lit 12) tt) (lit 96) (lit 128)) (sub-in (sub-in height-in (times-in f3 (lit 8) tt) tt) (lit 112) tt)) (lit 96) t) tt tt
+  stick-in false t = in-more (at 0) (at 128) (lit 0) tt tt
 
   stack-in : (analog : Bool) → T (not (analog && lt (measureStackOf left right analog .stick) k96)) → T (not (lt (measureStackOf left right analog .well) minWell)) → StackIn (measureStackOf left right analog)
   unfolding measureStackOf
   stack-in analog s t =
       let stick = stick-in analog s in
-      let well = min-in (min-in (sub-in width-in i12 tt) i164) (sub-in (sub-in height-in (times-in f2 i8 tt) tt) (cond-in analog (add-in stick i8 tt) i0) tt) in
-      record { bottom = bottom-in; stick = stick; well = in-more (at 112) (at 164) (not-below well i112 t) tt tt }
+      let well = min-in (min-in (sub-in width-in (lit 12) tt) (lit 164)) (sub-in (sub-in height-in (times-in f2 (lit 8) tt) tt) (cond-in analog (add-in stick (lit 8) tt) (lit 0)) tt) in
+      record { bottom = bottom-in; stick = stick; well = in-more (at 112) (at 164) (not-below well (lit 112) t) tt tt }
 
 square-in : {column : Rect} {y size : Float} → ColumnIn column → Coarse y → In size (at 0) (at 164) → Element (squareOf column y size)
 square-in C y size = element-in (add-in (C .x) (div-in (sub-in (C .w) size tt) f2 tt) tt) y size size tt
@@ -147,14 +147,14 @@ unfolding stackedOf
 stacked-in analog B L R S =
     let well = in-more (at 0) (at 164) (S .well) tt tt in
     let stick = in-more (at 0) (at 164) (S .stick) tt tt in
-    let system = sub-in (S .bottom) i44 tt in
-    let primary = sub-in (sub-in system i8 tt) (S .stick) tt in
-    let digital = cond-in analog (sub-in (sub-in primary i8 tt) (S .well) tt) (sub-in (sub-in system i8 tt) (S .well) tt) in
+    let system = sub-in (S .bottom) (lit 44) tt in
+    let primary = sub-in (sub-in system (lit 8) tt) (S .stick) tt in
+    let digital = cond-in analog (sub-in (sub-in primary (lit 8) tt) (S .well) tt) (sub-in (sub-in system (lit 8) tt) (S .well) tt) in
     let low = coarse primary tt tt in
     let middle = coarse digital tt tt in
     let x = coarse (add-in (R .x) (div-in (sub-in (R .w) (S .well) tt) f2 tt) tt) tt tt in
     arrange-in _ B (square-in L middle well)
-    (auxiliary-in x middle (S .well) L R (coarse (sub-in (sub-in digital i8 tt) i44 tt) tt tt) (coarse system tt tt))
+    (auxiliary-in x middle (S .well) L R (coarse (sub-in (sub-in digital (lit 8) tt) (lit 44) tt) tt tt) (coarse system tt tt))
     (square-in L low stick)
     (square-in R low stick)
 
@@ -180,23 +180,23 @@ columns-in false false i = span (div-in i f2 tt) tt tt
 row-in : {w : Float} {band : Rect} (analog psp : Bool) → In w (at 1) (at 8192) → ColumnIn band → T (not (lt (measureRowOf w band analog psp .well) minWell)) → RowIn (measureRowOf w band analog psp)
 unfolding measureRowOf
 row-in analog psp W B t =
-    let required = cond-in (analog && not psp) i240 i136 in
-    let between = cond-in psp i8 (cond-in analog (times-in f2 i8 tt) i0) in
-    let wide = columns-in analog psp (span (sub-in (sub-in (sub-in (sub-in W i24 tt) between tt) (times-in f2 i8 tt) tt) required tt) tt tt) in
-    let high = sub-in (sub-in (sub-in (B .h) i44 tt) (times-in f2 i8 tt) tt) i12 tt in
-    let well = in-more (at 112) (at 164) (not-below (min-in (min-in wide high) i164) i112 t) tt tt in
-    let top = in-more (minus 16384) (at 16384) (add-in (B .y) (div-in (sub-in (sub-in (sub-in (B .h) well tt) i44 tt) i8 tt) f2 tt) tt) tt tt in
-    let digital = in-more (at 12) (at 256) (cond-in analog (add-in (add-in i12 well tt) i8 tt) i12) tt tt in
-    let right = in-more (at 12) (at 256) (cond-in psp i12 digital) tt tt in
+    let required = cond-in (analog && not psp) (lit 240) (lit 136) in
+    let between = cond-in psp (lit 8) (cond-in analog (times-in f2 (lit 8) tt) (lit 0)) in
+    let wide = columns-in analog psp (span (sub-in (sub-in (sub-in (sub-in W (lit 24) tt) between tt) (times-in f2 (lit 8) tt) tt) required tt) tt tt) in
+    let high = sub-in (sub-in (sub-in (B .h) (lit 44) tt) (times-in f2 (lit 8) tt) tt) (lit 12) tt in
+    let well = in-more (at 112) (at 164) (not-below (min-in (min-in wide high) (lit 164)) (lit 112) t) tt tt in
+    let top = in-more (minus 16384) (at 16384) (add-in (B .y) (div-in (sub-in (sub-in (sub-in (B .h) well tt) (lit 44) tt) (lit 8) tt) f2 tt) tt) tt tt in
+    let digital = in-more (at 12) (at 256) (cond-in analog (add-in (add-in (lit 12) well tt) (lit 8) tt) (lit 12)) tt tt in
+    let right = in-more (at 12) (at 256) (cond-in psp (lit 12) digital) tt tt in
     record {
       well = well;
       top = top;
-      y = in-more (minus 16384) (at 16640) (add-in (add-in top i44 tt) i8 tt) tt tt;
+      y = in-more (minus 16384) (at 16640) (add-in (add-in top (lit 44) tt) (lit 8) tt) tt tt;
       digital = digital;
       rightdigital = right;
-      span = in-more (at 112) (at 384) (cond-in analog (add-in (times-in f2 well tt) i8 tt) well) tt tt;
-      middleleft = in-more (at 0) (at 512) (add-in (add-in digital well tt) i8 tt) tt tt;
-      middleright = span (sub-in (sub-in (sub-in W right tt) well tt) i8 tt) tt tt;
+      span = in-more (at 112) (at 384) (cond-in analog (add-in (times-in f2 well tt) (lit 8) tt) well) tt tt;
+      middleleft = in-more (at 0) (at 512) (add-in (add-in digital well tt) (lit 8) tt) tt tt;
+      middleright = span (sub-in (sub-in (sub-in W right tt) well tt) (lit 8) tt) tt tt;
     }
 
 rowed-in : {base : Layout} {w : Float} {row : Row} → Bounded base → In w (at 1) (at 8192) → RowIn row → Bounded (rowedOf base w row)
@@ -204,28 +204,28 @@ unfolding rowedOf rowPlacesOf
 rowed-in B W R =
     let well = R .well in
     let y = coarse (R .y) tt tt in
-    let zero = span i0 tt tt in
-    let inner = sub-in W i12 tt in
+    let zero = span (lit 0) tt tt in
+    let inner = sub-in W (lit 12) tt in
     let x = coarse (sub-in (sub-in W (R .rightdigital) tt) well tt) tt tt in
     let wide = span (R .span) tt tt in
-    let left = column-in (span i12 tt tt) zero wide zero in
+    let left = column-in (span (lit 12) tt tt) zero wide zero in
     let right = column-in (span (sub-in inner (R .span) tt) tt tt) zero wide zero in
-    let keys = auxiliary-in x y well left right (coarse (R .top) tt tt) (coarse (sub-in (add-in (R .y) well tt) i44 tt) tt tt) in
+    let keys = auxiliary-in x y well left right (coarse (R .top) tt tt) (coarse (sub-in (add-in (R .y) well tt) (lit 44) tt) tt tt) in
     let center = span (div-in (add-in (R .middleleft) (R .middleright) tt) f2 tt) tt tt in
-    arrange-in _ B (element-in (R .digital) y well well tt) (center-in _ keys center) (element-in i12 y well well tt) (element-in (sub-in inner well tt) y well well tt)
+    arrange-in _ B (element-in (R .digital) y well well tt) (center-in _ keys center) (element-in (lit 12) y well well tt) (element-in (sub-in inner well tt) y well well tt)
 
 horizontal-in : {base : Layout} {w : Float} {band : Rect} (analog psp : Bool) → Bounded base → In w (at 1) (at 8192) → ColumnIn band → Given Bounded (horizontalOf base w band analog psp)
 horizontal-in {base} {w} {band} analog psp B W C = horizontal-case Bounded base w band analog psp (λ t. rowed-in B W (row-in analog psp W C t))
 
 -- ---- `controls`
 clamped-in : {x e : Float} {n : ℕ} → AtMost x n → In e (at 1) (at 8192) → In (clampOf x k0 e) (at 0) (at 8192)
-clamped-in {x} f i = clamp-whole-in x (f .whole) i0 i
+clamped-in {x} f i = clamp-whole-in x (f .whole) (lit 0) i
 
 module _ {w h : Float} (W : In w (at 1) (at 8192)) (H : In h (at 1) (at 8192)) where
   fitted-in : {base : Layout} {game : Rect} (analog psp : Bool) (holes : List Rect) → Bounded base → BoundedGame game → Given Bounded (fittedOf base w h game analog psp holes)
   unfolding fittedOf
   fitted-in {game = game} analog psp holes B G =
-      let zero = span i0 tt tt in
+      let zero = span (lit 0) tt tt in
       let high = span H tt tt in
       let half = span (div-in W f2 tt) tt tt in
       let bottom = clamped-in (add-most (G .y) (G .h) tt) H in

@@ -13,7 +13,7 @@ use Rattle.numerics.specs.Rects.{Element, Area, OnScreen, Key, margin}
 use Rattle.numerics.specs.Range.{In, at, minus}
 use Rattle.numerics.specs.Each.{Each}
 use Rattle.numerics.specs.Ranges.{max-in, placed-element}
-use Rattle.numerics.specs.Literals.{i1}
+use Rattle.numerics.specs.Literals.{lit}
 use Rattle.numerics.specs.Shrunk.{shrunkMargin}
 use Rattle.search.specs.Bounded.{Every, Bounded, Shrunk, BoundedGame}
 use Rattle.search.specs.Search.{placeGameInAspectOf}
@@ -100,11 +100,11 @@ module _ {w h : Float} (W : In w (at 1) (at 8192)) (H : In h (at 1) (at 8192)) {
 module _ (p : Preset) {w h : Float} (W : In w (at 0) (at 8192)) (H : In h (at 0) (at 8192)) (cutouts : List Rect) (O : Each Element cutouts) {picture : Rect} (A : Area picture) where
   pub layout-bounded : Bounded (layoutInOf p w h cutouts picture)
   unfolding layoutInOf
-  layout-bounded = laid-out-bounded (max-in W i1) (max-in H i1) A p cutouts O
+  layout-bounded = laid-out-bounded (max-in W (lit 1)) (max-in H (lit 1)) A p cutouts O
 
   pub game-bounded : Whole (p .scale) → Whole (p .offset .x) → Whole (p .offset .y) → BoundedGame (layoutInOf p w h cutouts picture .game)
   unfolding layoutInOf
-  game-bounded scale across down = laid-out-game (max-in W i1) (max-in H i1) A p cutouts O scale across down
+  game-bounded scale across down = laid-out-game (max-in W (lit 1)) (max-in H (lit 1)) A p cutouts O scale across down
 
   pub viewport-bounded : {reusable covered : Float} → In reusable (at 0) (at 8192) → In covered (minus 8192) (at 8192) → Bounded (viewportLayoutOf p w h picture reusable covered cutouts)
   unfolding viewportLayoutOf

@@ -18,7 +18,7 @@ use Rattle.numerics.specs.Range.{In, at}
 use Rattle.numerics.specs.Each.{Each}
 use Rattle.numerics.specs.Operations.{whole-finite}
 use Rattle.numerics.specs.Ranges.{sub-in, min-in, element-in, saved-in}
-use Rattle.numerics.specs.Literals.{i0, i24}
+use Rattle.numerics.specs.Literals.{lit}
 use Rattle.search.specs.Bounded.{Bounded}
 use Rattle.search.proofs.Changes.{set-elements-in}
 use Rattle.search.proofs.Layouts.{elements-in}
@@ -38,10 +38,10 @@ module _ {w h : Float} (W : In w (at 1) (at 8192)) (H : In h (at 1) (at 8192)) w
       let f = all-four (isFiniteOf (r .x)) (isFiniteOf (r .y)) (isFiniteOf (r .w)) (isFiniteOf (r .h)) t in
       let across = whole-finite w (W .whole) in
       let down = whole-finite h (H .whole) in
-      let width = saved-in (r .w) w (is-finite (r .w) (f .2)) across (min-in i24 W) W in
-      let height = saved-in (r .h) h (is-finite (r .h) (f .3)) down (min-in i24 H) H in
-      let x = saved-in (r .x) w (is-finite (r .x) (f .0)) across i0 (sub-in W width tt) in
-      let y = saved-in (r .y) h (is-finite (r .y) (f .1)) down i0 (sub-in H height tt) in
+      let width = saved-in (r .w) w (is-finite (r .w) (f .2)) across (min-in (lit 24) W) W in
+      let height = saved-in (r .h) h (is-finite (r .h) (f .3)) down (min-in (lit 24) H) H in
+      let x = saved-in (r .x) w (is-finite (r .x) (f .0)) across (lit 0) (sub-in W width tt) in
+      let y = saved-in (r .y) h (is-finite (r .y) (f .1)) down (lit 0) (sub-in H height tt) in
       element-in x y width height tt
 
   restored-in : (saved es : List Rect) → Each Element es → Each Element (restoredOf w h saved es)

@@ -16,7 +16,7 @@ use Rattle.numerics.specs.Lists.{each-take, each-append, each-map}
 use Rattle.numerics.specs.Bounds.{add-most, most-size, most-more, between-most}
 use Rattle.numerics.specs.Ranges.{range-most, sub-in, clamp-whole-in}
 use Rattle.numerics.specs.Products.{product-most}
-use Rattle.numerics.specs.Literals.{i0, i0·25, i1}
+use Rattle.numerics.specs.Literals.{lit, i0·25}
 use Rattle.search.specs.declared.Offset.{Offset}
 use Rattle.search.specs.Search.{obstaclesOf, gameOf, placeGameInAspectOf}
 use Rattle.search.specs.Widest.{WidestGame}
@@ -61,10 +61,10 @@ pub game-in : {a : Float} {p q : ℕ} → Shape a p q → (es : List Rect) → E
     → BoundedGame (gameOf es b factor offset a)
 game-in {a} S es F {b} B factor fw offset ox oy =
     let g = picture-in B (picture-found B 1 (zero-lt-suc 0) S (obstaclesOf b es) (obstacles-fair B es F) .inside) in
-    let s = clamp-whole-in factor fw i0·25 i1 in
-    let rest = range-most 193 (sub-in i1 s tt) tt in
-    let px = range-most 256 (clamp-whole-in (offset .x) ox i0 i1) tt in
-    let py = range-most 256 (clamp-whole-in (offset .y) oy i0 i1) tt in
+    let s = clamp-whole-in factor fw i0·25 (lit 1) in
+    let rest = range-most 193 (sub-in (lit 1) s tt) tt in
+    let px = range-most 256 (clamp-whole-in (offset .x) ox (lit 0) (lit 1)) tt in
+    let py = range-most 256 (clamp-whole-in (offset .y) oy (lit 0) (lit 1)) tt in
     let size = range-most 256 s tt in
     rw (game-is S es b factor offset)
     (record {

@@ -19,7 +19,7 @@ use Rattle.numerics.specs.Each.{Each}
 use Rattle.numerics.specs.Operations.{zero-times, times-zero}
 use Rattle.numerics.specs.Bounds.{add-law, add-most, sub-law, sub-most, mul-law, mul-most, most-size, lt-not}
 use Rattle.numerics.specs.Ranges.{range-most, clamp-whole-in}
-use Rattle.numerics.specs.Literals.{i0, i1, f1, hundredth-most, hundredth}
+use Rattle.numerics.specs.Literals.{lit, f1, hundredth-most, hundredth}
 use Rattle.search.specs.declared.Offset.{Offset}
 use Rattle.search.specs.Search.{centeredOf, sideOf, clearPictureAspectOf, obstaclesOf, gameOf}
 use Rattle.search.proofs.Shapes.{width, Shape}
@@ -110,7 +110,7 @@ game-is {a} S es b factor offset = by-test (λ g. put g ≡ put (clear a)) (eq a
     put g = placed b g (clampOf factor k0·25 k1) (clampOf (offset .x) k0 k1) (clampOf (offset .y) k0 k1)
 
 offset-in : (x : Float) → Whole x → AtMost (clampOf x k0 k1) 256
-offset-in x p = range-most 256 (clamp-whole-in x p i0 i1) tt
+offset-in x p = range-most 256 (clamp-whole-in x p (lit 0) (lit 1)) tt
 
 -- ---- at scale 1 the game is the picture, but for 2 across and down and 1 in size
 pub record Game (d : ℕ) (b g G : Rect) : Type 0 where

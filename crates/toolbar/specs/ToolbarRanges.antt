@@ -23,7 +23,7 @@ use Rattle.numerics.specs.Lists.{each-take, each-append}
 use Rattle.numerics.specs.Bounds.{lt-law}
 use Rattle.numerics.specs.Ranges.{in-reach, in-more, most-in, add-in, sub-in, sub-back, times-in, mul-in, div-in, min-in, max-in, clamp-in, cond-in, neg-in, raise, moved-in, placed-in}
 use Rattle.numerics.specs.Products.{product-most}
-use Rattle.numerics.specs.Literals.{i0, i0·01, i1, i1·4, i8, i18, i28, i40, f0·01, f0·055, f2, f3, f4}
+use Rattle.numerics.specs.Literals.{lit, i0·01, i1·4, f0·01, f0·055, f2, f3, f4}
 use Rattle.search.specs.Bounded.{Every, Bounded}
 use Rattle.search.proofs.Layouts.{bounds-in}
 use Rattle.toolbar.specs.Toolbar.{candidateOf, roomOf, belowOf, moved, pass, pairOf, avoidedOf, anchorToolbarOf, reusableTop}
@@ -49,7 +49,7 @@ module _ (left : Bool) {w h : Float} (W : In w (at 0) (at 8192)) (H : In h (at 0
       let x = most-in (E .x) tt in
       let s : Float = cond left (c .x ⊕ c .w ⊕ k8) (c .x ⊖ bar .w ⊖ k8) in
       let r = and-three (le k0 s) (le (s ⊕ bar .w) w) (cond left (le (s ⊕ bar .w) (w ⊘ k2)) (le (w ⊘ k2) s)) t in
-      let shifted = in-reach (cond-in left (add-in (add-in x (most-in (E .w) tt) tt) i8 tt) (sub-in (sub-in x (B .w) tt) i8 tt)) in
+      let shifted = in-reach (cond-in left (add-in (add-in x (most-in (E .w) tt) tt) (lit 8) tt) (sub-in (sub-in x (B .w) tt) (lit 8) tt)) in
       record { x = in-more (minus 128) (at 8320) (moved-in shifted (B .w) W tt tt (r .0) (r .1)) tt tt; y = B .y; w = B .w; h = B .h }
 
   -- the bar overlaps c, and so the lower edge of c is no higher than the bar
@@ -60,7 +60,7 @@ module _ (left : Bool) {w h : Float} (W : In w (at 0) (at 8192)) (H : In h (at 0
       let bottom = add-in (most-in (E .y) tt) (most-in (E .h) tt) tt in
       let less = sub-in bottom i0·01 tt in
       let lower = sub-back (minus 8193) bottom i0·01 (raise less (B .y) (lt-law 1 (bar .y) (c .y ⊕ c .h ⊖ k0·01) (B .y .whole) (less .whole) over)) tt tt in
-      record { x = B .x; y = in-more (minus 8193) (at 8193) (min-in (add-in lower i8 tt) (max-in (sub-in H (B .h) tt) i0)) tt tt; w = B .w; h = B .h }
+      record { x = B .x; y = in-more (minus 8193) (at 8193) (min-in (add-in lower (lit 8) tt) (max-in (sub-in H (B .h) tt) (lit 0))) tt tt; w = B .w; h = B .h }
 
   moved-bar : (bar c : Rect) → BarIn bar → Element c → T (overlapsOf bar c) → BarIn (moved left w h obstacles bar c)
   unfolding moved
@@ -98,14 +98,14 @@ pub anchor-in : {C D : Rect → Type 0} (l : Layout) {w h reusable covered : Flo
 unfolding anchorToolbarOf pairOf
 anchor-in l {w} {covered = covered} cutouts W H R C O L =
     let obstacles = avoidedOf l covered cutouts in
-    let padding = min-in i28 (mul-in W f0·055 tt) in
-    let gap = min-in i8 (mul-in W f0·01 tt) in
-    let share = max-in (div-in (sub-in (sub-in W (times-in f2 padding tt) tt) (times-in f3 gap tt) tt) f4 tt) i1 in
-    let size = min-in (min-in (min-in i40 share) H) W in
-    let height = min-in size i18 in
-    let time = most-in (product-most 14360 (in-reach size) (in-reach (cond-in (le k320 w) i1·4 i1)) tt tt) tt in
+    let padding = min-in (lit 28) (mul-in W f0·055 tt) in
+    let gap = min-in (lit 8) (mul-in W f0·01 tt) in
+    let share = max-in (div-in (sub-in (sub-in W (times-in f2 padding tt) tt) (times-in f3 gap tt) tt) f4 tt) (lit 1) in
+    let size = min-in (min-in (min-in (lit 40) share) H) W in
+    let height = min-in size (lit 18) in
+    let time = most-in (product-most 14360 (in-reach size) (in-reach (cond-in (le k320 w) i1·4 (lit 1))) tt tt) tt in
     let up = neg-in R tt in
-    let top = in-more (minus 8193) (at 8193) (clamp-in (add-in up C tt) up (max-in (sub-in H height tt) i0)) tt tt in
+    let top = in-more (minus 8193) (at 8193) (clamp-in (add-in up C tt) up (max-in (sub-in H height tt) (lit 0))) tt tt in
     let right = sub-in (sub-in (sub-in (sub-in W padding tt) size tt) size tt) gap tt in
     let a = pass-in true W H obstacles O (length obstacles + 1) _ (record { x = in-more (minus 128) (at 8320) padding tt tt; y = top; w = in-more (minus 64) (at 128) (add-in (add-in size gap tt) time tt) tt tt; h = height }) in
     let b = pass-in false W H obstacles O (length obstacles + 1) _ (record { x = in-more (minus 128) (at 8320) right tt tt; y = top; w = in-more (minus 64) (at 128) (add-in (times-in f2 size tt) gap tt) tt tt; h = height }) in
@@ -122,7 +122,7 @@ anchor-in l {w} {covered = covered} cutouts W H R C O L =
 -- where no decoration shows
 pub anchored-in : {C D : Rect → Type 0} (l : Layout) {w h reusable : Float} (cutouts : List Rect) → In w (at 0) (at 8192) → In h (at 0) (at 8192) → In reusable (at 0) (at 8192) → Each Element cutouts
     → Every C D l → Every C (Key margin) (anchorToolbarOf l w h reusable k0 cutouts)
-anchored-in l cutouts W H R O L = anchor-in l cutouts W H R (in-more (minus 8192) (at 8192) i0 tt tt) (rw uncovered O) L
+anchored-in l cutouts W H R O L = anchor-in l cutouts W H R (in-more (minus 8192) (at 8192) (lit 0) tt tt) (rw uncovered O) L
 
 pub reusable-in : {picture : Rect} → Area picture → In (reusableTop picture) (at 0) (at 8192)
-reusable-in A = max-in (neg-in (most-in (A .y) tt) tt) i0
+reusable-in A = max-in (neg-in (most-in (A .y) tt) tt) (lit 0)
