@@ -4,11 +4,8 @@ use Rattle.arranged.specs.Arranged.{dockedOf}
 use Rattle.arranged.proofs.docked.Statement.{statement}
 use Rattle.arranged.proofs.docked.Tie as tie
 
-returns : tie.Need-returns
-unfolding dockedOf
-returns c = (rw (← c .before .before .before .before .before .before .before .before .size-wells .ensures, ← c .before .before .before .before .before .before .before .max .ensures, ← c .before .before .before .before .before .before .min .ensures, ← c .before .before .before .before .before .place-dock .ensures, ← c .before .before .new .ensures, ← c .before .dock-places .ensures) (rw (← c .controller .ensures .0)), omega arith, omega arith)
-
 pub docked-spec : {M : Type 1} → statement M
+unfolding dockedOf
 docked-spec =
     tie.close
     (tie.spec
@@ -19,4 +16,4 @@ docked-spec =
     (λ c κs. search needs)
     (λ c κs. search needs)
     (λ c κs. search needs)
-    returns)
+    (λ c. (rw (← c .before .before .before .before .before .before .before .before .size-wells .ensures, ← c .before .before .before .before .before .before .before .max .ensures, ← c .before .before .before .before .before .before .min .ensures, ← c .before .before .before .before .before .place-dock .ensures, ← c .before .before .new .ensures, ← c .before .dock-places .ensures) (rw (← c .controller .ensures .0)), omega arith, omega arith)))

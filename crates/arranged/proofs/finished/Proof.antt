@@ -6,9 +6,11 @@ use Rattle.arranged.specs.Arranged.{finishedOf}
 use Rattle.arranged.proofs.finished.Statement.{statement}
 use Rattle.arranged.proofs.finished.Tie as tie
 
-returns : tie.Need-returns
-unfolding finishedOf placeGameInAspectOf anchorToolbarOf
-returns c = let e = rw (c .before .anchored .ensures .0) at (c .place-game .ensures) in (e, rw e refl, rw e refl)
-
 pub finished-spec : {M : Type 1} → statement M
-finished-spec = tie.close (tie.spec (λ c κs. search needs) (λ c κs. search needs) returns)
+unfolding finishedOf placeGameInAspectOf anchorToolbarOf
+finished-spec =
+    tie.close
+    (tie.spec
+    (λ c κs. search needs)
+    (λ c κs. search needs)
+    (λ c. let e = rw (c .before .anchored .ensures .0) at (c .place-game .ensures) in (e, rw e refl, rw e refl)))

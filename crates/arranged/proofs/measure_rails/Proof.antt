@@ -3,9 +3,11 @@ use Rattle.arranged.specs.Arranged.{measureRailsOf}
 use Rattle.arranged.proofs.measure_rails.Statement.{statement}
 use Rattle.arranged.proofs.measure_rails.Tie as tie
 
-returns : tie.Need-returns
-unfolding measureRailsOf
-returns c = rw (← c .before .cap .ensures, ← c .min .ensures)
-
 pub measure-rails-spec : {M : Type 1} → statement M
-measure-rails-spec = tie.close (tie.spec (λ c κs. search needs) (λ c κs. search needs) returns)
+unfolding measureRailsOf
+measure-rails-spec =
+    tie.close
+    (tie.spec
+    (λ c κs. search needs)
+    (λ c κs. search needs)
+    (λ c. rw (← c .before .cap .ensures, ← c .min .ensures)))

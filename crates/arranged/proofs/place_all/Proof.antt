@@ -16,9 +16,6 @@ Inv-loop count places out₀ i₀ out i = (i ≤ count) × (length out ≡ 12) �
 abbrev μ-loop : tie.MeasureT-loop
 μ-loop count places out₀ i₀ out i = count - i
 
-loop-holds : tie.Need-loop-holds Inv-loop μ-loop
-loop-holds c = (omega arith, search sized, mapFirst-zero (moved (c .args .places)) (c .args .controls))
-
 loop-again : tie.Need-loop-again Inv-loop μ-loop
 loop-again c =
     let l = c .before .before .before in
@@ -36,7 +33,7 @@ place-all-spec =
     (tie.spec
     Inv-loop
     μ-loop
-    loop-holds
+    (λ c. (omega arith, search sized, mapFirst-zero (moved (c .args .places)) (c .args .controls)))
     (λ c. omega arith)
     (λ c. omega arith)
     (λ c κs. search needs)

@@ -3,11 +3,8 @@ use Rattle.arranged.specs.Places.{placeFacesOf}
 use Rattle.arranged.proofs.place_faces.Statement.{statement}
 use Rattle.arranged.proofs.place_faces.Tie as tie
 
-returns : tie.Need-returns
-unfolding placeFacesOf
-returns c = rw (← c .before .before .before .new .ensures, ← c .before .before .new2 .ensures, ← c .before .new3 .ensures, ← c .new4 .ensures)
-
 pub place-faces-spec : {M : Type 1} → statement M
+unfolding placeFacesOf
 place-faces-spec =
     tie.close
     (tie.spec
@@ -15,4 +12,4 @@ place-faces-spec =
     (λ c κs. search needs)
     (λ c κs. search needs)
     (λ c κs. search needs)
-    returns)
+    (λ c. rw (← c .before .before .before .new .ensures, ← c .before .before .new2 .ensures, ← c .before .new3 .ensures, ← c .new4 .ensures)))

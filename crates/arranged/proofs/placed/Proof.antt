@@ -4,9 +4,6 @@ use Rattle.arranged.specs.Places.{placedOf}
 use Rattle.arranged.proofs.placed.Statement.{statement}
 use Rattle.arranged.proofs.placed.Tie as tie
 
-returns : tie.Need-returns
-unfolding placedOf
-returns c = (rw (← c .place-all .ensures), refl, refl)
-
 pub placed-spec : {M : Type 1} → statement M
-placed-spec = tie.close (tie.spec (λ c κs. search needs) returns)
+unfolding placedOf
+placed-spec = tie.close (tie.spec (λ c κs. search needs) (λ c. (rw (← c .place-all .ensures), refl, refl)))

@@ -4,11 +4,8 @@ use Rattle.arranged.specs.Controls.{railControlsOf}
 use Rattle.arranged.proofs.rail_controls.Statement.{statement}
 use Rattle.arranged.proofs.rail_controls.Tie as tie
 
-returns : tie.Need-returns
-unfolding railControlsOf
-returns c = (rw (← c .before .before .before .measure-rails .ensures, ← c .before .before .new .ensures, ← c .before .rail-places .ensures, ← c .controller .ensures .0), omega arith, omega arith)
-
 pub rail-controls-spec : {M : Type 1} → statement M
+unfolding railControlsOf
 rail-controls-spec =
     tie.close
     (tie.spec
@@ -16,4 +13,4 @@ rail-controls-spec =
     (λ c κs. search needs)
     (λ c κs. search needs)
     (λ c κs. search needs)
-    returns)
+    (λ c. (rw (← c .before .before .before .measure-rails .ensures, ← c .before .before .new .ensures, ← c .before .rail-places .ensures, ← c .controller .ensures .0), omega arith, omega arith)))

@@ -3,15 +3,12 @@ use Rattle.arranged.specs.Arranged.{requestedOf}
 use Rattle.arranged.proofs.requested.Statement.{statement}
 use Rattle.arranged.proofs.requested.Tie as tie
 
-returns : tie.Need-returns
-unfolding requestedOf
-returns c = rw (← c .before .before .max .ensures, ← c .before .clamp .ensures, ← c .min .ensures)
-
 pub requested-spec : {M : Type 1} → statement M
+unfolding requestedOf
 requested-spec =
     tie.close
     (tie.spec
     (λ c κs. search needs)
     (λ c κs. search needs)
     (λ c κs. search needs)
-    returns)
+    (λ c. rw (← c .before .before .max .ensures, ← c .before .clamp .ensures, ← c .min .ensures)))

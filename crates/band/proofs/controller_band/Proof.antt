@@ -6,10 +6,6 @@ use Rattle.band.proofs.Counts.{Counted, anchor-counts, game-counts}
 use Rattle.band.proofs.controller_band.Statement.{statement}
 use Rattle.band.proofs.controller_band.Tie as tie
 
-returns : tie.Need-returns
-unfolding controllerBandOf
-returns c = (rw (c .before .if1 .taken) (c .no-layout .ensures .0), omega arith, omega arith)
-
 returns-2 : tie.Need-returns-2
 unfolding controllerBandOf
 returns-2 c =
@@ -48,11 +44,12 @@ returns-3 c =
     )
 
 pub controller-band-spec : {M : Type 1} → statement M
+unfolding controllerBandOf
 controller-band-spec =
     tie.close
     (tie.spec
     (λ c κs. search needs)
-    returns
+    (λ c. (rw (c .before .if1 .taken) (c .no-layout .ensures .0), omega arith, omega arith))
     (λ c κs. search needs)
     (λ c κs. search needs)
     returns-2

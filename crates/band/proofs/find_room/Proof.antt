@@ -3,11 +3,8 @@ use Rattle.band.specs.Band.{findRoomOf}
 use Rattle.band.proofs.find_room.Statement.{statement}
 use Rattle.band.proofs.find_room.Tie as tie
 
-returns : tie.Need-returns
-unfolding findRoomOf
-returns c = rw (← c .before .before .before .before .before .before .pick .ensures, ← c .before .before .before .before .pick2 .ensures, ← c .before .before .before .pick3 .ensures, ← c .before .before .min .ensures, ← c .before .min2 .ensures, ← c .pick4 .ensures)
-
 pub find-room-spec : {M : Type 1} → statement M
+unfolding findRoomOf
 find-room-spec =
     tie.close
     (tie.spec
@@ -17,4 +14,4 @@ find-room-spec =
     (λ c κs. search needs)
     (λ c κs. search needs)
     (λ c κs. search needs)
-    returns)
+    (λ c. rw (← c .before .before .before .before .before .before .pick .ensures, ← c .before .before .before .before .pick2 .ensures, ← c .before .before .before .pick3 .ensures, ← c .before .before .min .ensures, ← c .before .min2 .ensures, ← c .pick4 .ensures)))

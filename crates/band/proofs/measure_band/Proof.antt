@@ -3,11 +3,8 @@ use Rattle.band.specs.Band.{measureBandOf}
 use Rattle.band.proofs.measure_band.Statement.{statement}
 use Rattle.band.proofs.measure_band.Tie as tie
 
-returns : tie.Need-returns
-unfolding measureBandOf
-returns c = rw (← c .before .before .before .before .before .before .before .pick .ensures, ← c .before .before .before .before .before .clamp .ensures, ← c .before .before .before .before .pick2 .ensures, ← c .before .before .pick3 .ensures, ← c .before .cap .ensures, ← c .place-faces .ensures)
-
 pub measure-band-spec : {M : Type 1} → statement M
+unfolding measureBandOf
 measure-band-spec =
     tie.close
     (tie.spec
@@ -17,4 +14,4 @@ measure-band-spec =
     (λ c κs. search needs)
     (λ c κs. search needs)
     (λ c κs. search needs)
-    returns)
+    (λ c. rw (← c .before .before .before .before .before .before .before .pick .ensures, ← c .before .before .before .before .before .clamp .ensures, ← c .before .before .before .before .pick2 .ensures, ← c .before .before .pick3 .ensures, ← c .before .cap .ensures, ← c .place-faces .ensures)))

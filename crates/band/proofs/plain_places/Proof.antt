@@ -3,11 +3,8 @@ use Rattle.band.specs.Band.{plainPlacesOf}
 use Rattle.band.proofs.plain_places.Statement.{statement}
 use Rattle.band.proofs.plain_places.Tie as tie
 
-returns : tie.Need-returns
-unfolding plainPlacesOf
-returns c = rw (← c .before .before .before .before .before .before .before .before .before .new .ensures, ← c .before .before .before .before .before .before .before .before .new2 .ensures, ← c .before .before .before .before .before .before .new3 .ensures, ← c .before .before .before .before .new4 .ensures, ← c .before .before .new5 .ensures, ← c .new6 .ensures)
-
 pub plain-places-spec : {M : Type 1} → statement M
+unfolding plainPlacesOf
 plain-places-spec =
     tie.close
     (tie.spec
@@ -17,4 +14,4 @@ plain-places-spec =
     (λ c κs. search needs)
     (λ c κs. search needs)
     (λ c κs. search needs)
-    returns)
+    (λ c. rw (← c .before .before .before .before .before .before .before .before .before .new .ensures, ← c .before .before .before .before .before .before .before .before .new2 .ensures, ← c .before .before .before .before .before .before .new3 .ensures, ← c .before .before .before .before .new4 .ensures, ← c .before .before .new5 .ensures, ← c .new6 .ensures)))

@@ -14,8 +14,6 @@ returns c =
     let e = c .psp-inputs .ensures in
     (rw (c .before .if1 .taken) e, rw e (k .0), rw e (k .1))
 
-returns-2 : tie.Need-returns-2
-returns-2 c = (rw (c .if1 .left), c .before .pre .0, c .before .pre .1)
-
 pub with-inputs-spec : {M : Type 1} → statement M
-with-inputs-spec = tie.close (tie.spec (λ c κs. search needs) returns returns-2)
+with-inputs-spec =
+    tie.close (tie.spec (λ c κs. search needs) returns (λ c. (rw (c .if1 .left), c .before .pre .0, c .before .pre .1)))

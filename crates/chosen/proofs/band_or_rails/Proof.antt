@@ -13,13 +13,12 @@ try-rails-requires c κs =
     let m : OfMode (a .analog) (a .psp) (c .before .banded .result) = rw (c .before .banded .ensures) (found-case (OfMode (a .analog) (a .psp)) _ (s .pre .1) (band-formed (a .w) (a .h) (a .analog) (a .psp) (a .picture))) in
     (s .pre .0, rw (c .if1 .taken) at m)
 
-returns : tie.Need-returns
-unfolding bandOrRailsOf
-returns c = rw (← c .before .before .banded .ensures, c .before .if1 .taken) (c .try-rails .ensures)
-
-returns-2 : tie.Need-returns-2
-unfolding bandOrRailsOf
-returns-2 c = rw (← c .before .banded .ensures, c .if1 .left)
-
 pub band-or-rails-spec : {M : Type 1} → statement M
-band-or-rails-spec = tie.close (tie.spec (λ c κs. search needs) try-rails-requires returns returns-2)
+unfolding bandOrRailsOf
+band-or-rails-spec =
+    tie.close
+    (tie.spec
+    (λ c κs. search needs)
+    try-rails-requires
+    (λ c. rw (← c .before .before .banded .ensures, c .before .if1 .taken) (c .try-rails .ensures))
+    (λ c. rw (← c .before .banded .ensures, c .if1 .left)))

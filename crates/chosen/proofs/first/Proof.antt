@@ -12,14 +12,13 @@ anchor-toolbar-requires c κs =
     let n : Few (s .start .result) = rw (s .start .ensures) (few (a .analog || a .psp) (a .psp) _ (start-mode _ _ _ _ (a .psp) (a .analog))) in
     (s .before .pre, n .count, n .stickcount)
 
-returns : tie.Need-returns
-unfolding firstOf
-returns c = rw (c .before .before .before .if1 .taken, ← c .before .before .before .before .start .ensures, ← c .before .max .ensures) (c .anchor-toolbar .ensures)
-
-returns-2 : tie.Need-returns-2
-unfolding firstOf
-returns-2 c = rw (c .if1 .left) (c .before .start .ensures)
-
 pub first-spec : {M : Type 1} → statement M
+unfolding firstOf
 first-spec =
-    tie.close (tie.spec (λ c κs. search needs) (λ c κs. search needs) anchor-toolbar-requires returns returns-2)
+    tie.close
+    (tie.spec
+    (λ c κs. search needs)
+    (λ c κs. search needs)
+    anchor-toolbar-requires
+    (λ c. rw (c .before .before .before .if1 .taken, ← c .before .before .before .before .start .ensures, ← c .before .max .ensures) (c .anchor-toolbar .ensures))
+    (λ c. rw (c .if1 .left) (c .before .start .ensures)))

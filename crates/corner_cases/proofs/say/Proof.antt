@@ -4,9 +4,6 @@ use borrow.Author.Needs.{needs}
 use Rattle.corner_cases.proofs.say.Statement.{statement}
 use Rattle.corner_cases.proofs.say.Tie as tie
 
-slice-aggregate-write-all-3 : tie.Need-slice-aggregate-write-all-3
-slice-aggregate-write-all-3 c = sym (length-take-le _ _ (search needs))
-
 pub say-spec : {M : Type 1} → statement M
 say-spec =
     tie.close
@@ -18,7 +15,7 @@ say-spec =
     (λ c. search needs)
     (λ c. search needs)
     (λ c. search needs)
-    slice-aggregate-write-all-3
+    (λ c. sym (length-take-le _ _ (search needs)))
     (λ c κs. search needs)
     (λ c. search needs)
     (λ c κs. search needs)

@@ -3,8 +3,10 @@ use Rattle.defaults.proofs.Anew.{clear-anew}
 use Rattle.defaults.proofs.finished_in.Statement.{statement}
 use Rattle.defaults.proofs.finished_in.Tie as tie
 
-returns : tie.Need-returns
-returns c = rw (clear-anew, ← c .before .anchored .ensures .0) (c .place-game-in .ensures)
-
 pub finished-in-spec : {M : Type 1} → statement M
-finished-in-spec = tie.close (tie.spec (λ c κs. search needs) (λ c κs. search needs) returns)
+finished-in-spec =
+    tie.close
+    (tie.spec
+    (λ c κs. search needs)
+    (λ c κs. search needs)
+    (λ c. rw (clear-anew, ← c .before .anchored .ensures .0) (c .place-game-in .ensures)))

@@ -17,9 +17,6 @@ Inv-loop requested full at₀ count i₀ at i = (i ≤ count) × (length at ≡ 
 abbrev μ-loop : tie.MeasureT-loop
 μ-loop requested full at₀ count i₀ at i = count - i
 
-loop-holds : tie.Need-loop-holds Inv-loop μ-loop
-loop-holds c = (omega arith, search sized, mapFirst-zero _ _)
-
 loop-again : tie.Need-loop-again Inv-loop μ-loop
 loop-again c =
     let l = c .before .before .before in
@@ -38,7 +35,7 @@ scaled-spec =
     (tie.spec
     Inv-loop
     μ-loop
-    loop-holds
+    (λ c. (omega arith, search sized, mapFirst-zero _ _))
     (λ c. omega arith)
     (λ c. omega arith)
     (λ c κs. search needs)

@@ -15,9 +15,13 @@ returns c =
       unfold setElementsOf in (ap (λ (l : Layout). l .stickcount) e),
     )
 
-returns-2 : tie.Need-returns-2
-unfolding shrunkOf
-returns-2 c = (rw (c .if1 .left), refl, refl)
-
 pub shrunk-spec : {M : Type 1} → statement M
-shrunk-spec = tie.close (tie.spec (λ c κs. search needs) (λ c κs. search needs) (λ c κs. search needs) returns returns-2)
+unfolding shrunkOf
+shrunk-spec =
+    tie.close
+    (tie.spec
+    (λ c κs. search needs)
+    (λ c κs. search needs)
+    (λ c κs. search needs)
+    returns
+    (λ c. (rw (c .if1 .left), refl, refl)))

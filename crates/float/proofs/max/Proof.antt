@@ -2,17 +2,11 @@ use Rattle.float.specs.MinMax.{maxOf}
 use Rattle.float.proofs.max.Statement.{statement}
 use Rattle.float.proofs.max.Tie as tie
 
-returns : tie.Need-returns
-unfolding maxOf
-returns c = rw (c .if1 .taken)
-
-returns-2 : tie.Need-returns-2
-unfolding maxOf
-returns-2 c = rw (c .before .if1 .left, c .if2 .taken)
-
-returns-3 : tie.Need-returns-3
-unfolding maxOf
-returns-3 c = rw (c .before .if1 .left, c .if2 .left)
-
 pub max-spec : {M : Type 1} → statement M
-max-spec = tie.close (tie.spec returns returns-2 returns-3)
+unfolding maxOf
+max-spec =
+    tie.close
+    (tie.spec
+    (λ c. rw (c .if1 .taken))
+    (λ c. rw (c .before .if1 .left, c .if2 .taken))
+    (λ c. rw (c .before .if1 .left, c .if2 .left)))

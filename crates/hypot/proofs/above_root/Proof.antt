@@ -8,16 +8,10 @@ use Rattle.hypot.proofs.Squares.{square-below, square-above, square-spl
 use Rattle.hypot.proofs.above_root.Statement.{statement}
 use Rattle.hypot.proofs.above_root.Tie as tie
 
-returns : tie.Need-returns
-returns c = let a = c .before .args in sym (le-ltb _ _ (le-of-lt (square-below (a .s) (a .n) (a .x) (c .if1 .taken))))
-
 returns-2 : tie.Need-returns-2
 returns-2 c =
     let a = c .before .before .args in
     sym (lt-ltb _ _ (square-above (a .s) (a .n) (a .x) (c .if2 .taken)))
-
-mul-result : tie.Need-mul-result
-mul-result c = omega (arith, square-fits (c .before .before .args .n) (omega arith))
 
 mul-result-3 : tie.Need-mul-result-3
 mul-result-3 c =
@@ -32,4 +26,11 @@ returns-3 c =
 pub above-root-spec : {M : Type 1} → statement M
 above-root-spec =
     tie.close
-    (tie.spec returns returns-2 mul-result (λ c. search needs) (λ c. search needs) mul-result-3 returns-3)
+    (tie.spec
+    (λ c. let a = c .before .args in sym (le-ltb _ _ (le-of-lt (square-below (a .s) (a .n) (a .x) (c .if1 .taken)))))
+    returns-2
+    (λ c. omega (arith, square-fits (c .before .before .args .n) (omega arith)))
+    (λ c. search needs)
+    (λ c. search needs)
+    mul-result-3
+    returns-3)

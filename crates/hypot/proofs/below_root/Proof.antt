@@ -8,9 +8,6 @@ use Rattle.hypot.proofs.Squares.{square-below, square-above, square-spl
 use Rattle.hypot.proofs.below_root.Statement.{statement}
 use Rattle.hypot.proofs.below_root.Tie as tie
 
-returns : tie.Need-returns
-returns c = let a = c .before .args in sym (lt-ltb _ _ (square-below (a .s) (a .n) (a .x) (c .if1 .taken)))
-
 returns-2 : tie.Need-returns-2
 returns-2 c =
     let a = c .before .before .args in
@@ -21,9 +18,6 @@ mul-result-2 c =
     let a = c .before .before .args in
     omega (arith, product-fits (a .s) (a .n) (a .x - a .s) (omega arith) (omega arith) (omega arith))
 
-mul-result-3 : tie.Need-mul-result-3
-mul-result-3 c = omega (arith, square-fits (c .before .before .args .n) (omega arith))
-
 returns-3 : tie.Need-returns-3
 returns-3 c =
     let a = c .before .before .args in
@@ -32,4 +26,11 @@ returns-3 c =
 pub below-root-spec : {M : Type 1} → statement M
 below-root-spec =
     tie.close
-    (tie.spec returns returns-2 (λ c. search needs) (λ c. search needs) mul-result-2 mul-result-3 returns-3)
+    (tie.spec
+    (λ c. let a = c .before .args in sym (lt-ltb _ _ (square-below (a .s) (a .n) (a .x) (c .if1 .taken))))
+    returns-2
+    (λ c. search needs)
+    (λ c. search needs)
+    mul-result-2
+    (λ c. omega (arith, square-fits (c .before .before .args .n) (omega arith)))
+    returns-3)

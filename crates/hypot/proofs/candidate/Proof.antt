@@ -5,8 +5,6 @@ use Rattle.float.proofs.Nan.{no-nan}
 use Rattle.hypot.proofs.candidate.Statement.{statement}
 use Rattle.hypot.proofs.candidate.Tie as tie
 
-float-to-bits-result : tie.Need-float-to-bits-result
-float-to-bits-result c = no-nan _ (c .if1 .left)
-
 pub candidate-spec : {M : Type 1} → statement M
-candidate-spec = tie.close (tie.spec (λ c. search needs) float-to-bits-result (λ c. omega arith) (λ c. search needs))
+candidate-spec =
+    tie.close (tie.spec (λ c. search needs) (λ c. no-nan _ (c .if1 .left)) (λ c. omega arith) (λ c. search needs))

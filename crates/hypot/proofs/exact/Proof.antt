@@ -16,16 +16,10 @@ held-a c = passes _ (c .good .0 .1)
 held-b : (c : tie.Start) → T (fits binary32 (c .args .b))
 held-b c = passes _ (c .good .1 .0 .1)
 
-float-from-bits-result : tie.Need-float-from-bits-result
-float-from-bits-result c = no-nan-bits binary32 0x7f80_0000 (omega arith)
-
 returns : tie.Need-returns
 returns c =
     let s = c .before .before .before in
     inf-bits ∙ first-inf (s .args .a) (s .args .b) (held-a s) (sym (c .before .before .pattern .ensures) ∙ c .if1 .taken)
-
-float-from-bits-result-2 : tie.Need-float-from-bits-result-2
-float-from-bits-result-2 c = no-nan-bits binary32 0x7f80_0000 (omega arith)
 
 returns-2 : tie.Need-returns-2
 returns-2 c =
@@ -59,9 +53,9 @@ exact-spec =
     (tie.spec
     (λ c κs. search needs)
     (λ c κs. search needs)
-    float-from-bits-result
+    (λ c. no-nan-bits binary32 0x7f80_0000 (omega arith))
     returns
-    float-from-bits-result-2
+    (λ c. no-nan-bits binary32 0x7f80_0000 (omega arith))
     returns-2
     returns-3
     returns-4

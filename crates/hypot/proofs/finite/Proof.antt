@@ -35,19 +35,10 @@ sides c =
     near (s .args .p) (s .args .q) _ _ _ _ _ (e .before .exponent .ensures) (e .exponent2 .ensures) (c .before .before .significand .ensures) (c .significand2 .ensures)
     (c .before .shifted .ensures) (s .pre .0)
 
-float-from-bits-result : tie.Need-float-from-bits-result
-float-from-bits-result c = no-nan-bits binary32 (c .before .before .before .args .p) (omega arith)
-
 returns : tie.Need-returns
 returns c =
     let a = c .before .before .before .args in
     far (a .p) (a .q) (c .before .before .before .pre .1) (omega arith)
-
-mul-s : tie.Need-mul-s
-mul-s c = omega (arith, small c)
-
-root-requires : tie.Need-root-requires
-root-requires c κs = (omega (arith, small (c .before)), omega arith)
 
 rounded-requires : tie.Need-rounded-requires
 rounded-requires c κs =
@@ -66,14 +57,14 @@ finite-spec =
     (λ c κs. search needs)
     (λ c κs. search needs)
     (λ c. search needs)
-    float-from-bits-result
+    (λ c. no-nan-bits binary32 (c .before .before .before .args .p) (omega arith))
     returns
     (λ c κs. search needs)
     (λ c. search needs)
     (λ c κs. search needs)
-    mul-s
+    (λ c. omega (arith, small c))
     (λ c κs. search needs)
     (λ c. search needs)
-    root-requires
+    (λ c κs. (omega (arith, small (c .before)), omega arith))
     rounded-requires
     returns-2)

@@ -5,9 +5,12 @@ use Rattle.float.proofs.Nan.{no-nan-bits}
 use Rattle.hypot.proofs.midpoint.Statement.{statement}
 use Rattle.hypot.proofs.midpoint.Tie as tie
 
-float-from-bits-result : tie.Need-float-from-bits-result
-float-from-bits-result c = no-nan-bits binary64 _ (omega arith)
-
 pub midpoint-spec : {M : Type 1} → statement M
 midpoint-spec =
-    tie.close (tie.spec (λ c. search needs) (λ c. search needs) (λ c. search needs) float-from-bits-result (λ c. search needs))
+    tie.close
+    (tie.spec
+    (λ c. search needs)
+    (λ c. search needs)
+    (λ c. search needs)
+    (λ c. no-nan-bits binary64 _ (omega arith))
+    (λ c. search needs))

@@ -6,16 +6,17 @@ use Rattle.hypot.proofs.Order.{cmp-is}
 use Rattle.hypot.proofs.nearer.Statement.{statement}
 use Rattle.hypot.proofs.nearer.Tie as tie
 
-returns : tie.Need-returns
-returns c = rw (cmp-is Ordering·lt _ _ (c .if1 .taken))
-
-returns-2 : tie.Need-returns-2
-returns-2 c = rw (cmp-is Ordering·eq _ _ (c .if2 .taken))
-
 returns-3 : tie.Need-returns-3
 returns-3 c =
     let a = c .before .before .args in
     rw (cmp-is Ordering·gt (a .w) (a .h) (omega arith)) (add-one (a .c))
 
 pub nearer-spec : {M : Type 1} → statement M
-nearer-spec = tie.close (tie.spec returns (λ c. search needs) (λ c. search needs) returns-2 returns-3)
+nearer-spec =
+    tie.close
+    (tie.spec
+    (λ c. rw (cmp-is Ordering·lt _ _ (c .if1 .taken)))
+    (λ c. search needs)
+    (λ c. search needs)
+    (λ c. rw (cmp-is Ordering·eq _ _ (c .if2 .taken)))
+    returns-3)

@@ -6,29 +6,14 @@ use Rattle.hypot.proofs.Isqrt.{isqrt-to, root-is}
 use Rattle.hypot.proofs.root.Statement.{statement}
 use Rattle.hypot.proofs.root.Tie as tie
 
-mul-result : tie.Need-mul-result
-mul-result c = let a = c .before .before .before .args in omega (arith, isqrt-to (a .s) (a .n), c .before .before .whole-root .ensures)
-
-add-result : tie.Need-add-result
-add-result c = let a = c .before .before .before .args in omega (arith, isqrt-to (a .s) (a .n), c .before .before .whole-root .ensures)
-
-mul-result-2 : tie.Need-mul-result-2
-mul-result-2 c = let a = c .before .before .before .args in omega (arith, isqrt-to (a .s) (a .n), c .before .before .whole-root .ensures)
-
-returns : tie.Need-returns
-returns c = root-is _ _ true (c .before .before .whole-root .ensures) (sym (c .before .below-root .ensures) ∙ c .if1 .taken)
-
-returns-2 : tie.Need-returns-2
-returns-2 c = root-is _ _ false (c .before .before .whole-root .ensures) (sym (c .before .below-root .ensures) ∙ c .if1 .left)
-
 pub root-spec : {M : Type 1} → statement M
 root-spec =
     tie.close
     (tie.spec
     (λ c κs. search needs)
     (λ c κs. search needs)
-    mul-result
-    add-result
-    mul-result-2
-    returns
-    returns-2)
+    (λ c. let a = c .before .before .before .args in omega (arith, isqrt-to (a .s) (a .n), c .before .before .whole-root .ensures))
+    (λ c. let a = c .before .before .before .args in omega (arith, isqrt-to (a .s) (a .n), c .before .before .whole-root .ensures))
+    (λ c. let a = c .before .before .before .args in omega (arith, isqrt-to (a .s) (a .n), c .before .before .whole-root .ensures))
+    (λ c. root-is _ _ true (c .before .before .whole-root .ensures) (sym (c .before .below-root .ensures) ∙ c .if1 .taken))
+    (λ c. root-is _ _ false (c .before .before .whole-root .ensures) (sym (c .before .below-root .ensures) ∙ c .if1 .left)))

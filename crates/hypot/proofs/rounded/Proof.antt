@@ -12,12 +12,6 @@ Inv-loop w f c₀ u₀ k₀ c u k = Kept w f c u k
 abbrev μ-loop : tie.MeasureT-loop
 μ-loop w f c₀ u₀ k₀ c u k = c
 
-loop-holds : tie.Need-loop-holds Inv-loop μ-loop
-loop-holds c = kept-start (c .args .w) (c .args .f) (c .pre .1 .1)
-
-add-k : tie.Need-add-k Inv-loop μ-loop
-add-k c = let i = c .before .loop in let a = c .before .before .args in omega (arith, kept-places (a .w) (a .f) (i .c) (i .u) (i .k) (i .inv))
-
 loop-again : tie.Need-loop-again Inv-loop μ-loop
 loop-again c =
     let i = c .before .loop in
@@ -44,9 +38,9 @@ rounded-spec =
     (tie.spec
     Inv-loop
     μ-loop
-    loop-holds
+    (λ c. kept-start (c .args .w) (c .args .f) (c .pre .1 .1))
     (λ c. omega arith)
-    add-k
+    (λ c. let i = c .before .loop in let a = c .before .before .args in omega (arith, kept-places (a .w) (a .f) (i .c) (i .u) (i .k) (i .inv)))
     (λ c. omega arith)
     loop-again
     (λ c. omega arith)

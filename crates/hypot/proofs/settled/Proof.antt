@@ -3,12 +3,6 @@ use borrow.Author.Needs.{needs}
 use Rattle.hypot.proofs.settled.Statement.{statement}
 use Rattle.hypot.proofs.settled.Tie as tie
 
-returns : tie.Need-returns
-returns c = λ h. absurd h
-
-returns-2 : tie.Need-returns-2
-returns-2 c = λ h. absurd h
-
 returns-3 : tie.Need-returns-3
 returns-3 c = λ h. record {
   least = c .before .before .before .before .if1 .left;
@@ -17,17 +11,14 @@ returns-3 c = λ h. record {
   high = rw (c .before .midpoint2 .ensures) at h;
 }
 
-returns-4 : tie.Need-returns-4
-returns-4 c = λ h. absurd h
-
 pub settled-spec : {M : Type 1} → statement M
 settled-spec =
     tie.close
     (tie.spec
-    returns
-    returns-2
+    (λ c. λ h. absurd h)
+    (λ c. λ h. absurd h)
     (λ c. search needs)
     (λ c κs. search needs)
     (λ c κs. search needs)
     returns-3
-    returns-4)
+    (λ c. λ h. absurd h))

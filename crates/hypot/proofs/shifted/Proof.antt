@@ -5,8 +5,5 @@ use lib.Pow.{shl-exact}
 use Rattle.hypot.proofs.shifted.Statement.{statement}
 use Rattle.hypot.proofs.shifted.Tie as tie
 
-returns : tie.Need-returns
-returns c = shl-exact 24 (c .args .d) 64 (omega arith) (omega arith)
-
 pub shifted-spec : {M : Type 1} → statement M
-shifted-spec = tie.close (tie.spec (λ c. search needs) returns)
+shifted-spec = tie.close (tie.spec (λ c. search needs) (λ c. shl-exact 24 (c .args .d) 64 (omega arith) (omega arith)))

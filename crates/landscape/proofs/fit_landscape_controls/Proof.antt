@@ -3,10 +3,6 @@ use Rattle.landscape.specs.Landscape.{fitLandscapeControlsOf}
 use Rattle.landscape.proofs.fit_landscape_controls.Statement.{statement}
 use Rattle.landscape.proofs.fit_landscape_controls.Tie as tie
 
-returns : tie.Need-returns
-unfolding fitLandscapeControlsOf
-returns c = rw (c .if1 .taken)
-
 returns-2 : tie.Need-returns-2
 unfolding fitLandscapeControlsOf
 returns-2 c =
@@ -30,10 +26,11 @@ returns-4 c =
     rw (m .before .before .before .before .if1 .left, ← m .measure-row .ensures, ← t .before .tight .ensures, t .if2 .left, ← p .before .rowed .ensures .0, ← p .place-game-in-aspect .ensures, c .if3 .left)
 
 pub fit-landscape-controls-spec : {M : Type 1} → statement M
+unfolding fitLandscapeControlsOf
 fit-landscape-controls-spec =
     tie.close
     (tie.spec
-    returns
+    (λ c. rw (c .if1 .taken))
     (λ c. search needs)
     (λ c κs. search needs)
     (λ c κs. search needs)

@@ -16,9 +16,6 @@ Inv-loop count row dx dy out₀ i₀ out i = (i ≤ count) × (length out ≡ 12
 abbrev μ-loop : tie.MeasureT-loop
 μ-loop count row dx dy out₀ i₀ out i = count - i
 
-loop-holds : tie.Need-loop-holds Inv-loop μ-loop
-loop-holds c = (omega arith, search sized, mapFirst-zero (inRow (c .args .row) (c .args .dx) (c .args .dy)) (c .args .controls))
-
 loop-again : tie.Need-loop-again Inv-loop μ-loop
 loop-again c =
     let l = c .before .before .before in
@@ -37,7 +34,7 @@ row-controls-spec =
     (tie.spec
     Inv-loop
     μ-loop
-    loop-holds
+    (λ c. (omega arith, search sized, mapFirst-zero (inRow (c .args .row) (c .args .dx) (c .args .dy)) (c .args .controls)))
     (λ c. omega arith)
     (λ c. omega arith)
     (λ c κs. search needs)

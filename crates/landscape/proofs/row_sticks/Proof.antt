@@ -4,15 +4,8 @@ use Rattle.landscape.specs.Landscape.{rowSticksOf}
 use Rattle.landscape.proofs.row_sticks.Statement.{statement}
 use Rattle.landscape.proofs.row_sticks.Tie as tie
 
-returns : tie.Need-returns
-unfolding rowSticksOf
-returns c = rw (← c .before .before .before .new .ensures, ← c .new2 .ensures, lt-ltb _ _ (c .before .before .if1 .taken))
-
-returns-2 : tie.Need-returns-2
-unfolding rowSticksOf
-returns-2 c = rw (← c .before .new .ensures, le-ltb _ _ (c .if1 .left))
-
 pub row-sticks-spec : {M : Type 1} → statement M
+unfolding rowSticksOf
 row-sticks-spec =
     tie.close
     (tie.spec
@@ -20,5 +13,5 @@ row-sticks-spec =
     (λ c. search needs)
     (λ c κs. search needs)
     (λ c. search needs)
-    returns
-    returns-2)
+    (λ c. rw (← c .before .before .before .new .ensures, ← c .new2 .ensures, lt-ltb _ _ (c .before .before .if1 .taken)))
+    (λ c. rw (← c .before .new .ensures, le-ltb _ _ (c .if1 .left))))

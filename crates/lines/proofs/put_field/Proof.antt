@@ -8,10 +8,6 @@ use borrow.Author.Needs.{needs}
 use Rattle.lines.proofs.put_field.Statement.{statement}
 use Rattle.lines.proofs.put_field.Tie as tie
 
-slice-write-out : tie.Need-slice-write-out
-unfolding fieldText
-slice-write-out c = omega arith
-
 put-number-requires : tie.Need-put-number-requires
 unfolding fieldText
 put-number-requires c κs =
@@ -22,16 +18,14 @@ returns : tie.Need-returns
 unfolding fieldText
 returns c = after _ _ _ _ (one _ _ 32) (rw (kept-tenths (c .before .before .before .before .before .before .pre .0) (c .before .before .before .tenths .ensures)) at (c .before .before .put-number .ensures))
 
-same-length : tie.Need-same-length
-same-length c = same _ _ _ (returns c)
-
 pub put-field-spec : {M : Type 1} → statement M
+unfolding fieldText
 put-field-spec =
     tie.close
     (tie.spec
-    slice-write-out
+    (λ c. omega arith)
     (λ c. search needs)
     (λ c κs. search needs)
     put-number-requires
-    same-length
+    (λ c. same _ _ _ (returns c))
     returns)

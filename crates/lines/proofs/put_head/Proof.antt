@@ -6,9 +6,6 @@ use native.Mathlib.Omega.{arith}
 use Rattle.lines.proofs.put_head.Statement.{statement}
 use Rattle.lines.proofs.put_head.Tie as tie
 
-put-text-requires : tie.Need-put-text-requires
-put-text-requires c κs = omega (arith, length-head (now (c .before .before .before .args .word)) (c .before .before .before .args .n))
-
 put-digits-requires : tie.Need-put-digits-requires
 put-digits-requires c κs = omega (arith, ends, length-head (now (c .before .before .before .before .before .before .before .args .word)) (c .before .before .before .before .before .before .before .args .n))
 
@@ -22,10 +19,13 @@ returns : tie.Need-returns
 unfolding headText
 returns c = after _ _ _ _ (c .before .before .before .before .before .before .put-text .ensures) (after _ _ _ _ (c .before .before .put-digits .ensures) (one _ _ 10))
 
-same-length : tie.Need-same-length
-same-length c = same _ _ _ (returns c)
-
 pub put-head-spec : {M : Type 1} → statement M
 put-head-spec =
     tie.close
-    (tie.spec put-text-requires put-digits-requires slice-write-out add-result same-length returns)
+    (tie.spec
+    (λ c κs. omega (arith, length-head (now (c .before .before .before .args .word)) (c .before .before .before .args .n)))
+    put-digits-requires
+    slice-write-out
+    add-result
+    (λ c. same _ _ _ (returns c))
+    returns)

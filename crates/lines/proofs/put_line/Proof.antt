@@ -6,9 +6,6 @@ use native.Mathlib.Omega.{arith}
 use Rattle.lines.proofs.put_line.Statement.{statement}
 use Rattle.lines.proofs.put_line.Tie as tie
 
-put-text-requires : tie.Need-put-text-requires
-put-text-requires c κs = omega (arith, length-parts (now (c .before .before .before .args .name)) (c .before .before .before .args .r))
-
 put-field-requires : tie.Need-put-field-requires
 put-field-requires c κs = (c .before .before .before .before .before .before .before .pre .0 .x, omega (arith, ends, length-parts (now (c .before .before .before .before .before .before .before .args .name)) (c .before .before .before .before .before .before .before .args .r)))
 
@@ -31,19 +28,16 @@ returns : tie.Need-returns
 unfolding lineText lineOf
 returns c = after _ _ _ _ (c .before .before .before .before .before .before .before .before .before .before .before .before .before .before .before .before .before .before .put-text .ensures) (after _ _ _ _ (c .before .before .before .before .before .before .before .before .before .before .before .before .before .before .put-field .ensures) (after _ _ _ _ (c .before .before .before .before .before .before .before .before .before .before .put-field2 .ensures) (after _ _ _ _ (c .before .before .before .before .before .before .put-field3 .ensures) (after _ _ _ _ (c .before .before .put-field4 .ensures) (one _ _ 10)))))
 
-same-length : tie.Need-same-length
-same-length c = same _ _ _ (returns c)
-
 pub put-line-spec : {M : Type 1} → statement M
 put-line-spec =
     tie.close
     (tie.spec
-    put-text-requires
+    (λ c κs. omega (arith, length-parts (now (c .before .before .before .args .name)) (c .before .before .before .args .r)))
     put-field-requires
     put-field-requires-2
     put-field-requires-3
     put-field-requires-4
     slice-write-out
     add-result
-    same-length
+    (λ c. same _ _ _ (returns c))
     returns)

@@ -14,12 +14,6 @@ Inv-loop out₀ at text i₀ i-end out i = (i ≤ length text) × ((out, at + i)
 abbrev μ-loop : tie.MeasureT-loop
 μ-loop out₀ at text i₀ i-end out i = i-end - i
 
-loop-holds : tie.Need-loop-holds Inv-loop μ-loop
-loop-holds c = (omega arith, rw add-zero (none _ _))
-
-loop-again : tie.Need-loop-again Inv-loop μ-loop
-loop-again c = (omega arith, text-next _ _ _ _ (omega arith) (c .before .before .loop .inv .1))
-
 returns : tie.Need-returns Inv-loop μ-loop
 returns c = text-whole _ _ _ _ (omega arith) (omega arith) (c .before .loop .inv .1)
 
@@ -29,13 +23,13 @@ put-text-spec =
     (tie.spec
     Inv-loop
     μ-loop
-    loop-holds
+    (λ c. (omega arith, rw add-zero (none _ _)))
     (λ c. omega arith)
     (λ c. omega arith)
     (λ c. omega (arith, same))
     (λ c. omega arith)
     (λ c. omega arith)
-    loop-again
+    (λ c. (omega arith, text-next _ _ _ _ (omega arith) (c .before .before .loop .inv .1)))
     (λ c. omega arith)
     (λ c. same _ _ _ (returns c))
     returns)

@@ -8,18 +8,6 @@ use borrow.Author.Needs.{needs, sfits-of}
 use Rattle.lines.proofs.tenths.Statement.{statement}
 use Rattle.lines.proofs.tenths.Tie as tie
 
-float-to-bits-n : tie.Need-float-to-bits-n
-float-to-bits-n c = whole-not-nan _ (c .pre .whole)
-
-tenths-size-requires : tie.Need-tenths-size-requires
-tenths-size-requires c κs = exponent (c .args .x) (search needs) (c .pre)
-
-cast-size : tie.Need-cast-size
-cast-size c = sfits-of (size-is _ (search needs) (c .before .pre) (c .tenths-size .ensures) .1)
-
-sub-result : tie.Need-sub-result
-sub-result c = minus-fits (pos _) (size-is _ (search needs) (c .before .before .pre) (c .before .tenths-size .ensures) .1)
-
 returns : tie.Need-returns
 returns c =
     let a = c .before .before in
@@ -35,4 +23,10 @@ returns-2 c =
 pub tenths-spec : {M : Type 1} → statement M
 tenths-spec =
     tie.close
-    (tie.spec float-to-bits-n tenths-size-requires cast-size sub-result returns returns-2)
+    (tie.spec
+    (λ c. whole-not-nan _ (c .pre .whole))
+    (λ c κs. exponent (c .args .x) (search needs) (c .pre))
+    (λ c. sfits-of (size-is _ (search needs) (c .before .pre) (c .tenths-size .ensures) .1))
+    (λ c. minus-fits (pos _) (size-is _ (search needs) (c .before .before .pre) (c .before .tenths-size .ensures) .1))
+    returns
+    returns-2)

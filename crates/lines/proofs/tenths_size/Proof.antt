@@ -5,9 +5,6 @@ use borrow.Author.Needs.{needs}
 use Rattle.lines.proofs.tenths_size.Statement.{statement}
 use Rattle.lines.proofs.tenths_size.Tie as tie
 
-returns : tie.Need-returns
-returns c = size-low _ (c .if1 .taken)
-
 add-result : tie.Need-add-result
 add-result c =
     let a = c .before in
@@ -22,7 +19,7 @@ pub tenths-size-spec : {M : Type 1} → statement M
 tenths-size-spec =
     tie.close
     (tie.spec
-    returns
+    (λ c. size-low _ (c .if1 .taken))
     (λ c. search needs)
     (λ c. search needs)
     (λ c. search needs)

@@ -16,9 +16,6 @@ returns c =
     let e = read-refused _ (c .before .before .read-order .ensures) (c .if1 .taken) in
     (rw e, (rw e, λ s n r a k. absurd (never (sym a))))
 
-settings-layout-requires : tie.Need-settings-layout-requires
-settings-layout-requires c κs = accepted-order _ (read-accepted _ (c .before .before .read-order .ensures) (c .if1 .left))
-
 write-requires : tie.Need-write-requires
 write-requires c κs =
     let n = settings-few (c .before .before .before .before .read-order .result .settings) in
@@ -37,7 +34,7 @@ layout-spec =
     (tie.spec
     (λ c κs. search needs)
     returns
-    settings-layout-requires
+    (λ c κs. accepted-order _ (read-accepted _ (c .before .before .read-order .ensures) (c .if1 .left)))
     write-requires
     (λ c. search needs)
     returns-2)

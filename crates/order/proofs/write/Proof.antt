@@ -2,9 +2,6 @@ use borrow.Author.Needs.{needs}
 use Rattle.order.proofs.write.Statement.{statement}
 use Rattle.order.proofs.write.Tie as tie
 
-write-layout-requires : tie.Need-write-layout-requires
-write-layout-requires c κs = c .before .before .pre
-
 returns : tie.Need-returns
 returns c =
     let e = c .before .before .before .before .before .write-layout .ensures in
@@ -19,7 +16,7 @@ pub write-spec : {M : Type 1} → statement M
 write-spec =
     tie.close
     (tie.spec
-    write-layout-requires
+    (λ c κs. c .before .before .pre)
     (λ c. search needs)
     (λ c. search needs)
     (λ c. search needs)

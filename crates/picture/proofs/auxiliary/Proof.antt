@@ -3,11 +3,8 @@ use Rattle.picture.specs.Picture.{auxiliaryOf}
 use Rattle.picture.proofs.auxiliary.Statement.{statement}
 use Rattle.picture.proofs.auxiliary.Tie as tie
 
-returns : tie.Need-returns
-unfolding auxiliaryOf
-returns c = rw (← c .before .before .before .before .before .before .before .before .before .before .before .before .before .before .before .before .clamp .ensures, ← c .before .before .before .before .before .before .before .before .before .before .before .new .ensures, ← c .before .before .before .before .before .before .before .before .before .before .new2 .ensures, ← c .before .before .before .before .before .before .before .before .before .new3 .ensures, ← c .before .before .before .before .before .before .before .before .new4 .ensures, ← c .before .before .before .before .before .before .new5 .ensures) (rw (← c .before .before .before .before .new6 .ensures, ← c .before .before .new7 .ensures, ← c .new8 .ensures))
-
 pub auxiliary-spec : {M : Type 1} → statement M
+unfolding auxiliaryOf
 auxiliary-spec =
     tie.close
     (tie.spec
@@ -20,4 +17,4 @@ auxiliary-spec =
     (λ c κs. search needs)
     (λ c κs. search needs)
     (λ c κs. search needs)
-    returns)
+    (λ c. rw (← c .before .before .before .before .before .before .before .before .before .before .before .before .before .before .before .before .clamp .ensures, ← c .before .before .before .before .before .before .before .before .before .before .before .new .ensures, ← c .before .before .before .before .before .before .before .before .before .before .new2 .ensures, ← c .before .before .before .before .before .before .before .before .before .new3 .ensures, ← c .before .before .before .before .before .before .before .before .new4 .ensures, ← c .before .before .before .before .before .before .new5 .ensures) (rw (← c .before .before .before .before .new6 .ensures, ← c .before .before .new7 .ensures, ← c .new8 .ensures))))

@@ -3,11 +3,8 @@ use Rattle.picture.specs.Picture.{diamondOf}
 use Rattle.picture.proofs.diamond.Statement.{statement}
 use Rattle.picture.proofs.diamond.Tie as tie
 
-returns : tie.Need-returns
-unfolding diamondOf
-returns c = rw (← c .before .before .before .before .before .before .before .before .before .cap .ensures, ← c .before .before .before .new .ensures, ← c .before .before .new2 .ensures, ← c .before .new3 .ensures, ← c .new4 .ensures)
-
 pub diamond-spec : {M : Type 1} → statement M
+unfolding diamondOf
 diamond-spec =
     tie.close
     (tie.spec
@@ -16,4 +13,4 @@ diamond-spec =
     (λ c κs. search needs)
     (λ c κs. search needs)
     (λ c κs. search needs)
-    returns)
+    (λ c. rw (← c .before .before .before .before .before .before .before .before .before .cap .ensures, ← c .before .before .before .new .ensures, ← c .before .before .new2 .ensures, ← c .before .new3 .ensures, ← c .new4 .ensures)))

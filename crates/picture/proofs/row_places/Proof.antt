@@ -3,11 +3,8 @@ use Rattle.picture.specs.Picture.{rowPlacesOf}
 use Rattle.picture.proofs.row_places.Statement.{statement}
 use Rattle.picture.proofs.row_places.Tie as tie
 
-returns : tie.Need-returns
-unfolding rowPlacesOf
-returns c = rw (← c .before .before .before .before .before .before .before .new .ensures, ← c .before .before .before .before .before .before .diamond .ensures, ← c .before .before .before .before .before .new2 .ensures, ← c .before .before .before .before .new3 .ensures, ← c .before .before .auxiliary .ensures, ← c .center-keys .ensures)
-
 pub row-places-spec : {M : Type 1} → statement M
+unfolding rowPlacesOf
 row-places-spec =
     tie.close
     (tie.spec
@@ -17,4 +14,4 @@ row-places-spec =
     (λ c κs. search needs)
     (λ c κs. search needs)
     (λ c κs. search needs)
-    returns)
+    (λ c. rw (← c .before .before .before .before .before .before .before .new .ensures, ← c .before .before .before .before .before .before .diamond .ensures, ← c .before .before .before .before .before .new2 .ensures, ← c .before .before .before .before .new3 .ensures, ← c .before .before .auxiliary .ensures, ← c .center-keys .ensures)))

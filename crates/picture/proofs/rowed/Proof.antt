@@ -4,11 +4,8 @@ use Rattle.picture.specs.Picture.{rowedOf}
 use Rattle.picture.proofs.rowed.Statement.{statement}
 use Rattle.picture.proofs.rowed.Tie as tie
 
-returns : tie.Need-returns
-unfolding rowedOf
-returns c = (rw (← c .before .before .before .before .row-places .ensures, ← c .before .before .before .new .ensures, ← c .before .before .new2 .ensures, ← c .before .new3 .ensures, ← c .arrange .ensures .0), omega arith, omega arith)
-
 pub rowed-spec : {M : Type 1} → statement M
+unfolding rowedOf
 rowed-spec =
     tie.close
     (tie.spec
@@ -17,4 +14,4 @@ rowed-spec =
     (λ c κs. search needs)
     (λ c κs. search needs)
     (λ c κs. search needs)
-    returns)
+    (λ c. (rw (← c .before .before .before .before .row-places .ensures, ← c .before .before .before .new .ensures, ← c .before .before .new2 .ensures, ← c .before .new3 .ensures, ← c .arrange .ensures .0), omega arith, omega arith)))

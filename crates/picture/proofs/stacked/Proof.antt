@@ -3,9 +3,6 @@ use Rattle.picture.specs.Picture.{stackedOf}
 use Rattle.picture.proofs.stacked.Statement.{statement}
 use Rattle.picture.proofs.stacked.Tie as tie
 
-arrange-requires : tie.Need-arrange-requires
-arrange-requires c κs = c .before .before .before .before .before .before .before .before .before .before .before .pre
-
 returns : tie.Need-returns
 unfolding stackedOf
 returns c = (
@@ -26,5 +23,5 @@ stacked-spec =
     (λ c κs. search needs)
     (λ c κs. search needs)
     (λ c κs. search needs)
-    arrange-requires
+    (λ c κs. c .before .before .before .before .before .before .before .before .before .before .before .pre)
     returns)

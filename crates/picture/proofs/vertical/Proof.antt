@@ -4,21 +4,14 @@ use Rattle.picture.specs.Picture.{verticalOf}
 use Rattle.picture.proofs.vertical.Statement.{statement}
 use Rattle.picture.proofs.vertical.Tie as tie
 
-returns : tie.Need-returns
-unfolding verticalOf
-returns c = (rw (← c .before .before .before .measure-stack .ensures, ← c .before .before .cramped .ensures, c .before .if1 .taken) (c .no-layout .ensures .0), omega arith, omega arith)
-
-returns-2 : tie.Need-returns-2
-unfolding verticalOf
-returns-2 c = (rw (← c .before .before .before .measure-stack .ensures, ← c .before .before .cramped .ensures, c .before .if1 .left, ← c .stacked .ensures .0), omega arith, omega arith)
-
 pub vertical-spec : {M : Type 1} → statement M
+unfolding verticalOf
 vertical-spec =
     tie.close
     (tie.spec
     (λ c κs. search needs)
     (λ c κs. search needs)
     (λ c κs. search needs)
-    returns
+    (λ c. (rw (← c .before .before .before .measure-stack .ensures, ← c .before .before .cramped .ensures, c .before .if1 .taken) (c .no-layout .ensures .0), omega arith, omega arith))
     (λ c κs. search needs)
-    returns-2)
+    (λ c. (rw (← c .before .before .before .measure-stack .ensures, ← c .before .before .cramped .ensures, c .before .if1 .left, ← c .stacked .ensures .0), omega arith, omega arith)))

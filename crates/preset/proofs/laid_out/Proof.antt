@@ -17,9 +17,6 @@ place-game-in-aspect-requires c κs =
     let n : Few (s .settled .result) = rw (s .settled .ensures, s .before .before .arrangement .ensures) (few (hasSticks p) (p .psp) _ (settled-mode _ _ _ _ (hasSticks p) (p .psp) _ (arrangement-mode _ _ _ _ _ _ _ _ _) _)) in
     (n .count, n .stickcount)
 
-row-allowed-requires : tie.Need-row-allowed-requires
-row-allowed-requires c κs = c .before .before .before .before .before .before .before .before .before .before .before .pre
-
 fit-landscape-controls-requires : tie.Need-fit-landscape-controls-requires
 fit-landscape-controls-requires c κs =
     let s = c .before .before .before .before .before in
@@ -56,7 +53,7 @@ laid-out-spec =
     settled-requires
     (λ c κs. search needs)
     place-game-in-aspect-requires
-    row-allowed-requires
+    (λ c κs. c .before .before .before .before .before .before .before .before .before .before .before .pre)
     fit-landscape-controls-requires
     returns
     returns-2)

@@ -2,9 +2,6 @@ use borrow.Author.Needs.{needs}
 use Rattle.preset.proofs.layout_with_cutouts.Statement.{statement}
 use Rattle.preset.proofs.layout_with_cutouts.Tie as tie
 
-returns : tie.Need-returns
-returns c = rw (← c .before .before .before .max .ensures, ← c .before .before .max2 .ensures, ← c .before .new .ensures) (c .layout-in .ensures)
-
 pub layout-with-cutouts-spec : {M : Type 1} → statement M
 layout-with-cutouts-spec =
     tie.close
@@ -13,4 +10,4 @@ layout-with-cutouts-spec =
     (λ c κs. search needs)
     (λ c κs. search needs)
     (λ c κs. search needs)
-    returns)
+    (λ c. rw (← c .before .before .before .max .ensures, ← c .before .before .max2 .ensures, ← c .before .new .ensures) (c .layout-in .ensures)))

@@ -25,11 +25,8 @@ anchor-toolbar-requires c κs =
     let n : Few (c .before .before .avoid-cutouts .result) = rw (c .before .before .avoid-cutouts .ensures, c .before .before .before .with-saved .ensures) (few (a .analog) (a .psp) _ (avoid-mode (a .analog) (a .psp) _ s _ _ _)) in
     (c .before .before .before .before .pre .0, n .count, n .stickcount)
 
-returns : tie.Need-returns
-unfolding settledOf
-returns c = rw (← c .before .before .before .before .with-saved .ensures, ← c .before .before .before .avoid-cutouts .ensures, ← c .before .max .ensures) (c .anchor-toolbar .ensures)
-
 pub settled-spec : {M : Type 1} → statement M
+unfolding settledOf
 settled-spec =
     tie.close
     (tie.spec
@@ -37,4 +34,4 @@ settled-spec =
     avoid-cutouts-requires
     (λ c κs. search needs)
     anchor-toolbar-requires
-    returns)
+    (λ c. rw (← c .before .before .before .before .with-saved .ensures, ← c .before .before .before .avoid-cutouts .ensures, ← c .before .max .ensures) (c .anchor-toolbar .ensures)))

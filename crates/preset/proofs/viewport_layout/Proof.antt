@@ -18,20 +18,13 @@ anchor-toolbar-requires-2 c κs =
     let n : Few (c .before .anchor-toolbar .result) = rw (c .before .anchor-toolbar .ensures, c .before .before .layout-in .ensures) (few (hasSticks p) (p .psp) _ m) in
     (c .before .before .before .pre .1, n .count, n .stickcount)
 
-returns : tie.Need-returns
-unfolding viewportLayoutOf
-returns c = rw (← c .before .before .before .layout-in .ensures, ← c .before .before .anchor-toolbar .ensures, c .before .if1 .taken) (c .anchor-toolbar2 .ensures)
-
-returns-2 : tie.Need-returns-2
-unfolding viewportLayoutOf
-returns-2 c = rw (← c .before .before .layout-in .ensures, ← c .before .anchor-toolbar .ensures, c .if1 .left)
-
 pub viewport-layout-spec : {M : Type 1} → statement M
+unfolding viewportLayoutOf
 viewport-layout-spec =
     tie.close
     (tie.spec
     (λ c κs. search needs)
     anchor-toolbar-requires
     anchor-toolbar-requires-2
-    returns
-    returns-2)
+    (λ c. rw (← c .before .before .before .layout-in .ensures, ← c .before .before .anchor-toolbar .ensures, c .before .if1 .taken) (c .anchor-toolbar2 .ensures))
+    (λ c. rw (← c .before .before .layout-in .ensures, ← c .before .anchor-toolbar .ensures, c .if1 .left)))

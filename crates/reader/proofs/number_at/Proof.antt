@@ -5,11 +5,8 @@ use borrow.Author.Needs.{needs}
 use Rattle.reader.proofs.number_at.Statement.{statement}
 use Rattle.reader.proofs.number_at.Tie as tie
 
-returns : tie.Need-returns
-unfolding numberAtOf
-returns c = c .from-bits .ensures ∙ ap (ofBits binary32) (c .before .word .ensures)
-
 pub number-at-spec : {M : Type 1} → statement M
+unfolding numberAtOf
 number-at-spec =
     tie.close
     (tie.spec
@@ -23,4 +20,4 @@ number-at-spec =
     (λ c. search needs)
     (λ c κs. search needs)
     (λ c κs. search needs)
-    returns)
+    (λ c. c .from-bits .ensures ∙ ap (ofBits binary32) (c .before .word .ensures)))

@@ -6,33 +6,18 @@ use borrow.Author.Needs.{needs}
 use Rattle.reader.proofs.read_cutouts.Statement.{statement}
 use Rattle.reader.proofs.read_cutouts.Tie as tie
 
-returns : tie.Need-returns
-unfolding readCutoutsOf must
-returns c = c .refuse .ensures ∙ rw (ne-eqb _ _ (c .before .if1 .taken))
-
-returns-2 : tie.Need-returns-2
-unfolding readCutoutsOf must
-returns-2 c = c .refuse2 .ensures ∙ rw (eq-eqb _ _ (c .before .before .if1 .left), lt-leb _ _ (c .before .if2 .taken))
-
-returns-3 : tie.Need-returns-3
-unfolding readCutoutsOf must
-returns-3 c = c .refuse3 .ensures ∙ rw (eq-eqb _ _ (c .before .before .before .before .before .if1 .left), le-leb _ _ (c .before .before .before .before .if2 .left), ← c .before .before .before .cutout-rects .ensures, ← c .before .before .cutouts-in-limits .ensures, not-true (c .before .before .cutouts-in-limits .result) (c .before .if3 .taken))
-
-returns-4 : tie.Need-returns-4
-unfolding readCutoutsOf must
-returns-4 c = c .accept .ensures ∙ rw (eq-eqb _ _ (c .before .before .before .before .before .if1 .left), le-leb _ _ (c .before .before .before .before .if2 .left), ← c .before .before .before .cutout-rects .ensures, ← c .before .before .cutouts-in-limits .ensures, not-false (c .before .before .cutouts-in-limits .result) (c .before .if3 .left))
-
 pub read-cutouts-spec : {M : Type 1} → statement M
+unfolding readCutoutsOf must
 read-cutouts-spec =
     tie.close
     (tie.spec
     (λ c κs. search needs)
-    returns
+    (λ c. c .refuse .ensures ∙ rw (ne-eqb _ _ (c .before .if1 .taken)))
     (λ c κs. search needs)
-    returns-2
+    (λ c. c .refuse2 .ensures ∙ rw (eq-eqb _ _ (c .before .before .if1 .left), lt-leb _ _ (c .before .if2 .taken)))
     (λ c κs. search needs)
     (λ c κs. search needs)
     (λ c κs. search needs)
-    returns-3
+    (λ c. c .refuse3 .ensures ∙ rw (eq-eqb _ _ (c .before .before .before .before .before .if1 .left), le-leb _ _ (c .before .before .before .before .if2 .left), ← c .before .before .before .cutout-rects .ensures, ← c .before .before .cutouts-in-limits .ensures, not-true (c .before .before .cutouts-in-limits .result) (c .before .if3 .taken)))
     (λ c κs. search needs)
-    returns-4)
+    (λ c. c .accept .ensures ∙ rw (eq-eqb _ _ (c .before .before .before .before .before .if1 .left), le-leb _ _ (c .before .before .before .before .if2 .left), ← c .before .before .before .cutout-rects .ensures, ← c .before .before .cutouts-in-limits .ensures, not-false (c .before .before .cutouts-in-limits .result) (c .before .if3 .left))))

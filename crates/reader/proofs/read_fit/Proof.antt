@@ -6,27 +6,16 @@ use borrow.Author.Needs.{needs}
 use Rattle.reader.proofs.read_fit.Statement.{statement}
 use Rattle.reader.proofs.read_fit.Tie as tie
 
-returns : tie.Need-returns
-unfolding readFitOf must
-returns c = c .refuse .ensures ∙ rw (ne-eqb _ _ (c .before .if1 .taken))
-
-returns-2 : tie.Need-returns-2
-unfolding readFitOf must
-returns-2 c = c .refuse2 .ensures ∙ rw (eq-eqb _ _ (c .before .before .before .if1 .left), lt-leb _ _ (c .before .if2 .taken))
-
-returns-3 : tie.Need-returns-3
-unfolding readFitOf must
-returns-3 c = c .accept .ensures ∙ rw (eq-eqb _ _ (c .before .before .before .before .before .before .before .if1 .left), le-leb _ _ (c .before .before .before .before .before .if2 .left), ← c .before .fit-mark .ensures)
-
 pub read-fit-spec : {M : Type 1} → statement M
+unfolding readFitOf must
 read-fit-spec =
     tie.close
     (tie.spec
     (λ c κs. search needs)
-    returns
+    (λ c. c .refuse .ensures ∙ rw (ne-eqb _ _ (c .before .if1 .taken)))
     (λ c. search needs)
     (λ c κs. search needs)
-    returns-2
+    (λ c. c .refuse2 .ensures ∙ rw (eq-eqb _ _ (c .before .before .before .if1 .left), lt-leb _ _ (c .before .if2 .taken)))
     (λ c κs. search needs)
     (λ c κs. search needs)
-    returns-3)
+    (λ c. c .accept .ensures ∙ rw (eq-eqb _ _ (c .before .before .before .before .before .before .before .if1 .left), le-leb _ _ (c .before .before .before .before .before .if2 .left), ← c .before .fit-mark .ensures)))

@@ -8,14 +8,6 @@ use borrow.Author.Needs.{needs}
 use Rattle.reader.proofs.read_mode.Statement.{statement}
 use Rattle.reader.proofs.read_mode.Tie as tie
 
-returns : tie.Need-returns
-unfolding readModeOf must
-returns c = c .refuse .ensures ∙ rw (ne-eqb _ _ (c .before .if1 .taken))
-
-returns-2 : tie.Need-returns-2
-unfolding readModeOf must
-returns-2 c = c .refuse2 .ensures ∙ rw (eq-eqb _ _ (c .before .before .before .if1 .left), ne-eqb _ _ (c .before .if2 .taken))
-
 returns-3 : tie.Need-returns-3
 unfolding readModeOf must
 returns-3 c =
@@ -23,6 +15,14 @@ returns-3 c =
     c .accept .ensures ∙ rw (eq-eqb _ _ (c .before .before .before .before .if1 .left), eq-eqb _ _ (c .before .before .if2 .left), ← test-bit b 0, ← test-bit b 1, ← test-bit b 2)
 
 pub read-mode-spec : {M : Type 1} → statement M
+unfolding readModeOf must
 read-mode-spec =
     tie.close
-    (tie.spec (λ c κs. search needs) returns (λ c. search needs) (λ c κs. search needs) returns-2 (λ c κs. search needs) returns-3)
+    (tie.spec
+    (λ c κs. search needs)
+    (λ c. c .refuse .ensures ∙ rw (ne-eqb _ _ (c .before .if1 .taken)))
+    (λ c. search needs)
+    (λ c κs. search needs)
+    (λ c. c .refuse2 .ensures ∙ rw (eq-eqb _ _ (c .before .before .before .if1 .left), ne-eqb _ _ (c .before .if2 .taken)))
+    (λ c κs. search needs)
+    returns-3)

@@ -15,70 +15,45 @@ Inv-loop bytes s₀ screen₀ last₀ at₀ s screen last at = (at ≤ length by
 abbrev μ-loop : tie.MeasureT-loop
 μ-loop bytes s₀ screen₀ last₀ at₀ s screen last at = length bytes - at
 
-loop-holds : tie.Need-loop-holds Inv-loop μ-loop
-loop-holds c = (omega arith, at-start _ (c .blank .ensures))
-
-returns : tie.Need-returns Inv-loop μ-loop
-returns c = c .refuse .ensures ∙ cut-header (c .before .before .before .loop .inv .1) (c .before .before .loop-test .taken) (c .before .if1 .taken)
-
-returns-2 : tie.Need-returns-2 Inv-loop μ-loop
-returns-2 c = c .refuse2 .ensures ∙ not-above (c .before .before .before .before .before .loop .inv .1) (omega arith) (c .before .if2 .taken)
-
-returns-3 : tie.Need-returns-3 Inv-loop μ-loop
-returns-3 c = c .refuse3 .ensures ∙ not-a-tag (c .before .before .before .before .before .before .loop .inv .1) (omega arith) (c .before .before .if2 .left) (c .before .if3 .taken)
-
-returns-4 : tie.Need-returns-4 Inv-loop μ-loop
-returns-4 c = c .refuse4 .ensures ∙ cut-value (c .before .before .before .before .before .before .before .before .before .before .loop .inv .1) (omega arith) (c .before .before .before .before .before .before .if2 .left) (c .before .before .before .before .before .if3 .left) (rw (← c .before .before .short .ensures .0) (c .before .if4 .taken))
-
-returns-5 : tie.Need-returns-5 Inv-loop μ-loop
-returns-5 c = bad-value (c .before .before .before .before .before .before .before .before .before .before .before .before .before .before .loop .inv .1) (omega arith) (c .before .before .before .before .before .before .before .before .before .before .if2 .left) (c .before .before .before .before .before .before .before .before .before .if3 .left) (c .before .before .read-field .result) (c .before .before .before .before .before .before .short .ensures .0) (c .before .before .before .before .before .if4 .left) (c .before .before .before .before .from-byte .ensures) (c .before .before .read-field .ensures) (c .if5 .taken)
-
 loop-again : tie.Need-loop-again Inv-loop μ-loop
 loop-again c = (omega arith, next-field (c .before .before .before .before .before .before .before .before .before .before .before .before .before .before .before .loop .inv .1) (omega arith) (c .before .before .before .before .before .before .before .before .before .before .before .if2 .left) (c .before .before .before .before .before .before .before .before .before .before .if3 .left) (c .before .before .before .read-field .result) (c .before .before .before .before .before .before .before .short .ensures .0) (c .before .before .before .before .before .before .if4 .left) (c .before .before .before .before .before .from-byte .ensures) (c .before .before .before .read-field .ensures) (c .before .if5 .left))
 
-returns-6 : tie.Need-returns-6 Inv-loop μ-loop
-unfolding must
-returns-6 c = c .refuse5 .ensures ∙ (rw (not-true (c .before .before .before .loop .screen) (c .before .if6 .taken)) at (at-end (c .before .before .before .loop .inv .1) (c .before .before .loop-test .left)))
-
-returns-7 : tie.Need-returns-7 Inv-loop μ-loop
-unfolding must
-returns-7 c = c .accept .ensures ∙ (rw (not-false (c .before .before .before .loop .screen) (c .before .if6 .left)) at (at-end (c .before .before .before .loop .inv .1) (c .before .before .loop-test .left)))
-
 pub read-order-spec : {M : Type 1} → statement M
+unfolding must
 read-order-spec =
     tie.close
     (tie.spec
     Inv-loop
     μ-loop
     (λ c κs. search needs)
-    loop-holds
+    (λ c. (omega arith, at-start _ (c .blank .ensures)))
     (λ c. omega arith)
     (λ c κs. search needs)
-    returns
+    (λ c. c .refuse .ensures ∙ cut-header (c .before .before .before .loop .inv .1) (c .before .before .loop-test .taken) (c .before .if1 .taken))
     (λ c. omega arith)
     (λ c κs. search needs)
-    returns-2
+    (λ c. c .refuse2 .ensures ∙ not-above (c .before .before .before .before .before .loop .inv .1) (omega arith) (c .before .if2 .taken))
     (λ c κs. search needs)
-    returns-3
+    (λ c. c .refuse3 .ensures ∙ not-a-tag (c .before .before .before .before .before .before .loop .inv .1) (omega arith) (c .before .before .if2 .left) (c .before .if3 .taken))
     (λ c. omega arith)
     (λ c. omega arith)
-    (λ c. omega arith)
-    (λ c. omega arith)
-    (λ c. omega arith)
-    (λ c κs. search needs)
-    (λ c. omega arith)
-    (λ c κs. search needs)
-    returns-4
-    (λ c. omega arith)
-    (λ c κs. search needs)
     (λ c. omega arith)
     (λ c. omega arith)
     (λ c. omega arith)
     (λ c κs. search needs)
-    returns-5
+    (λ c. omega arith)
+    (λ c κs. search needs)
+    (λ c. c .refuse4 .ensures ∙ cut-value (c .before .before .before .before .before .before .before .before .before .before .loop .inv .1) (omega arith) (c .before .before .before .before .before .before .if2 .left) (c .before .before .before .before .before .if3 .left) (rw (← c .before .before .short .ensures .0) (c .before .if4 .taken)))
+    (λ c. omega arith)
+    (λ c κs. search needs)
+    (λ c. omega arith)
+    (λ c. omega arith)
+    (λ c. omega arith)
+    (λ c κs. search needs)
+    (λ c. bad-value (c .before .before .before .before .before .before .before .before .before .before .before .before .before .before .loop .inv .1) (omega arith) (c .before .before .before .before .before .before .before .before .before .before .if2 .left) (c .before .before .before .before .before .before .before .before .before .if3 .left) (c .before .before .read-field .result) (c .before .before .before .before .before .before .short .ensures .0) (c .before .before .before .before .before .if4 .left) (c .before .before .before .before .from-byte .ensures) (c .before .before .read-field .ensures) (c .if5 .taken))
     (λ c. omega arith)
     loop-again
     (λ c κs. search needs)
-    returns-6
+    (λ c. c .refuse5 .ensures ∙ (rw (not-true (c .before .before .before .loop .screen) (c .before .if6 .taken)) at (at-end (c .before .before .before .loop .inv .1) (c .before .before .loop-test .left))))
     (λ c κs. search needs)
-    returns-7)
+    (λ c. c .accept .ensures ∙ (rw (not-false (c .before .before .before .loop .screen) (c .before .if6 .left)) at (at-end (c .before .before .before .loop .inv .1) (c .before .before .loop-test .left)))))

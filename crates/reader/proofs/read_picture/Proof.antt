@@ -6,27 +6,16 @@ use borrow.Author.Needs.{needs}
 use Rattle.reader.proofs.read_picture.Statement.{statement}
 use Rattle.reader.proofs.read_picture.Tie as tie
 
-returns : tie.Need-returns
-unfolding readPictureOf must
-returns c = c .refuse .ensures ∙ rw (ne-eqb _ _ (c .before .if1 .taken))
-
-returns-2 : tie.Need-returns-2
-unfolding readPictureOf must
-returns-2 c = c .refuse2 .ensures ∙ rw (eq-eqb _ _ (c .before .before .before .before .if1 .left), ← c .before .before .before .rect-at .ensures, ← c .before .before .rect-in-limits .ensures, not-true (c .before .before .rect-in-limits .result) (c .before .if2 .taken))
-
-returns-3 : tie.Need-returns-3
-unfolding readPictureOf must
-returns-3 c = c .accept .ensures ∙ rw (eq-eqb _ _ (c .before .before .before .before .if1 .left), ← c .before .before .before .rect-at .ensures, ← c .before .before .rect-in-limits .ensures, not-false (c .before .before .rect-in-limits .result) (c .before .if2 .left))
-
 pub read-picture-spec : {M : Type 1} → statement M
+unfolding readPictureOf must
 read-picture-spec =
     tie.close
     (tie.spec
     (λ c κs. search needs)
-    returns
+    (λ c. c .refuse .ensures ∙ rw (ne-eqb _ _ (c .before .if1 .taken)))
     (λ c κs. search needs)
     (λ c κs. search needs)
     (λ c κs. search needs)
-    returns-2
+    (λ c. c .refuse2 .ensures ∙ rw (eq-eqb _ _ (c .before .before .before .before .if1 .left), ← c .before .before .before .rect-at .ensures, ← c .before .before .rect-in-limits .ensures, not-true (c .before .before .rect-in-limits .result) (c .before .if2 .taken)))
     (λ c κs. search needs)
-    returns-3)
+    (λ c. c .accept .ensures ∙ rw (eq-eqb _ _ (c .before .before .before .before .if1 .left), ← c .before .before .before .rect-at .ensures, ← c .before .before .rect-in-limits .ensures, not-false (c .before .before .rect-in-limits .result) (c .before .if2 .left))))

@@ -6,31 +6,20 @@ use borrow.Author.Needs.{needs}
 use Rattle.reader.proofs.read_screen.Statement.{statement}
 use Rattle.reader.proofs.read_screen.Tie as tie
 
-returns : tie.Need-returns
-unfolding readScreenOf must
-returns c = c .refuse .ensures ∙ rw (ne-eqb _ _ (c .before .if1 .taken))
-
-returns-2 : tie.Need-returns-2
-unfolding readScreenOf must
-returns-2 c = c .refuse2 .ensures ∙ rw (eq-eqb _ _ (c .before .before .before .before .before .if1 .left), ← c .before .before .before .before .number-at .ensures, ← c .before .before .before .number-at2 .ensures, ← c .before .before .screen-in-limits .ensures, not-true (c .before .before .screen-in-limits .result) (c .before .if2 .taken))
-
-returns-3 : tie.Need-returns-3
-unfolding readScreenOf must
-returns-3 c = c .accept .ensures ∙ rw (eq-eqb _ _ (c .before .before .before .before .before .before .before .before .if1 .left), ← c .before .before .before .before .before .before .before .number-at .ensures, ← c .before .before .before .before .before .before .number-at2 .ensures, ← c .before .before .before .before .before .screen-in-limits .ensures, not-false (c .before .before .before .before .before .screen-in-limits .result) (c .before .before .before .before .if2 .left), ← c .before .before .before .max .ensures, ← c .before .before .max2 .ensures, ← c .before .new .ensures)
-
 pub read-screen-spec : {M : Type 1} → statement M
+unfolding readScreenOf must
 read-screen-spec =
     tie.close
     (tie.spec
     (λ c κs. search needs)
-    returns
+    (λ c. c .refuse .ensures ∙ rw (ne-eqb _ _ (c .before .if1 .taken)))
     (λ c κs. search needs)
     (λ c κs. search needs)
     (λ c κs. search needs)
     (λ c κs. search needs)
-    returns-2
+    (λ c. c .refuse2 .ensures ∙ rw (eq-eqb _ _ (c .before .before .before .before .before .if1 .left), ← c .before .before .before .before .number-at .ensures, ← c .before .before .before .number-at2 .ensures, ← c .before .before .screen-in-limits .ensures, not-true (c .before .before .screen-in-limits .result) (c .before .if2 .taken)))
     (λ c κs. search needs)
     (λ c κs. search needs)
     (λ c κs. search needs)
     (λ c κs. search needs)
-    returns-3)
+    (λ c. c .accept .ensures ∙ rw (eq-eqb _ _ (c .before .before .before .before .before .before .before .before .if1 .left), ← c .before .before .before .before .before .before .before .number-at .ensures, ← c .before .before .before .before .before .before .number-at2 .ensures, ← c .before .before .before .before .before .screen-in-limits .ensures, not-false (c .before .before .before .before .before .screen-in-limits .result) (c .before .before .before .before .if2 .left), ← c .before .before .before .max .ensures, ← c .before .before .max2 .ensures, ← c .before .new .ensures)))

@@ -13,10 +13,6 @@ Inv-loop value n at₀ i₀ at i = (i ≤ n) × (at ≡ filled 32 value i)
 abbrev μ-loop : tie.MeasureT-loop
 μ-loop value n at₀ i₀ at i = n - i
 
-loop-holds : tie.Need-loop-holds Inv-loop μ-loop
-unfolding filled rects
-loop-holds c = (omega arith, refl)
-
 loop-again : tie.Need-loop-again Inv-loop μ-loop
 loop-again c =
     let l = c .before .before .loop in
@@ -28,12 +24,13 @@ returns c =
     rw e (c .before .loop .inv .1)
 
 pub saved-rects-spec : {M : Type 1} → statement M
+unfolding filled rects
 saved-rects-spec =
     tie.close
     (tie.spec
     Inv-loop
     μ-loop
-    loop-holds
+    (λ c. (omega arith, refl))
     (λ c κs. search needs)
     (λ c. omega arith)
     (λ c. omega arith)

@@ -3,9 +3,6 @@ use Rattle.replay.proofs.Counting.{counts}
 use Rattle.replay.proofs.load.Statement.{statement}
 use Rattle.replay.proofs.load.Tie as tie
 
-returns : tie.Need-returns
-returns c = counts _ _ (search needs)
-
 pub load-spec : {M : Type 1} → statement M
 load-spec =
     tie.close
@@ -18,4 +15,4 @@ load-spec =
     (λ c. search needs)
     (λ c κs. search needs)
     (λ c. search needs)
-    returns)
+    (λ c. counts _ _ (search needs)))

@@ -3,9 +3,11 @@ use borrow.Author.Needs.{needs}
 use Rattle.saved.proofs.capture.Statement.{statement}
 use Rattle.saved.proofs.capture.Tie as tie
 
-returns : tie.Need-returns
-unfolding captureOf
-returns c = let r = c .before .before .elements in rw (← r .ensures .1, ← r .ensures .0, ← c .captured .ensures)
-
 pub capture-spec : {M : Type 1} → statement M
-capture-spec = tie.close (tie.spec (λ c κs. search needs) (λ c κs. search needs) returns)
+unfolding captureOf
+capture-spec =
+    tie.close
+    (tie.spec
+    (λ c κs. search needs)
+    (λ c κs. search needs)
+    (λ c. let r = c .before .before .elements in rw (← r .ensures .1, ← r .ensures .0, ← c .captured .ensures)))

@@ -19,9 +19,6 @@ Inv-loop w h at n out₀ i₀ out i = (i ≤ n) × (length out ≡ 32) × (out �
 abbrev μ-loop : tie.MeasureT-loop
 μ-loop w h at n out₀ i₀ out i = n - i
 
-loop-holds : tie.Need-loop-holds Inv-loop μ-loop
-loop-holds c = let n : length (c .before .args .saved) ≡ 32 = search sized in (omega arith, n, refl)
-
 loop-again : tie.Need-loop-again Inv-loop μ-loop
 loop-again c = let l = c .before .before .before in
     let a = l .before .before .args in
@@ -43,7 +40,7 @@ captured-spec =
     (tie.spec
     Inv-loop
     μ-loop
-    loop-holds
+    (λ c. let n : length (c .before .args .saved) ≡ 32 = search sized in (omega arith, n, refl))
     (λ c. omega arith)
     (λ c. omega arith)
     (λ c κs. search needs)

@@ -3,11 +3,8 @@ use Rattle.saved.specs.Saved.{onScreenOf}
 use Rattle.saved.proofs.on_screen.Statement.{statement}
 use Rattle.saved.proofs.on_screen.Tie as tie
 
-returns : tie.Need-returns
-unfolding onScreenOf
-returns c = rw (← c .before .before .before .before .before .before .before .before .before .min .ensures, ← c .before .before .before .before .before .before .before .before .clamp .ensures, ← c .before .before .before .before .before .before .min2 .ensures, ← c .before .before .before .before .before .clamp2 .ensures) (rw (← c .before .before .before .clamp3 .ensures, ← c .before .clamp4 .ensures, ← c .new .ensures))
-
 pub on-screen-spec : {M : Type 1} → statement M
+unfolding onScreenOf
 on-screen-spec =
     tie.close
     (tie.spec
@@ -18,4 +15,4 @@ on-screen-spec =
     (λ c κs. search needs)
     (λ c κs. search needs)
     (λ c κs. search needs)
-    returns)
+    (λ c. rw (← c .before .before .before .before .before .before .before .before .before .min .ensures, ← c .before .before .before .before .before .before .before .before .clamp .ensures, ← c .before .before .before .before .before .before .min2 .ensures, ← c .before .before .before .before .before .clamp2 .ensures) (rw (← c .before .before .before .clamp3 .ensures, ← c .before .clamp4 .ensures, ← c .new .ensures))))

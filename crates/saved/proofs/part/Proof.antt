@@ -3,9 +3,6 @@ use Rattle.saved.specs.Saved.{partOf}
 use Rattle.saved.proofs.part.Statement.{statement}
 use Rattle.saved.proofs.part.Tie as tie
 
-returns : tie.Need-returns
-unfolding partOf
-returns c = rw (← c .new .ensures)
-
 pub part-spec : {M : Type 1} → statement M
-part-spec = tie.close (tie.spec (λ c κs. search needs) returns)
+unfolding partOf
+part-spec = tie.close (tie.spec (λ c κs. search needs) (λ c. rw (← c .new .ensures)))

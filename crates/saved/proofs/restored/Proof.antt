@@ -19,10 +19,6 @@ Inv-loop w h n saved count at₀ i₀ at i = (i ≤ count) × (length at ≡ 19)
 abbrev μ-loop : tie.MeasureT-loop
 μ-loop w h n saved count at₀ i₀ at i = count - i
 
-loop-holds : tie.Need-loop-holds Inv-loop μ-loop
-unfolding restoredOf
-loop-holds c = let n : length (c .before .args .elements .at) ≡ 19 = search sized in (omega arith, n, refl)
-
 loop-again : tie.Need-loop-again Inv-loop μ-loop
 loop-again c = let l = c .before .before in
     let a = l .before .before .args in
@@ -43,12 +39,13 @@ returns c = let l = c .before in
     (ap (take (a .elements .count)) (l .loop .inv .2) ∙ rw e (restored-front (a .w) (a .h) (a .elements .count) (take (a .n) (a .t3)) (a .elements .at)), refl)
 
 pub restored-spec : {M : Type 1} → statement M
+unfolding restoredOf
 restored-spec =
     tie.close
     (tie.spec
     Inv-loop
     μ-loop
-    loop-holds
+    (λ c. let n : length (c .before .args .elements .at) ≡ 19 = search sized in (omega arith, n, refl))
     (λ c. omega arith)
     (λ c. omega arith)
     (λ c. omega arith)

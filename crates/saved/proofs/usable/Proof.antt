@@ -3,11 +3,8 @@ use Rattle.saved.proofs.usable.Statement.{statement}
 use Rattle.saved.proofs.usable.Tie as tie
 use Rattle.saved.specs.Saved.{usableOf}
 
-returns : tie.Need-returns
-unfolding usableOf
-returns c = rw (← c .before .before .before .is-finite .ensures, ← c .before .before .is-finite2 .ensures, ← c .before .is-finite3 .ensures, ← c .is-finite4 .ensures)
-
 pub usable-spec : {M : Type 1} → statement M
+unfolding usableOf
 usable-spec =
     tie.close
     (tie.spec
@@ -15,4 +12,4 @@ usable-spec =
     (λ c κs. search needs)
     (λ c κs. search needs)
     (λ c κs. search needs)
-    returns)
+    (λ c. rw (← c .before .before .before .is-finite .ensures, ← c .before .before .is-finite2 .ensures, ← c .before .is-finite3 .ensures, ← c .is-finite4 .ensures)))

@@ -28,13 +28,6 @@ Inv-loop w h count aspect obstacles center best₀ j₀ j-end best j =
 abbrev μ-loop : tie.MeasureT-loop
 μ-loop w h count aspect obstacles center best₀ j₀ j-end best j = count + 1 - j
 
-loop-holds : tie.Need-loop-holds Inv-loop2 μ-loop2 Inv-loop μ-loop
-loop-holds c = (zero-le, refl, refl)
-
-loop2-holds : tie.Need-loop2-holds Inv-loop2 μ-loop2 Inv-loop μ-loop
-unfolding widthAt
-loop2-holds c = (zero-le, rw (c .max .ensures, c .before .min .ensures))
-
 loop2-again : tie.Need-loop2-again Inv-loop2 μ-loop2 Inv-loop μ-loop
 loop2-again c =
     let l = c .before .before .before .before .before in
@@ -73,6 +66,7 @@ returns c =
     rw (e, take-first) at (l .loop .inv .2)
 
 pub centered-spec : {M : Type 1} → statement M
+unfolding widthAt
 centered-spec =
     tie.close
     (tie.spec
@@ -81,14 +75,14 @@ centered-spec =
     Inv-loop
     μ-loop
     (λ c. omega arith)
-    loop-holds
+    (λ c. (zero-le, refl, refl))
     (λ c. omega arith)
     (λ c. omega arith)
     (λ c. omega arith)
     (λ c κs. search needs)
     (λ c κs. search needs)
     (λ c κs. search needs)
-    loop2-holds
+    (λ c. (zero-le, rw (c .max .ensures, c .before .min .ensures)))
     (λ c. omega arith)
     (λ c. omega arith)
     (λ c κs. search needs)

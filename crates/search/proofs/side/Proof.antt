@@ -34,16 +34,6 @@ Inv-loop w h count aspect obstacles best₀ i₀ i-end best i =
 abbrev μ-loop : tie.MeasureT-loop
 μ-loop w h count aspect obstacles best₀ i₀ i-end best i = count + 1 - i
 
-loop-holds : tie.Need-loop-holds Inv-loop3 μ-loop3 Inv-loop2 μ-loop2 Inv-loop μ-loop
-loop-holds c = (zero-le, refl, refl)
-
-loop2-holds : tie.Need-loop2-holds Inv-loop3 μ-loop3 Inv-loop2 μ-loop2 Inv-loop μ-loop
-loop2-holds c = (zero-le, refl, refl)
-
-loop3-holds : tie.Need-loop3-holds Inv-loop3 μ-loop3 Inv-loop2 μ-loop2 Inv-loop μ-loop
-unfolding sideWidthAt
-loop3-holds c = (zero-le, rw (c .max .ensures, c .before .min .ensures))
-
 loop3-again : tie.Need-loop3-again Inv-loop3 μ-loop3 Inv-loop2 μ-loop2 Inv-loop μ-loop
 loop3-again c =
     let l = c .before .before .before .before .before in
@@ -103,6 +93,7 @@ returns c =
     rw (e, take-first) at (l .loop .inv .2)
 
 pub side-spec : {M : Type 1} → statement M
+unfolding sideWidthAt
 side-spec =
     tie.close
     (tie.spec
@@ -113,20 +104,20 @@ side-spec =
     Inv-loop
     μ-loop
     (λ c. omega arith)
-    loop-holds
+    (λ c. (zero-le, refl, refl))
     (λ c. omega arith)
     (λ c. omega arith)
     (λ c. omega arith)
     (λ c κs. search needs)
     (λ c. omega arith)
-    loop2-holds
+    (λ c. (zero-le, refl, refl))
     (λ c. omega arith)
     (λ c. omega arith)
     (λ c. omega arith)
     (λ c κs. search needs)
     (λ c κs. search needs)
     (λ c κs. search needs)
-    loop3-holds
+    (λ c. (zero-le, rw (c .max .ensures, c .before .min .ensures)))
     (λ c. omega arith)
     (λ c. omega arith)
     (λ c κs. search needs)

@@ -23,13 +23,6 @@ Inv-loop out₀ at n controls next₀ i₀ out next i = (i ≤ n) × ((out, next
 abbrev μ-loop : tie.MeasureT-loop
 μ-loop out₀ at n controls next₀ i₀ out next i = n - i
 
-loop-holds : tie.Need-loop-holds Inv-loop μ-loop
-unfolding flatMap
-loop-holds c = (omega arith, none _ _)
-
-array-share-prefix-bytes : tie.Need-array-share-prefix-bytes Inv-loop μ-loop
-array-share-prefix-bytes c = let k : length (c .before .before .name .result .bytes) ≡ 6 = search sized in omega arith
-
 slice-aggregate-put-line : tie.Need-slice-aggregate-put-line Inv-loop μ-loop
 slice-aggregate-put-line c =
     let n = c .before .before .before .name .result in
@@ -59,16 +52,17 @@ returns c =
     rw e (l .inv .1)
 
 pub put-controls-spec : {M : Type 1} → statement M
+unfolding flatMap
 put-controls-spec =
     tie.close
     (tie.spec
     Inv-loop
     μ-loop
-    loop-holds
+    (λ c. (omega arith, none _ _))
     (λ c. omega arith)
     (λ c. omega arith)
     (λ c κs. search needs)
-    array-share-prefix-bytes
+    (λ c. let k : length (c .before .before .name .result .bytes) ≡ 6 = search sized in omega arith)
     slice-aggregate-put-line
     put-line-requires
     (λ c. omega arith)

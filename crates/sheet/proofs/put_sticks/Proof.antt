@@ -12,9 +12,6 @@ use borrow.Author.Needs.{needs}
 use Rattle.sheet.proofs.put_sticks.Statement.{statement}
 use Rattle.sheet.proofs.put_sticks.Tie as tie
 
-returns : tie.Need-returns
-returns c = rw (no-stick _ _ (c .if1 .taken)) (none _ _)
-
 put-line-requires : tie.Need-put-line-requires
 put-line-requires c κs =
     let s = c .before .before .before .before .before in
@@ -41,7 +38,7 @@ pub put-sticks-spec : {M : Type 1} → statement M
 put-sticks-spec =
     tie.close
     (tie.spec
-    returns
+    (λ c. rw (no-stick _ _ (c .if1 .taken)) (none _ _))
     (λ c. search needs)
     (λ c. search needs)
     put-line-requires

@@ -6,9 +6,6 @@ use borrow.Author.Needs.{needs}
 use Rattle.sheet.proofs.put_toolbar.Statement.{statement}
 use Rattle.sheet.proofs.put_toolbar.Tie as tie
 
-put-line-requires : tie.Need-put-line-requires
-put-line-requires c κs = (element-printable (c .before .before .before .pre .0 .pause), omega (arith, length-toolbar (c .before .before .before .args .l)))
-
 put-line-requires-2 : tie.Need-put-line-requires-2
 put-line-requires-2 c κs = (element-printable (c .before .before .before .before .before .before .before .before .pre .0 .playback), omega (arith, ends, length-toolbar (c .before .before .before .before .before .before .before .before .args .l)))
 
@@ -18,15 +15,12 @@ put-line-requires-3 c κs = (element-printable (c .before .before .before .befor
 put-line-requires-4 : tie.Need-put-line-requires-4
 put-line-requires-4 c κs = (element-printable (c .before .before .before .before .before .before .before .before .before .before .before .before .before .before .before .before .before .before .pre .0 .mute), omega (arith, ends, length-toolbar (c .before .before .before .before .before .before .before .before .before .before .before .before .before .before .before .before .before .before .args .l)))
 
-returns : tie.Need-returns
-returns c = rw (toolbar-text (c .before .before .before .before .before .before .before .before .before .before .before .before .before .before .before .before .before .before .before .before .before .args .l)) (after _ _ _ _ (c .before .before .before .before .before .before .before .before .before .before .before .before .before .before .before .before .before .put-line .ensures) (after _ _ _ _ (c .before .before .before .before .before .before .before .before .before .before .before .before .put-line2 .ensures) (after _ _ _ _ (c .before .before .before .before .before .before .before .put-line3 .ensures) (c .before .before .put-line4 .ensures))))
-
 pub put-toolbar-spec : {M : Type 1} → statement M
 put-toolbar-spec =
     tie.close
     (tie.spec
     (λ c. search needs)
-    put-line-requires
+    (λ c κs. (element-printable (c .before .before .before .pre .0 .pause), omega (arith, length-toolbar (c .before .before .before .args .l))))
     (λ c. search needs)
     put-line-requires-2
     (λ c. search needs)
@@ -34,4 +28,4 @@ put-toolbar-spec =
     (λ c. search needs)
     put-line-requires-4
     (λ c. search needs)
-    returns)
+    (λ c. rw (toolbar-text (c .before .before .before .before .before .before .before .before .before .before .before .before .before .before .before .before .before .before .before .before .before .args .l)) (after _ _ _ _ (c .before .before .before .before .before .before .before .before .before .before .before .before .before .before .before .before .before .put-line .ensures) (after _ _ _ _ (c .before .before .before .before .before .before .before .before .before .before .before .before .put-line2 .ensures) (after _ _ _ _ (c .before .before .before .before .before .before .before .put-line3 .ensures) (c .before .before .put-line4 .ensures))))))

@@ -16,10 +16,13 @@ returns c =
     let h = rw (c .before .answer .given .1) at (c .before .before .before .pre) in
     rw (c .before .answer .given .1) (toZ-pos w32 (omega (arith, h)))
 
-returns-2 : tie.Need-returns-2
-returns-2 c = rw (c .before .before .answer2 .given .1) (stored (c .minus .ok) (c .minus .ensures))
-
 pub layout-number-spec : {M : Type 1} → statement M
 layout-number-spec =
     tie.close
-    (tie.spec (λ c. search needs) cast-result (λ c. search needs) (λ c κs. search needs) returns returns-2)
+    (tie.spec
+    (λ c. search needs)
+    cast-result
+    (λ c. search needs)
+    (λ c κs. search needs)
+    returns
+    (λ c. rw (c .before .before .answer2 .given .1) (stored (c .minus .ok) (c .minus .ensures))))

@@ -5,11 +5,10 @@ use Rattle.geometry.proofs.Signed.{minus-fits, minus-is}
 use Rattle.thumb_layout.proofs.minus.Statement.{statement}
 use Rattle.thumb_layout.proofs.minus.Tie as tie
 
-sub-result : tie.Need-sub-result
-sub-result c = minus-fits (pos (c .args .refusal)) (omega arith)
-
-returns : tie.Need-returns
-returns c = minus-is (pos (c .args .refusal)) (omega arith)
-
 pub minus-spec : {M : Type 1} → statement M
-minus-spec = tie.close (tie.spec (λ c. search needs) sub-result returns)
+minus-spec =
+    tie.close
+    (tie.spec
+    (λ c. search needs)
+    (λ c. minus-fits (pos (c .args .refusal)) (omega arith))
+    (λ c. minus-is (pos (c .args .refusal)) (omega arith)))

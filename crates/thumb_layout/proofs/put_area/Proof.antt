@@ -5,15 +5,6 @@ use borrow.Author.Needs.{needs}
 use Rattle.thumb_layout.proofs.put_area.Statement.{statement}
 use Rattle.thumb_layout.proofs.put_area.Tie as tie
 
-returns : tie.Need-returns
-returns c = no-room _ _ _ _ _ (c .if1 .taken)
-
-slice-write-area-2 : tie.Need-slice-write-area-2
-slice-write-area-2 c = simp length-set (omega arith)
-
-slice-write-area-3 : tie.Need-slice-write-area-3
-slice-write-area-3 c = simp length-set (omega arith)
-
 returns-2 : tie.Need-returns-2
 returns-2 c =
     let r = c .before .args .r in
@@ -23,10 +14,10 @@ pub put-area-spec : {M : Type 1} → statement M
 put-area-spec =
     tie.close
     (tie.spec
-    returns
+    (λ c. no-room _ _ _ _ _ (c .if1 .taken))
     (λ c. search needs)
-    slice-write-area-2
-    slice-write-area-3
+    (λ c. simp length-set (omega arith))
+    (λ c. simp length-set (omega arith))
     (λ c. search needs)
     (λ c. search needs)
     returns-2)

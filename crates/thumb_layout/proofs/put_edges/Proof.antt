@@ -7,15 +7,6 @@ use borrow.Author.Needs.{needs}
 use Rattle.thumb_layout.proofs.put_edges.Statement.{statement}
 use Rattle.thumb_layout.proofs.put_edges.Tie as tie
 
-returns : tie.Need-returns
-returns c = no-room _ _ _ _ _ (c .if1 .taken)
-
-slice-set-from-top : tie.Need-slice-set-from-top
-slice-set-from-top c = simp length-set (omega arith)
-
-slice-set-from-right : tie.Need-slice-set-from-right
-slice-set-from-right c = simp length-set (omega arith)
-
 returns-2 : tie.Need-returns-2
 returns-2 c =
     let s = c .before .before .before .before .before in
@@ -32,10 +23,10 @@ pub put-edges-spec : {M : Type 1} → statement M
 put-edges-spec =
     tie.close
     (tie.spec
-    returns
+    (λ c. no-room _ _ _ _ _ (c .if1 .taken))
     (λ c. search needs)
-    slice-set-from-top
-    slice-set-from-right
+    (λ c. simp length-set (omega arith))
+    (λ c. simp length-set (omega arith))
     (λ c. search needs)
     (λ c. search needs)
     returns-2)

@@ -15,10 +15,6 @@ use Rattle.thumb_layout.specs.Interface.{tlFilmOf, tlFilmOutputOf}
 use Rattle.thumb_layout.proofs.tl_film.Statement.{statement}
 use Rattle.thumb_layout.proofs.tl_film.Tie as tie
 
-returns : tie.Need-returns
-unfolding tlFilmOf tlFilmOutputOf must
-returns c = let e = lt-leb 1024 _ (c .if1 .taken) in (rw e, rw e)
-
 put-bytes-requires : tie.Need-put-bytes-requires
 put-bytes-requires c κs =
     let f = c .before .before .before .film-sheet in
@@ -42,10 +38,11 @@ returns-2 c =
     (rw (e, f .ensures) (toZ-pos w32 (omega (arith, film-fits (now (s .before .before .before .before .args .order))))), rw e (rw (k, f .ensures) at (c .before .before .put-bytes .ensures)))
 
 pub tl-film-spec : {M : Type 1} → statement M
+unfolding tlFilmOf tlFilmOutputOf must
 tl-film-spec =
     tie.close
     (tie.spec
-    returns
+    (λ c. let e = lt-leb 1024 _ (c .if1 .taken) in (rw e, rw e))
     (λ c κs. search needs)
     (λ c. search needs)
     put-bytes-requires

@@ -6,9 +6,6 @@ use borrow.Author.Needs.{needs}
 use Rattle.thumb_layout.proofs.tl_layout.Statement.{statement}
 use Rattle.thumb_layout.proofs.tl_layout.Tie as tie
 
-layout-number-requires : tie.Need-layout-number-requires
-layout-number-requires c κs = rw (c .before .before .layout .ensures .0) (layout-small _ _)
-
 returns : tie.Need-returns
 unfolding tlLayoutOf
 returns c =
@@ -16,4 +13,10 @@ returns c =
     (stored (c .layout-number .ok) (c .layout-number .ensures ∙ ap numberOf (l .0)), (l .1 .0, rw (l .0) at (l .1 .1)))
 
 pub tl-layout-spec : {M : Type 1} → statement M
-tl-layout-spec = tie.close (tie.spec (λ c κs. search needs) layout-number-requires (λ c. search needs) returns)
+tl-layout-spec =
+    tie.close
+    (tie.spec
+    (λ c κs. search needs)
+    (λ c κs. rw (c .before .before .layout .ensures .0) (layout-small _ _))
+    (λ c. search needs)
+    returns)

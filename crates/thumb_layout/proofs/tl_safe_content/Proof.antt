@@ -6,10 +6,6 @@ use borrow.Author.Needs.{needs}
 use Rattle.thumb_layout.proofs.tl_safe_content.Statement.{statement}
 use Rattle.thumb_layout.proofs.tl_safe_content.Tie as tie
 
-returns : tie.Need-returns
-unfolding tlSafeContentOf tlSafeContentOutputOf contentFour must
-returns c = let e = ne-eqb _ _ (c .if1 .taken) in (rw e, rw e)
-
 returns-2 : tie.Need-returns-2
 unfolding tlSafeContentOf tlSafeContentOutputOf contentFour must
 returns-2 c =
@@ -32,10 +28,11 @@ returns-3 c =
     (rw (e, ← s), rw (e, ← s))
 
 pub tl-safe-content-spec : {M : Type 1} → statement M
+unfolding tlSafeContentOf tlSafeContentOutputOf contentFour must
 tl-safe-content-spec =
     tie.close
     (tie.spec
-    returns
+    (λ c. let e = ne-eqb _ _ (c .if1 .taken) in (rw e, rw e))
     (λ c κs. search needs)
     (λ c κs. search needs)
     (λ c κs. search needs)

@@ -6,9 +6,6 @@ use borrow.Author.Needs.{needs}
 use Rattle.thumb_layout.proofs.tl_viewport_layout.Statement.{statement}
 use Rattle.thumb_layout.proofs.tl_viewport_layout.Tie as tie
 
-layout-number-requires : tie.Need-layout-number-requires
-layout-number-requires c κs = rw (c .before .before .viewport-layout .ensures .0) (viewport-small _ _ _ _)
-
 returns : tie.Need-returns
 unfolding tlViewportLayoutOf
 returns c =
@@ -17,4 +14,9 @@ returns c =
 
 pub tl-viewport-layout-spec : {M : Type 1} → statement M
 tl-viewport-layout-spec =
-    tie.close (tie.spec (λ c κs. search needs) layout-number-requires (λ c. search needs) returns)
+    tie.close
+    (tie.spec
+    (λ c κs. search needs)
+    (λ c κs. rw (c .before .before .viewport-layout .ensures .0) (viewport-small _ _ _ _))
+    (λ c. search needs)
+    returns)

@@ -5,11 +5,14 @@ use borrow.Author.Needs.{needs}
 use Rattle.thumb_layout.proofs.two.Statement.{statement}
 use Rattle.thumb_layout.proofs.two.Tie as tie
 
-returns : tie.Need-returns
-unfolding twoOf
-returns c = rw (stored (c .before .t5 .given) refl, stored (c .t9 .given) refl)
-
 pub two-spec : {M : Type 1} → statement M
+unfolding twoOf
 two-spec =
     tie.close
-    (tie.spec (λ c. search needs) (λ c. search needs) (λ c. search needs) (λ c. search needs) (λ c. search needs) returns)
+    (tie.spec
+    (λ c. search needs)
+    (λ c. search needs)
+    (λ c. search needs)
+    (λ c. search needs)
+    (λ c. search needs)
+    (λ c. rw (stored (c .before .t5 .given) refl, stored (c .t9 .given) refl)))

@@ -10,19 +10,18 @@ use Rattle.writer.proofs.Stores.{then, length-stored}
 use Rattle.writer.proofs.put_head.Statement.{statement}
 use Rattle.writer.proofs.put_head.Tie as tie
 
-put-short-requires : tie.Need-put-short-requires
-put-short-requires c κs = simp length-set (omega arith)
-
 returns : tie.Need-returns
 unfolding headBytes stored
 returns c =
     let a = c .before .before .before .before .before .args in
     then (now (a .out)) (a .at) (a .at + 1) (a .tag ∷ []) (shortBytes (a .n)) refl (c .before .before .put-short .ensures) refl
 
-same-length : tie.Need-same-length
-same-length c = ap length (returns c) ∙ length-stored _ _ _
-
 pub put-head-spec : {M : Type 1} → statement M
 put-head-spec =
     tie.close
-    (tie.spec (λ c. search needs) (λ c. search needs) put-short-requires same-length returns)
+    (tie.spec
+    (λ c. search needs)
+    (λ c. search needs)
+    (λ c κs. simp length-set (omega arith))
+    (λ c. ap length (returns c) ∙ length-stored _ _ _)
+    returns)

@@ -18,9 +18,6 @@ Inv-loop out₀ at n controls i₀ out i = (i ≤ n) × (length out ≡ length o
 abbrev μ-loop : tie.MeasureT-loop
 μ-loop out₀ at n controls i₀ out i = n - i
 
-loop-holds : tie.Need-loop-holds Inv-loop μ-loop
-loop-holds c = (omega arith, refl, no-items maskBytes _ _)
-
 loop-again : tie.Need-loop-again Inv-loop μ-loop
 unfolding maskBytes
 loop-again c =
@@ -43,7 +40,7 @@ put-masks-spec =
     (tie.spec
     Inv-loop
     μ-loop
-    loop-holds
+    (λ c. (omega arith, refl, no-items maskBytes _ _))
     (λ c. omega arith)
     (λ c. omega arith)
     (λ c. omega arith)
