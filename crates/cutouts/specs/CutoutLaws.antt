@@ -11,6 +11,7 @@ use lib.Ieee.Fits.{add-fits}
 use lib.Ieee.Bits.{is-true}
 use lib.ListN.{length, getD, set}
 use Rattle.geometry.specs.declared.Rect.{Rect}
+use Rattle.geometry.specs.Rect.{insideOf}
 use Rattle.float.proofs.Booleans.{either, by-test, both}
 use Rattle.layout.specs.declared.Layout.{Layout}
 use Rattle.layout.specs.Actions.{actionElementsOf}
@@ -24,7 +25,7 @@ use Rattle.layout.specs.Lists.{allOf, find, filterMap, retain, enumerateFrom}
 use Rattle.layout.specs.SetElementLaws.{Kept, set-elements-kept, set-elements-list}
 use Rattle.moves.specs.declared.Move.{Move}
 use Rattle.moves.specs.declared.Move.the-variants.{Stay, Go}
-use Rattle.moves.specs.Moves.{movedOf, insideOf, clearOf, allClearOf, candidatesOf, orderedOf, searchOf}
+use Rattle.moves.specs.Moves.{movedOf, clearOf, allClearOf, candidatesOf, orderedOf, searchOf}
 use Rattle.cutouts.specs.Cutouts.{withAreaOf, membersOf, othersOf, hitsOf, shiftOf, settleOf, singlesOf, avoidOf, avoidCutoutsOf}
 use Rattle.cutouts.specs.Settled.{Settled, AllSettled, none, next}
 

@@ -15,9 +15,9 @@ use lib.Ieee.Fits.{down-pos, add-fits}
 use lib.Ieee.Order.{round-mono}
 use Rattle.float.specs.Float.{_⊕_, k0, k8192}
 use Rattle.geometry.specs.declared.Rect.{Rect}
+use Rattle.geometry.specs.Rect.{insideOf}
 use Rattle.layout.specs.declared.Layout.{Layout}
 use Rattle.layout.specs.ElementLaws.{length-elements}
-use Rattle.moves.specs.Moves.{insideOf}
 use Rattle.numerics.specs.Each.{Each}
 use Rattle.numerics.specs.Value.{magnitude, Whole, eps, posPart, AtMost, P}
 use Rattle.numerics.specs.Range.{In, at}

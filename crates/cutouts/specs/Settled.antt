@@ -6,7 +6,7 @@ use mathlib.Core.Logic.{_⊎_}
 use lib.Dec.{T}
 use lib.Ieee.{Float, binary32, fits}
 use Rattle.geometry.specs.declared.Rect.{Rect}
-use Rattle.moves.specs.Moves.{insideOf}
+use Rattle.geometry.specs.Rect.{insideOf}
 
 -- on a screen of w by h as f32 reckons, at an f32 corner, and as large as it was
 pub record Moved (w h : Float) (old new : Rect) : Type 0 where

@@ -2,9 +2,9 @@
 use mathlib.Core.Bool.{Bool, true, false, not, _&&_, _||_}
 use mathlib.Core.List.{List, [], _∷_, _++_, map}
 use lib.Ieee.{Float, le}
-use Rattle.float.specs.Float.{_⊕_, _⊖_, _⊘_, k0, k0·01, k2, k3·99}
+use Rattle.float.specs.Float.{_⊕_, _⊖_, _⊘_, k0·01, k2, k3·99}
 use Rattle.geometry.specs.declared.Rect.{Rect}
-use Rattle.geometry.specs.Rect.{overlapsOf}
+use Rattle.geometry.specs.Rect.{insideOf, overlapsOf}
 use Rattle.hypot.specs.Hypot.{hypotOf}
 use Rattle.layout.specs.declared.Control.{Control}
 use Rattle.layout.specs.declared.Layout.{Layout}
@@ -35,13 +35,10 @@ separateOf i j =
     not (overlapsOf a b)
     || (i .face && (j .face && le ((a .w ⊕ b .w) ⊘ k2 ⊕ k3·99) (hypotOf (a .x ⊕ a .w ⊘ k2 ⊖ b .x ⊖ b .w ⊘ k2) (a .y ⊕ a .h ⊘ k2 ⊖ b .y ⊖ b .h ⊘ k2))))
 
-unfoldable pub onScreenOf : Rect → Float → Float → Bool
-onScreenOf r w h = le k0 (r .x) && (le k0 (r .y) && (le (r .x ⊕ r .w) (w ⊕ k0·01) && le (r .y ⊕ r .h) (h ⊕ k0·01)))
-
 module _ (w h : Float) (game : Rect) (holes : List Rect) where
   -- on the screen to 0.01, and clear of the picture and of the holes
   unfoldable pub freeOf : Rect → Bool
-  freeOf r = onScreenOf r w h && (not (overlapsOf r game) && not (anyOf (overlapsOf r) holes))
+  freeOf r = insideOf r (w ⊕ k0·01) (h ⊕ k0·01) && (not (overlapsOf r game) && not (anyOf (overlapsOf r) holes))
 
   -- each input is free, and separate from those after it
   unfoldable pub allFree : List Input → Bool

@@ -4,7 +4,7 @@ ghost use Prim.Native.Nat.{_≤_, _<_, _+_};
 ghost use lib.ListN.{take, drop};
 ghost use Rattle.layout.specs.Layout.{cutoutList};
 ghost use Rattle.layout.specs.Lists.{allOf};
-ghost use Rattle.fits.specs.Fits.{inputsOf, separateOf, onScreenOf, freeOf, fitsOf};
+ghost use Rattle.fits.specs.Fits.{inputsOf, separateOf, freeOf, fitsOf};
 use geometry::Rect;
 use hypot::hypot;
 use layout::Cutouts;
@@ -67,17 +67,11 @@ fn separate(i: Input, j: Input) -> bool
                 >= (a.w + b.w) / 2.0 + 3.99)
 }
 
-fn on_screen(r: Rect, w: f32, h: f32) -> bool
-    ensures { λ b. ⌜ b ≡ onScreenOf r w h ⌝ }
-{
-    r.x >= 0.0 && (r.y >= 0.0 && (r.x + r.w <= w + 0.01 && r.y + r.h <= h + 0.01))
-}
-
 fn free(r: Rect, w: f32, h: f32, game: Rect, holes: Cutouts) -> bool
     requires { ⌜ holes .count ≤ 16 ⌝ }
     ensures { λ b. ⌜ b ≡ freeOf w h game (cutoutList holes) r ⌝ }
 {
-    on_screen(r, w, h) && (!r.overlaps(game) && !holes.overlap(r))
+    r.inside(w + 0.01, h + 0.01) && (!r.overlaps(game) && !holes.overlap(r))
 }
 
 // An input is separate from each of those after place i.

@@ -16,6 +16,10 @@ emptyRect = newOf k0 k0 k0 k0
 unfoldable pub containsOf : Rect → Float → Float → Bool
 containsOf r x y = le (r .x) x && (le (r .y) y && (lt x (r .x ⊕ r .w) && lt y (r .y ⊕ r .h)))
 
+-- on a screen w by h: a test of `avoid_cutouts`, and with 0.01 more of `fits` in picture.rs
+unfoldable pub insideOf : Rect → Float → Float → Bool
+insideOf r w h = le k0 (r .x) && (le k0 (r .y) && (le (r .x ⊕ r .w) w && le (r .y ⊕ r .h) h))
+
 unfoldable pub fitOf : Rect → Float → Rect
 fitOf r aspect =
     let w = minOf (r .w) (r .h ⊗ aspect) in

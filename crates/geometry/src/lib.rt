@@ -1,6 +1,6 @@
 // Rectangles in layout units, as input.rs has them.
 ghost use mathlib.Core.Path.{_≡_};
-ghost use Rattle.geometry.specs.Rect.{newOf, containsOf, fitOf, overlapsOf, nearOf, sameBoundsOf};
+ghost use Rattle.geometry.specs.Rect.{newOf, containsOf, insideOf, fitOf, overlapsOf, nearOf, sameBoundsOf};
 
 pub struct Rect {
     pub x: f32,
@@ -29,6 +29,13 @@ impl Rect {
         ensures { λ r. ⌜ r ≡ containsOf self x y ⌝ }
     {
         x >= self.x && (y >= self.y && (x < self.x + self.w && y < self.y + self.h))
+    }
+
+    // On a screen w by h.
+    pub fn inside(self, w: f32, h: f32) -> bool
+        ensures { λ r. ⌜ r ≡ insideOf self w h ⌝ }
+    {
+        self.x >= 0.0 && (self.y >= 0.0 && (self.x + self.w <= w && self.y + self.h <= h))
     }
 
     // The largest rectangle of the aspect in the middle of this one.

@@ -4,11 +4,11 @@ use mathlib.Core.Bool.{Bool, cond, not, _&&_}
 use mathlib.Core.List.{List, [], _∷_, _++_, map, foldl, flatMap, zipWith}
 use Prim.Native.Nat.{ℕ, suc, _+_, _-_}
 use lib.Dec.{ltb}
-use lib.Ieee.{Float, le, toBits, binary32}
+use lib.Ieee.{Float, toBits, binary32}
 use lib.ListN.{length, take, drop}
 use Rattle.float.specs.Float.{_⊕_, _⊖_, _⊗_, k0, k8}
 use Rattle.geometry.specs.declared.Rect.{Rect}
-use Rattle.geometry.specs.Rect.{newOf, overlapsOf}
+use Rattle.geometry.specs.Rect.{newOf, insideOf, overlapsOf}
 use Rattle.layout.specs.Lists.{anyOf, allOf, find}
 use Rattle.moves.specs.declared.Move.{Move}
 use Rattle.moves.specs.declared.Move.the-variants.{Stay, Go}
@@ -61,10 +61,6 @@ orderedOf moves = foldl insertOf [] moves
 abbrev pub movedOf : Move → Rect → Rect
 movedOf Stay r = r
 movedOf (Go dx dy) r = newOf (r .x ⊕ dx) (r .y ⊕ dy) (r .w) (r .h)
-
--- on the screen
-unfoldable pub insideOf : Rect → Float → Float → Bool
-insideOf r w h = le k0 (r .x) && (le k0 (r .y) && (le (r .x ⊕ r .w) w && le (r .y ⊕ r .h) h))
 
 -- on the screen, off the cutouts, and off the elements outside the group
 unfoldable pub clearOf : Float → Float → List Rect → List Rect → Rect → Bool

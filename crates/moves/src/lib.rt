@@ -4,7 +4,7 @@ ghost use mathlib.Core.List.{foldl, flatMap};
 ghost use Prim.Native.Nat.{_+_, _<_, _≤_};
 ghost use lib.ListN.{length, take};
 ghost use Rattle.layout.specs.Layout.{cutoutList, elementList};
-ghost use Rattle.moves.specs.Moves.{Holds, awayOf, rankOf, shorterOf, placeOf, insertAtOf, insertOf, pairOf, movesIn, movedOf, insideOf, clearOf, allClearOf, firstClearOf, searchOf};
+ghost use Rattle.moves.specs.Moves.{Holds, awayOf, rankOf, shorterOf, placeOf, insertAtOf, insertOf, pairOf, movesIn, movedOf, clearOf, allClearOf, firstClearOf, searchOf};
 use geometry::Rect;
 use layout::Cutouts;
 use layout::Elements;
@@ -135,18 +135,12 @@ pub fn moved(r: Rect, dx: f32, dy: f32) -> Rect
     }
 }
 
-fn inside(r: Rect, w: f32, h: f32) -> bool
-    ensures { λ q. ⌜ q ≡ insideOf r w h ⌝ }
-{
-    r.x >= 0.0 && (r.y >= 0.0 && (r.x + r.w <= w && r.y + r.h <= h))
-}
-
 // On the screen, off the cutouts and off the other elements.
 fn clear(r: Rect, w: f32, h: f32, holes: Cutouts, others: Elements) -> bool
     requires { ⌜ (holes .count ≤ 16) × (others .count ≤ 19) ⌝ }
     ensures { λ q. ⌜ q ≡ clearOf w h (cutoutList holes) (elementList others) r ⌝ }
 {
-    inside(r, w, h) && (!holes.overlap(r) && !others.overlap(r))
+    r.inside(w, h) && (!holes.overlap(r) && !others.overlap(r))
 }
 
 // A move leaves each of the m rectangles of the group clear.

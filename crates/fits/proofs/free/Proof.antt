@@ -5,15 +5,15 @@ use Rattle.fits.proofs.free.Tie as tie
 
 returns : tie.Need-returns
 unfolding freeOf
-returns c = rw (← c .before .before .before .before .on-screen .ensures, ← c .before .before .overlaps .ensures, ← c .overlap .ensures, c .before .before .before .if1 .taken) (rw (c .before .if2 .taken))
+returns c = rw (← c .before .before .before .before .inside .ensures, ← c .before .before .overlaps .ensures, ← c .overlap .ensures, c .before .before .before .if1 .taken) (rw (c .before .if2 .taken))
 
 returns-2 : tie.Need-returns-2
 unfolding freeOf
-returns-2 c = rw (← c .before .before .before .on-screen .ensures, ← c .before .overlaps .ensures, c .before .before .if1 .taken, c .if2 .left)
+returns-2 c = rw (← c .before .before .before .inside .ensures, ← c .before .overlaps .ensures, c .before .before .if1 .taken, c .if2 .left)
 
 returns-3 : tie.Need-returns-3
 unfolding freeOf
-returns-3 c = rw (← c .before .on-screen .ensures, c .if1 .left)
+returns-3 c = rw (← c .before .inside .ensures, c .if1 .left)
 
 pub free-spec : {M : Type 1} → statement M
 free-spec =
