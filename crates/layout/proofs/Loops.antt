@@ -8,11 +8,14 @@ use native.Mathlib.Omega.{arith}
 use lib.ListN.{length, take, drop, getD, set, length-map, drop-of-length-le, List·getD-map}
 use lib.Seq.{take-suc, take-suc-set, drop-cons, getD-take, length-take-le}
 use borrow.Author.Needs.{length-unmapped}
-use Rattle.layout.specs.Lists.{anyOf, allOf, mapFirst, filterMap}
+use Rattle.layout.specs.Lists.{mapFirst, filterMap}
 
--- the length of an array of structs, as owning it tells
+-- the length of an array of structs, as owning it tells, and a count within it
 pub length-mapped : (X Y : Type 0) (f : X → Y) (l : List X) (n : ℕ) → length (map f l) ≡ n → length l ≡ n
 length-mapped X Y f l n p = sym (length-map l f) ∙ p
+
+pub in-array : (X Y : Type 0) (f : X → Y) (l : List X) (n k : ℕ) → length (map f l) ≡ k → n ≤ k → n ≤ length l
+in-array X Y f l n k e h = let m = length-mapped X Y f l k e in omega arith
 
 pub ruleset sized = (length-mapped, length-unmapped)
 
@@ -36,6 +39,23 @@ module _ {A : Type 0} where
       let w : length (take n l) ≡ n = length-take-le n l (omega arith) in
       drop-of-length-le (take n l) {i = i} (omega arith)
 
+-- ---- a loop over the first n elements of an array: f of those from i on is k
+pub record Rest {A B : Type 0} (f : List A → B) (l : List A) (n : ℕ) (k : B) (i : ℕ) : Type 0 where
+  pub most : i ≤ n
+  pub size : n ≤ length l
+  pub left : f (drop i (take n l)) ≡ k
+
+module _ {A B : Type 0} {f : List A → B} {l : List A} {n : ℕ} {k : B} {i : ℕ} where
+  -- it stops at an element, it goes on past one, or none is left
+  pub stops : (d : A) {b : B} → Rest f l n k i → i < n → f (getD l i d ∷ drop (i + 1) (take n l)) ≡ b → b ≡ k
+  stops d r h e = sym e ∙ (rw (next-of d l (length l) n i refl (r .size) h) at (r .left))
+
+  pub goes-on : (d : A) {g : List A → B} → Rest f l n k i → i < n → f (getD l i d ∷ drop (i + 1) (take n l)) ≡ g (drop (i + 1) (take n l)) → Rest g l n k (i + 1)
+  goes-on d r h e = record { most = omega arith; size = r .size; left = stops d r h e }
+
+  pub runs-out : Rest f l n k i → n ≤ i → f [] ≡ k
+  runs-out r h = rw (none-left l (length l) n i refl (r .size) h) at (r .left)
+
 -- ---- a loop that folds
 module _ {A B : Type 0} where
   pub fold-next : (f : B → A → B) (z : B) (l : List A) (i : ℕ) (d : A) {y : A} {acc r : B} → i < length l → acc ≡ foldl f z (take i l) → y ≡ getD l i d → r ≡ f acc y
@@ -54,32 +74,6 @@ module _ {A B : Type 0} where
 
   pub take-first : (f : A → B) (x : B) (n : ℕ) (l : List A) → take (n + 1) (x ∷ map f l) ≡ x ∷ map f (take n l)
   take-first f x n l = rw add-one (ap (λ t. x ∷ t) (take-map f n l))
-
--- ---- searches that stop at the first element that decides; k is the answer of the whole list
-module _ {A : Type 0} where
-  pub any-hit : (p : A → Bool) (l t : List A) (x : A) (k b : Bool) → anyOf p l ≡ k → l ≡ x ∷ t → b ≡ p x → b ≡ true → true ≡ k
-  unfolding anyOf
-  any-hit p l t x k b g e q h = rw (e, sym q ∙ h) at g
-
-  pub any-miss : (p : A → Bool) (l t : List A) (x : A) (k b : Bool) → anyOf p l ≡ k → l ≡ x ∷ t → b ≡ p x → b ≡ false → anyOf p t ≡ k
-  unfolding anyOf
-  any-miss p l t x k b g e q h = rw (e, sym q ∙ h) at g
-
-  pub any-end : (p : A → Bool) (l : List A) (k : Bool) → anyOf p l ≡ k → l ≡ [] → false ≡ k
-  unfolding anyOf
-  any-end p l k g e = rw e at g
-
-  pub all-miss : (p : A → Bool) (l t : List A) (x : A) (k b : Bool) → allOf p l ≡ k → l ≡ x ∷ t → b ≡ p x → b ≡ false → false ≡ k
-  unfolding allOf
-  all-miss p l t x k b g e q h = rw (e, sym q ∙ h) at g
-
-  pub all-hit : (p : A → Bool) (l t : List A) (x : A) (k b : Bool) → allOf p l ≡ k → l ≡ x ∷ t → b ≡ p x → b ≡ true → allOf p t ≡ k
-  unfolding allOf
-  all-hit p l t x k b g e q h = rw (e, sym q ∙ h) at g
-
-  pub all-end : (p : A → Bool) (l : List A) (k : Bool) → allOf p l ≡ k → l ≡ [] → true ≡ k
-  unfolding allOf
-  all-end p l k g e = rw e at g
 
 -- ---- loops that fill an array
 module _ {A B : Type 0} (p : A → Bool) (f : A → B) where
