@@ -1,38 +1,16 @@
 -- A move inserted into arrays: its place, each array opened there, the moves that the arrays then hold.
 use mathlib.Core.Path.{_≡_, refl, ap, sym, _∙_}
 use mathlib.Core.Bool.{Bool, true, false, cond}
-use mathlib.Core.List.{List, [], _∷_, map, foldl, foldl-append, flatMap, zipWith}
+use mathlib.Core.List.{List, [], _∷_, map, zipWith}
 use Prim.Native.Nat.{ℕ, zero, suc, _+_, _<_, _≤_}
 use native.Mathlib.Numerals.{add-one}
 use native.Mathlib.Omega.{arith}
 use lib.Ieee.{Float}
 use lib.ListN.{length, take, drop, getD, set, length-take, drop-of-length-le}
 use lib.Seq.{drop-cons, drop-at, getD-take, length-take-le, set-split, take-set-le, take-set-lt, take-take}
-use Rattle.geometry.specs.declared.Rect.{Rect}
-use Rattle.geometry.specs.Rect.{overlapsOf}
 use Rattle.moves.specs.declared.Move.{Move}
 use Rattle.moves.specs.declared.Move.the-variants.{Go}
-use Rattle.moves.specs.Moves.{Holds, awayOf, pairOf, lengthOf, shorterOf, placeOf, insertAtOf, insertOf, movesIn}
-
--- ---- the place, as a search: p is the place from the start, l what is left of the list, i how many were passed
-module _ (k : Float) (l : List Float) (i p : ℕ) (g : i + placeOf l k ≡ p) where
-  pub place-hit : (t : List Float) (x : Float) (b : Bool) → l ≡ x ∷ t → b ≡ shorterOf k x → b ≡ true → i ≡ p
-  unfolding placeOf
-  place-hit t x b e q h =
-      let z : placeOf l k ≡ 0 = rw (e, ← q, h) in
-      omega arith
-
-  pub place-miss : (t : List Float) (x : Float) (b : Bool) → l ≡ x ∷ t → b ≡ shorterOf k x → b ≡ false → i + 1 + placeOf t k ≡ p
-  unfolding placeOf
-  place-miss t x b e q h =
-      let z : placeOf l k ≡ suc (placeOf t k) = rw (e, ← q, h) in
-      omega arith
-
-  pub place-end : l ≡ [] → i ≡ p
-  unfolding placeOf
-  place-end e =
-      let z : placeOf l k ≡ 0 = rw e in
-      omega arith
+use Rattle.moves.specs.Moves.{Holds, lengthOf, shorterOf, placeOf, insertAtOf, insertOf, movesIn}
 
 -- ---- an array opened from its end: the first j are as before, those from j on stand one place further
 module _ {A : Type 0} (old : List A) (n : ℕ) where
@@ -130,22 +108,3 @@ holds-next m o q = rw (o .offsets) at q
 
 pub recount : {dxs dys lens : List Float} {n : ℕ} (k : ℕ) {moves : List Move} → n ≡ k → Holds dxs dys lens n moves → Holds dxs dys lens k moves
 recount k e o = rw e at o
-
--- ---- the loops that gather the moves: s is the order so far, k the order of all
-module _ {A B C : Type 0} (g : C → B → C) (f : A → List B) (s k : C) (l : List A) (o : foldl g s (flatMap f l) ≡ k) where
-  pub gather-step : (s' : C) (t : List A) (x : A) → l ≡ x ∷ t → s' ≡ foldl g s (f x) → foldl g s' (flatMap f t) ≡ k
-  unfolding flatMap
-  gather-step s' t x e p = rw p (rw (e, foldl-append) at o)
-
-  pub gather-end : l ≡ [] → s ≡ k
-  unfolding flatMap
-  gather-end e = rw e at o
-
-module _ (s : List Move) (r c : Rect) (b : Bool) (e : b ≡ overlapsOf r c) where
-  pub pair-hit : (s' : List Move) → b ≡ true → s' ≡ foldl insertOf s (awayOf r c) → s' ≡ foldl insertOf s (pairOf r c)
-  unfolding pairOf
-  pair-hit s' h q = rw (← e, h) q
-
-  pub pair-miss : b ≡ false → s ≡ foldl insertOf s (pairOf r c)
-  unfolding pairOf
-  pair-miss h = rw (← e, h)

@@ -2,47 +2,43 @@
 use borrow.Author.Needs.{needs}
 use borrow.Author.Tests.{not-true, not-false}
 use native.Mathlib.Omega.{arith}
-use mathlib.Core.Path.{_≡_, refl, sym, _∙_}
-use Prim.Native.Nat.{_-_, _≤_}
-use lib.ListN.{length}
-use Rattle.layout.specs.Layout.{cutoutList}
-use Rattle.layout.proofs.Loops.{sized}
-use Rattle.fits.proofs.Rest.{Left, not-free, not-separate, next-free, all-free}
+use mathlib.Core.Path.{_≡_}
+use Prim.Native.Nat.{_-_}
+use lib.ListN.{length, take}
+use Rattle.layout.specs.Layout.{anyRect, cutoutList}
+use Rattle.layout.proofs.Loops.{sized, Rest, stops, goes-on, runs-out}
+use Rattle.fits.specs.Fits.{fromStick, allFree, fitsOf}
 use Rattle.fits.proofs.fits.Statement.{statement}
 use Rattle.fits.proofs.fits.Tie as tie
 
 abbrev Inv-loop : tie.InvT-loop
-Inv-loop w h game holes inputs n i₀ i = (i ≤ n) × (n ≤ length (inputs .at)) × Left w h game (cutoutList holes) (inputs .at) n i
+Inv-loop w h game holes inputs n i₀ i = Rest (allFree w h game (cutoutList holes)) (inputs .at) n (allFree w h game (cutoutList holes) (take n (inputs .at))) i
 
 abbrev μ-loop : tie.MeasureT-loop
 μ-loop w h game holes inputs n i₀ i = n - i
 
-loop-holds : tie.Need-loop-holds Inv-loop μ-loop
-loop-holds c =
-    let k : length (c .inputs .result .at) ≡ 15 = search sized in
-    (omega arith, omega arith, refl)
-
 returns : tie.Need-returns Inv-loop μ-loop
+unfolding fitsOf allFree
 returns c =
     let l = c .before .before .before .before in
-    not-free _ _ _ _ _ _ _ _ (l .before .inputs .ensures .0) (l .loop .inv .2) (l .loop .inv .1) _ (c .before .before .before .loop-test .taken) (sym (c .before .free .ensures) ∙ not-true _ (c .if1 .taken))
+    rw (← l .before .inputs .ensures .0) (stops (fromStick anyRect) (l .loop .inv) (c .before .before .before .loop-test .taken) (rw (← c .before .free .ensures, not-true (c .before .free .result) (c .if1 .taken))))
 
 returns-2 : tie.Need-returns-2 Inv-loop μ-loop
+unfolding fitsOf allFree
 returns-2 c =
     let e = c .before .before .before in
     let l = e .before .before .before in
-    not-separate _ _ _ _ _ _ _ _ (l .before .inputs .ensures .0) (l .loop .inv .2) (l .loop .inv .1) _ (e .before .before .loop-test .taken) (sym (e .free .ensures) ∙ not-false _ (c .before .before .if1 .left)) (sym (not-true _ (c .if2 .taken)) ∙ c .before .separate-after .ensures)
+    rw (← l .before .inputs .ensures .0) (stops (fromStick anyRect) (l .loop .inv) (e .before .before .loop-test .taken) (rw (← e .free .ensures, not-false (e .free .result) (c .before .before .if1 .left), ← c .before .separate-after .ensures, not-true (c .before .separate-after .result) (c .if2 .taken))))
 
 loop-again : tie.Need-loop-again Inv-loop μ-loop
+unfolding allFree
 loop-again c =
     let e = c .before .before .before in
-    let l = e .before .before .before in
-    (omega arith, l .loop .inv .1, next-free _ _ _ _ _ _ _ _ (l .before .inputs .ensures .0) (l .loop .inv .2) (l .loop .inv .1) _ (e .before .before .loop-test .taken) (sym (e .free .ensures) ∙ not-false _ (c .before .before .if1 .left)) (sym (not-false _ (c .if2 .left)) ∙ c .before .separate-after .ensures))
+    goes-on (fromStick anyRect) (e .before .before .before .loop .inv) (e .before .before .loop-test .taken) (rw (← e .free .ensures, not-false (e .free .result) (c .before .before .if1 .left), ← c .before .separate-after .ensures, not-false (c .before .separate-after .result) (c .if2 .left)))
 
 returns-3 : tie.Need-returns-3 Inv-loop μ-loop
-returns-3 c =
-    let l = c .before in
-    all-free _ _ _ _ _ _ _ _ (l .before .inputs .ensures .0) (l .loop .inv .2) (l .loop .inv .1) (c .loop-test .left)
+unfolding fitsOf allFree
+returns-3 c = rw (← c .before .before .inputs .ensures .0) (runs-out (c .before .loop .inv) (c .loop-test .left))
 
 pub fits-spec : {M : Type 1} → statement M
 fits-spec =
@@ -51,7 +47,7 @@ fits-spec =
     Inv-loop
     μ-loop
     (λ c κs. search needs)
-    loop-holds
+    (λ c. let k : length (c .inputs .result .at) ≡ 15 = search sized in search arith)
     (λ c. omega arith)
     (λ c. omega arith)
     (λ c κs. search needs)

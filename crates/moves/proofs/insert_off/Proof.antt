@@ -1,47 +1,38 @@
 use borrow.Author.Needs.{needs}
 use borrow.Author.Tests.{not-true, not-false}
 use native.Mathlib.Omega.{arith}
-use mathlib.Core.Path.{_≡_, refl}
-use mathlib.Core.List.{foldl, flatMap}
+use mathlib.Core.List.{foldl, foldl-append, flatMap}
 use Prim.Native.Nat.{_*_, _+_, _-_, _≤_}
-use lib.ListN.{length, take, drop}
-use Rattle.layout.specs.Layout.{anyRect}
-use Rattle.layout.proofs.Loops.{next-of, none-left, sized}
+use Rattle.layout.specs.Layout.{anyRect, cutoutList}
+use Rattle.layout.proofs.Loops.{in-array, Rest, goes-on, runs-out}
 use Rattle.moves.specs.Moves.{Holds, pairOf, insertOf, movesIn}
-use Rattle.moves.proofs.Inserts.{held, gather-step, gather-end, pair-hit, pair-miss}
+use Rattle.moves.proofs.Inserts.{held}
 use Rattle.moves.proofs.insert_off.Statement.{statement}
 use Rattle.moves.proofs.insert_off.Tie as tie
 
 abbrev Inv-loop : tie.InvT-loop
 Inv-loop dxs₀ dys₀ lens₀ n r holes holecount count₀ k₀ dxs dys lens count k =
-    (k ≤ holecount) × (holecount ≤ length (holes .at)) × (count ≤ n + 4 * k) × Holds dxs dys lens count (movesIn dxs dys count) × (foldl insertOf (movesIn dxs dys count) (flatMap (pairOf r) (drop k (take holecount (holes .at)))) ≡ foldl insertOf (movesIn dxs₀ dys₀ n) (flatMap (pairOf r) (take holecount (holes .at))))
+    (count ≤ n + 4 * k) × Holds dxs dys lens count (movesIn dxs dys count) × Rest (λ l. foldl insertOf (movesIn dxs dys count) (flatMap (pairOf r) l)) (holes .at) holecount (foldl insertOf (movesIn dxs₀ dys₀ n) (flatMap (pairOf r) (cutoutList holes))) k
 
 abbrev μ-loop : tie.MeasureT-loop
 μ-loop dxs₀ dys₀ lens₀ n r holes holecount count₀ k₀ dxs dys lens count k = holecount - k
 
-loop-holds : tie.Need-loop-holds Inv-loop μ-loop
-loop-holds c =
-    let m : length (c .args .t6 .at) ≡ 16 = search sized in
-    (omega arith, omega arith, omega arith, c .pre .2, refl)
-
 loop-again : tie.Need-loop-again Inv-loop μ-loop
+unfolding pairOf flatMap
 loop-again c =
     let l = c .before .before .before .before .loop in
-    (omega arith, l .inv .1, omega arith, l .inv .3, gather-step _ _ _ _ _ (l .inv .4) _ _ _ (next-of anyRect _ _ _ _ refl (l .inv .1) (c .before .before .before .loop-test .taken)) (pair-miss _ _ _ _ (c .before .overlaps .ensures) (not-true _ (c .if1 .taken))))
-
-insert-away-requires : tie.Need-insert-away-requires Inv-loop μ-loop
-insert-away-requires c κs = (omega arith, c .before .before .before .before .before .before .before .loop .inv .3)
+    (omega arith, l .inv .1, goes-on anyRect (l .inv .2) (c .before .before .before .loop-test .taken) (rw (← c .before .overlaps .ensures, not-true (c .before .overlaps .result) (c .if1 .taken))))
 
 loop-again-2 : tie.Need-loop-again-2 Inv-loop μ-loop
+unfolding pairOf flatMap
 loop-again-2 c =
     let t = c .before .before .before .before in
     let l = t .before .before .before .before .loop in
-    (omega arith, l .inv .1, omega arith, held (c .insert-away .ensures), gather-step _ _ _ _ _ (l .inv .4) _ _ _ (next-of anyRect _ _ _ _ refl (l .inv .1) (t .before .before .before .loop-test .taken)) (pair-hit _ _ _ _ (t .before .overlaps .ensures) _ (not-false _ (t .if1 .left)) (c .insert-away .ensures .offsets)))
+    (omega arith, held (c .insert-away .ensures), goes-on anyRect (l .inv .2) (t .before .before .before .loop-test .taken) (rw (foldl-append, ← t .before .overlaps .ensures, not-false (t .before .overlaps .result) (t .if1 .left), c .insert-away .ensures .offsets)))
 
 returns : tie.Need-returns Inv-loop μ-loop
-returns c =
-    let l = c .before .loop in
-    (omega arith, rw (gather-end _ _ _ _ _ (l .inv .4) (none-left _ _ _ _ refl (l .inv .1) (c .loop-test .left))) at (l .inv .3))
+unfolding flatMap
+returns c = (omega arith, rw (runs-out (c .before .loop .inv .2) (c .loop-test .left)) at (c .before .loop .inv .1))
 
 pub insert-off-spec : {M : Type 1} → statement M
 insert-off-spec =
@@ -49,14 +40,14 @@ insert-off-spec =
     (tie.spec
     Inv-loop
     μ-loop
-    loop-holds
+    (λ c. (omega arith, c .pre .2, search (in-array, arith)))
     (λ c. omega arith)
     (λ c. omega arith)
     (λ c κs. search needs)
     (λ c. omega arith)
     (λ c. omega arith)
     loop-again
-    insert-away-requires
+    (λ c κs. (omega arith, c .before .before .before .before .before .before .before .loop .inv .1))
     (λ c. omega arith)
     (λ c. omega arith)
     (λ c. omega arith)
