@@ -1,7 +1,7 @@
 -- What stands at the front of an array after stores.
 use mathlib.Core.Path.{_≡_, refl, ap, sym, _∙_}
-use mathlib.Core.List.{List, [], _∷_, _++_, map, map-append, append-assoc, zipWith}
-use Prim.Native.Nat.{ℕ, zero, suc, _+_, _<_, _≤_}
+use mathlib.Core.List.{List, [], _∷_, _++_, map, map-append, append-assoc}
+use Prim.Native.Nat.{ℕ, suc, _+_, _<_, _≤_}
 use native.Mathlib.Nat.{add-suc}
 use native.Mathlib.Numerals.{add-one}
 use native.Mathlib.Omega.{arith}
@@ -43,11 +43,3 @@ module _ {A : Type 0} where
   pub replaceFirst-next : (new old out : List A) (i : ℕ) (d : A) {v : A} → i < length new → i < length old → out ≡ replaceFirst i new old → v ≡ getD new i d → set out i v ≡ replaceFirst (i + 1) new old
   replaceFirst-next new old out i d h k p q =
       rw (p, q, add-one, take-suc new i d h, append-snoc, drop-cons old i d k) (set-at (take i new) (getD old i d) (drop (suc i) old) (getD new i d) i (length-take-le i new (omega arith)))
-
-module _ {A B C : Type 0} (f : A → B → C) where
-  pub getD-zipWith : (xs : List A) (ys : List B) (i : ℕ) (d : A) (e : B) (z : C) → i < length xs → i < length ys → f (getD xs i d) (getD ys i e) ≡ getD (zipWith f xs ys) i z
-  unfolding zipWith
-  getD-zipWith [] ys i d e z h k = absurd (let z : ⊥ = omega arith in z)
-  getD-zipWith (x ∷ xs) [] i d e z h k = absurd (let z : ⊥ = omega arith in z)
-  getD-zipWith (x ∷ xs) (y ∷ ys) zero d e z h k = refl
-  getD-zipWith (x ∷ xs) (y ∷ ys) (suc i) d e z h k = getD-zipWith xs ys i d e z (omega arith) (omega arith)

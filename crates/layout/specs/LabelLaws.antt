@@ -13,10 +13,10 @@ use Rattle.layout.specs.Label.{onPspOf}
 use Rattle.layout.specs.Layout.{withBounds, withControls, controlList, elementCountOf, elementsOf}
 use Rattle.layout.specs.Labels.{labelsOf, pspLabels, Formed}
 use Rattle.layout.specs.Lists.{mapFirst, retain}
-use Rattle.layout.specs.ListLaws.{length-mapFirst, take-mapFirst}
+use Rattle.layout.specs.ListLaws.{length-mapFirst, take-mapFirst, length-zipWith}
 use Rattle.layout.specs.Elements.{replaceFirst, setElementsOf}
 use Rattle.layout.specs.ElementLaws.{length-elements}
-use Rattle.layout.specs.SetElementLaws.{length-zipWith, set-elements-kept}
+use Rattle.layout.specs.SetElementLaws.{set-elements-kept}
 use Rattle.layout.specs.Psp.{atMostOneOf, onPsp, pspInputsOf}
 use Rattle.layout.specs.PspLaws.{psp-controls, psp-labels}
 

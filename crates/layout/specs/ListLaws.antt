@@ -1,10 +1,11 @@
--- Laws of lists that pass a test, and of a change of the first elements in place.
+-- Laws of lists that pass a test, of a change of the first elements in place, and of two lists as one.
 use mathlib.Core.Path.{_≡_, refl, ap, ap₂}
 use mathlib.Core.Bool.{Bool, true, false, cond}
-use mathlib.Core.List.{List, [], _∷_, map}
-use Prim.Native.Nat.{ℕ, zero, suc, _≤_, zero-le, suc-le-suc}
+use mathlib.Core.List.{List, [], _∷_, map, zipWith}
+use Prim.Native.Nat.{ℕ, zero, suc, _<_, _≤_, zero-le, suc-le-suc}
 use native.Mathlib.Nat.{le-suc, le-trans}
-use lib.ListN.{length, take}
+use native.Mathlib.Omega.{arith}
+use lib.ListN.{length, take, getD}
 use Rattle.float.proofs.Booleans.{either}
 use Rattle.layout.specs.Lists.{mapFirst, retain}
 
@@ -35,3 +36,25 @@ module _ {A : Type 0} (g : A → A) where
   take-mapFirst zero xs = refl
   take-mapFirst (suc n) [] = refl
   take-mapFirst (suc n) (x ∷ xs) = ap (λ t. g x ∷ t) (take-mapFirst n xs)
+
+module _ {A B C : Type 0} (f : A → B → C) where
+  pub length-zipWith : (n : ℕ) (xs : List A) (ys : List B) → n ≤ length xs → n ≤ length ys → n ≤ length (zipWith f xs ys)
+  unfolding zipWith
+  length-zipWith zero xs ys h k = omega arith
+  length-zipWith (suc n) [] ys h k = h
+  length-zipWith (suc n) (x ∷ xs) [] h k = k
+  length-zipWith (suc n) (x ∷ xs) (y ∷ ys) h k = let q = length-zipWith n xs ys (omega arith) (omega arith) in omega arith
+
+  pub take-zipWith : (n : ℕ) (xs : List A) (ys : List B) → take n (zipWith f xs ys) ≡ zipWith f (take n xs) (take n ys)
+  unfolding zipWith
+  take-zipWith zero xs ys = refl
+  take-zipWith (suc n) [] ys = refl
+  take-zipWith (suc n) (x ∷ xs) [] = refl
+  take-zipWith (suc n) (x ∷ xs) (y ∷ ys) = ap (λ t. f x y ∷ t) (take-zipWith n xs ys)
+
+  pub getD-zipWith : (xs : List A) (ys : List B) (i : ℕ) (d : A) (e : B) (z : C) → i < length (zipWith f xs ys) → getD (zipWith f xs ys) i z ≡ f (getD xs i d) (getD ys i e)
+  unfolding zipWith
+  getD-zipWith [] ys i d e z h = absurd (let z : ⊥ = omega arith in z)
+  getD-zipWith (x ∷ xs) [] i d e z h = absurd (let z : ⊥ = omega arith in z)
+  getD-zipWith (x ∷ xs) (y ∷ ys) zero d e z h = refl
+  getD-zipWith (x ∷ xs) (y ∷ ys) (suc i) d e z h = getD-zipWith xs ys i d e z (omega arith)

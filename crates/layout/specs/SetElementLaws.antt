@@ -13,6 +13,7 @@ use Rattle.layout.specs.declared.Layout.{Layout}
 use Rattle.layout.specs.Layout.{anyRect, withBounds, elementCountOf, boundsOf, elementsOf}
 use Rattle.layout.specs.Elements.{replaceFirst, setElementsOf}
 use Rattle.layout.specs.Labels.{labelsOf}
+use Rattle.layout.specs.ListLaws.{length-zipWith, take-zipWith}
 
 module _ {A : Type 0} where
   drop-take : (n k : ℕ) (l : List A) → drop n (take (n + k) l) ≡ take k (drop n l)
@@ -26,24 +27,6 @@ module _ {A : Type 0} where
 
   take-replaceFirst : (n : ℕ) (new old : List A) → n ≤ length new → take n (replaceFirst n new old) ≡ take n new
   take-replaceFirst n new old h = take-at (take n new) (drop n old) n (length-take-le n new h)
-
-module _ {A B C : Type 0} (f : A → B → C) where
-  pub length-zipWith : (n : ℕ) (xs : List A) (ys : List B) → n ≤ length xs → n ≤ length ys → n ≤ length (zipWith f xs ys)
-  unfolding zipWith
-  length-zipWith zero xs ys h k = omega arith
-  length-zipWith (suc n) [] ys h k = h
-  length-zipWith (suc n) (x ∷ xs) [] h k = k
-  length-zipWith (suc n) (x ∷ xs) (y ∷ ys) h k = let q = length-zipWith n xs ys (omega arith) (omega arith) in omega arith
-
-  -- the first n need only the first k elements of the second list
-  zipWith-take : (n k : ℕ) (xs : List A) (ys : List B) → n ≤ k → take n (zipWith f xs (take k ys)) ≡ take n (zipWith f xs ys)
-  unfolding zipWith
-  zipWith-take zero k xs ys h = refl
-  zipWith-take (suc n) zero xs ys h = absurd (let z : ⊥ = omega arith in z)
-  zipWith-take (suc n) (suc k) [] [] h = refl
-  zipWith-take (suc n) (suc k) [] (y ∷ ys) h = refl
-  zipWith-take (suc n) (suc k) (x ∷ xs) [] h = refl
-  zipWith-take (suc n) (suc k) (x ∷ xs) (y ∷ ys) h = ap (λ (t : List C). f x y ∷ t) (zipWith-take n k xs ys (omega arith))
 
 -- new rectangles for controls
 new-bounds : (n : ℕ) (cs : List Control) (rs : List Rect) → n ≤ length cs → n ≤ length rs → map (λ c. c .bounds) (take n (zipWith withBounds cs rs)) ≡ take n rs
@@ -108,7 +91,7 @@ set-elements-front l rs k e =
     let a : k ≡ 1 + (n + 4 + m) = omega arith in
     let b : k ≡ (n + 5) + m = omega arith in
     let controls : take n (zipWith withBounds (l .controls) (drop 1 (take k rs))) ≡ take n (zipWith withBounds (l .controls) (drop 1 rs))
-    = ap (λ (t : List Rect). take n (zipWith withBounds (l .controls) t)) (ap (λ (i : ℕ). drop 1 (take i rs)) a ∙ drop-take 1 (n + 4 + m) rs) ∙ zipWith-take withBounds n (n + 4 + m) (l .controls) (drop 1 rs) (omega arith) in
+    = ap (λ (t : List Rect). take n (zipWith withBounds (l .controls) t)) (ap (λ (i : ℕ). drop 1 (take i rs)) a ∙ drop-take 1 (n + 4 + m) rs) ∙ rw (take-zipWith, take-zipWith, take-take n (n + 4 + m) (drop 1 rs) (omega arith)) in
     let sticks : take m (drop (n + 5) (take k rs)) ≡ take m (drop (n + 5) rs)
     = ap (take m) (ap (λ (i : ℕ). drop (n + 5) (take i rs)) b ∙ drop-take (n + 5) m rs) ∙ take-take m m (drop (n + 5) rs) (omega arith) in
     rw (controls, sticks, getD-take k rs 0 anyRect (omega arith), getD-take k rs (n + 1) anyRect (omega arith), getD-take k rs (n + 2) anyRect (omega arith), getD-take k rs (n + 3) anyRect (omega arith), getD-take k rs (n + 4) anyRect (omega arith))

@@ -8,6 +8,7 @@ use native.Mathlib.Omega.{arith}
 use lib.Ieee.{Float}
 use lib.ListN.{length, take, drop, getD, set, length-take, drop-of-length-le}
 use lib.Seq.{drop-cons, drop-at, getD-take, length-take-le, set-split, take-set-le, take-set-lt, take-take}
+use Rattle.layout.specs.ListLaws.{take-zipWith}
 use Rattle.moves.specs.declared.Move.{Move}
 use Rattle.moves.specs.declared.Move.the-variants.{Go}
 use Rattle.moves.specs.Moves.{Holds, lengthOf, shorterOf, placeOf, insertAtOf, insertOf, movesIn}
@@ -80,7 +81,7 @@ pub insert-holds : (dxs dys lens dxs' dys' lens' : List Float) (n p : ℕ) (dx d
 unfolding movesIn
 insert-holds dxs dys lens dxs' dys' lens' n p dx dy hn o e ex ey el =
     let m : Move = Go dx dy in
-    let ms : List Move = zipWith Go (take n dxs) (take n dys) in
+    let ms : List Move = movesIn dxs dys n in
     let q : insertOf ms m ≡ insertAtOf ms p m = insert-place ms m ∙ rw (← o .lengths, e) in
     let lx : length (take n dxs) ≡ n = length-take-le n dxs (omega arith) in
     let ly : length (take n dys) ≡ n = length-take-le n dys (omega arith) in
@@ -88,13 +89,13 @@ insert-holds dxs dys lens dxs' dys' lens' n p dx dy hn o e ex ey el =
       dxsize = ex .1;
       dysize = ey .1;
       lensize = el .1;
-      offsets = rw (ex .0, ey .0) (zip-insert Go (take n dxs) (take n dys) p dx dy (omega arith)) ∙ sym q;
+      offsets = rw (take-zipWith, ex .0, ey .0, take-zipWith) (zip-insert Go (take n dxs) (take n dys) p dx dy (omega arith)) ∙ sym q;
       lengths = el .0 ∙ rw (o .lengths) (sym (map-insert lengthOf ms p m)) ∙ ap (map lengthOf) (sym q);
     }
 
 -- no move yet
 pub holds-none : (dxs dys lens : List Float) → length dxs ≡ 256 → length dys ≡ 256 → length lens ≡ 256 → Holds dxs dys lens 0 (movesIn dxs dys 0)
-unfolding movesIn zipWith
+unfolding movesIn
 holds-none dxs dys lens x y k = record { dxsize = x; dysize = y; lensize = k; offsets = refl; lengths = refl }
 
 -- what arrays hold, read off them

@@ -88,7 +88,7 @@ insertAtOf l at v = take at l ++ (v ∷ drop at l)
 
 -- the first n moves of two arrays of offsets
 unfoldable pub movesIn : List Float → List Float → ℕ → List Move
-movesIn dxs dys n = zipWith Go (take n dxs) (take n dys)
+movesIn dxs dys n = take n (zipWith Go dxs dys)
 
 -- the first n of three arrays of 256 hold moves and their lengths
 pub record Holds (dxs dys lens : List Float) (n : ℕ) (moves : List Move) : Type 0 where

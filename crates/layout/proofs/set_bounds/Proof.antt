@@ -1,14 +1,14 @@
 use native.Mathlib.Omega.{arith}
-use mathlib.Core.Path.{_≡_, refl, ap, sym, _∙_}
+use mathlib.Core.Path.{_≡_, refl, sym}
 use Prim.Native.Nat.{_+_, _-_, _<_, _≤_, suc}
 use mathlib.Core.List.{zipWith}
 use lib.ListN.{length, length-drop, length-set, drop, getD}
 use lib.Seq.{getD-drop}
 use Rattle.layout.specs.Layout.{anyRect, anyControl, withBounds}
 use Rattle.layout.specs.Elements.{replaceFirst}
-use Rattle.layout.specs.SetElementLaws.{length-zipWith}
+use Rattle.layout.specs.ListLaws.{length-zipWith, getD-zipWith}
 use Rattle.layout.proofs.Loops.{sized}
-use Rattle.layout.proofs.Stores.{replaceFirst-next, getD-zipWith}
+use Rattle.layout.proofs.Stores.{replaceFirst-next}
 use Rattle.layout.proofs.set_bounds.Statement.{statement}
 use Rattle.layout.proofs.set_bounds.Tie as tie
 
@@ -34,7 +34,7 @@ loop-again c =
     let e : i + 1 ≡ 1 + i = omega arith in
     let v : getD (s .args .t3) (i + 1) anyRect ≡ getD rs i anyRect = rw e (sym (getD-drop 1 (s .args .t3) i anyRect)) in
     let h : i < length (zipWith withBounds cs rs) = length-zipWith withBounds (suc i) cs rs (omega arith) (omega arith) in
-    (omega arith, rw length-set (l .loop .inv .1), replaceFirst-next (zipWith withBounds cs rs) cs (l .loop .out) i anyControl h (omega arith) (l .loop .inv .2) (ap (withBounds (getD cs i anyControl)) v ∙ getD-zipWith withBounds cs rs i anyControl anyRect anyControl (omega arith) (omega arith)))
+    (omega arith, rw length-set (l .loop .inv .1), replaceFirst-next (zipWith withBounds cs rs) cs (l .loop .out) i anyControl h (omega arith) (l .loop .inv .2) (rw (v, getD-zipWith withBounds cs rs i anyControl anyRect anyControl)))
 
 returns : tie.Need-returns Inv-loop μ-loop
 returns c =

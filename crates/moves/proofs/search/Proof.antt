@@ -1,6 +1,6 @@
 use native.Mathlib.Omega.{arith}
 use mathlib.Core.Path.{refl, ap, _∙_}
-use mathlib.Core.List.{foldl, foldl-append, flatMap, zipWith}
+use mathlib.Core.List.{foldl, foldl-append, flatMap}
 use Prim.Native.Nat.{_*_, _-_, _≤_}
 use lib.ListN.{take}
 use Rattle.layout.specs.Layout.{anyRect, cutoutList}
@@ -18,7 +18,7 @@ abbrev μ-loop : tie.MeasureT-loop
 μ-loop w h holes others m original dxs₀ dys₀ lens₀ n₀ i₀ dxs dys lens n i = m - i
 
 loop-holds : tie.Need-loop-holds Inv-loop μ-loop
-unfolding orderedOf movesIn zipWith
+unfolding orderedOf movesIn
 loop-holds c = (omega arith, holds-none _ _ _ refl refl refl, search arith)
 
 loop-again : tie.Need-loop-again Inv-loop μ-loop
