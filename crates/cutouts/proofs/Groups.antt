@@ -3,13 +3,12 @@ use mathlib.Core.Path.{_≡_, refl, ap, sym, _∙_}
 use mathlib.Core.Bool.{Bool, true, false, not}
 use mathlib.Core.List.{List, [], _∷_, _++_, map, foldl, foldl-append}
 use Prim.Native.Nat.{ℕ, zero, suc, _+_, _-_, _<_, _≤_}
-use native.Mathlib.Numerals.{add-one}
 use native.Mathlib.Omega.{arith}
 use borrow.Author.Tests.{lt-ltb, ltb-true}
 use lib.Dec.{ltb}
 use lib.Ieee.{Float}
 use lib.ListN.{length, take, drop, getD, set, length-append, take-append-drop}
-use lib.Seq.{getD-take, length-take-le, take-all, take-set-lt, take-suc-set}
+use lib.Seq.{getD-take, length-take-le, take-all, take-set-lt}
 use Rattle.geometry.specs.declared.Rect.{Rect}
 use Rattle.float.proofs.Booleans.{either, both}
 use Rattle.geometry.specs.Rect.{overlapsOf}
@@ -155,10 +154,7 @@ faces-below l n h k =
     let e : length (controlList l) ≡ l .count = length-take-le (l .count) (l .controls) k in
     enumerate-below (λ e. isFaceOf (e .1 .label)) n 1 (controlList l) (omega arith)
 
--- ---- one more stored behind the first n, and the room for it
-pub put-more : {A : Type 0} (out : List A) (n : ℕ) (v : A) {xs xs' : List A} → n < length out → take n out ≡ xs → xs' ≡ xs ++ (v ∷ []) → take (n + 1) (set out n v) ≡ xs'
-put-more out n v h p e = rw (add-one n, take-suc-set out n v h, p, e)
-
+-- ---- the room for one more behind the first n
 pub room : {A : Type 0} (out : List A) (n m : ℕ) (v : A) {xs xs' : List A} → n ≤ length out → take n out ≡ xs → xs' ≡ xs ++ (v ∷ []) → length xs' ≤ m → n < m
 room out n m v {xs = xs} h p e k = omega (arith, length-take-le n out h, ap length p, ap length e ∙ length-append xs (v ∷ []))
 

@@ -6,7 +6,7 @@ use Prim.Native.Nat.{ℕ, zero, suc, _+_, _-_, _<_, _≤_}
 use native.Mathlib.Numerals.{add-one}
 use native.Mathlib.Omega.{arith}
 use lib.ListN.{length, take, drop, getD, set, length-map, drop-of-length-le, List·getD-map}
-use lib.Seq.{take-suc, take-suc-set, drop-cons, getD-take, length-take-le}
+use lib.Seq.{take-suc, drop-cons, getD-take, length-take-le}
 use borrow.Author.Needs.{length-unmapped}
 use Rattle.layout.specs.Lists.{mapFirst, filterMap}
 
@@ -75,7 +75,7 @@ module _ {A B : Type 0} where
   pub take-first : (f : A → B) (x : B) (n : ℕ) (l : List A) → take (n + 1) (x ∷ map f l) ≡ x ∷ map f (take n l)
   take-first f x n l = rw add-one (ap (λ t. x ∷ t) (take-map f n l))
 
--- ---- loops that fill an array
+-- ---- loops that take the elements that pass a test
 module _ {A B : Type 0} (p : A → Bool) (f : A → B) where
   pub filterMap-append : (l m : List A) → filterMap p f (l ++ m) ≡ filterMap p f l ++ filterMap p f m
   filterMap-append [] m = refl
@@ -93,17 +93,6 @@ module _ {A B : Type 0} (p : A → Bool) (f : A → B) (l : List A) (i : ℕ) (d
 
   pub no-more : flag ≡ false → filterMap p f (take (i + 1) l) ≡ filterMap p f (take i l)
   no-more t = rw (add-one i, take-suc l i d h, filterMap-append, ← e, t, append-nil)
-
-module _ {A B : Type 0} (p : A → Bool) (f : A → B) where
-  -- a turn that stores
-  pub filterMap-put : (l : List A) (i : ℕ) (d : A) (out : List B) (n : ℕ) {flag : Bool} {v : B} → i < length l → n < length out → take n out ≡ filterMap p f (take i l)
-      → flag ≡ p (getD l i d) → flag ≡ true → v ≡ f (getD l i d) → take (n + 1) (set out n v) ≡ filterMap p f (take (i + 1) l)
-  filterMap-put l i d out n {v = v} h k s e t q = rw (one-more p f l i d h e t, ← s, ← q, add-one n) (take-suc-set out n v k)
-
-  -- a turn that does not
-  pub filterMap-skip : (l : List A) (i : ℕ) (d : A) (out : List B) (n : ℕ) {flag : Bool} → i < length l → take n out ≡ filterMap p f (take i l)
-      → flag ≡ p (getD l i d) → flag ≡ false → take n out ≡ filterMap p f (take (i + 1) l)
-  filterMap-skip l i d out n h s e t = s ∙ sym (no-more p f l i d h e t)
 
 -- ---- a loop that changes the first elements in place
 module _ {A : Type 0} (g : A → A) where

@@ -9,11 +9,15 @@ use lib.ListN.{length, take, drop, getD, set}
 use lib.Seq.{take-suc, take-suc-set, take-append-le, take-append-add, length-take-le, sets, sets-eq, set-at, append-snoc, drop-cons}
 use Rattle.layout.specs.Elements.{replaceFirst}
 
+-- one more behind the first n
+pub put-more : {A : Type 0} (out : List A) (n : ℕ) (v : A) {xs xs' : List A} → n < length out → take n out ≡ xs → xs' ≡ xs ++ (v ∷ []) → take (n + 1) (set out n v) ≡ xs'
+put-more out n v h p e = rw (add-one n, take-suc-set out n v h, p, e)
+
 module _ {A B : Type 0} where
   -- a turn of a loop that stores f of the next element behind xs
   pub map-put : (f : A → B) (l : List A) (i : ℕ) (d : A) (xs out : List B) (k : ℕ) → i < length l → k < length out → take k out ≡ xs ++ map f (take i l)
       → take (k + 1) (set out k (f (getD l i d))) ≡ xs ++ map f (take (i + 1) l)
-  map-put f l i d xs out k h j p = rw (add-one k, take-suc-set out k (f (getD l i d)), p, add-one i, take-suc l i d, map-append, append-assoc)
+  map-put f l i d xs out k h j p = put-more out k _ j p (rw (add-one i, take-suc l i d, map-append, append-assoc))
 
 module _ {A : Type 0} where
   -- the elements vs stored at n + j, n + (j + 1) and so on

@@ -1,6 +1,7 @@
 use Prim.Native.Nat.{ℕ, _+_, _-_, _≤_}
 use borrow.Author.Tests.{not-true, not-false}
-use Rattle.cutouts.proofs.Groups.{face-more, face-same, faces-all, faces-few, faces-below, put-more, room}
+use Rattle.cutouts.proofs.Groups.{face-more, face-same, faces-all, faces-few, faces-below, room}
+use Rattle.layout.proofs.Stores.{put-more}
 use Rattle.layout.specs.Actions.{actionElementsOf}
 use Rattle.layout.specs.Label.{isFaceOf}
 use Rattle.layout.specs.declared.Control.{Control}

@@ -1,6 +1,7 @@
 use Prim.Native.Nat.{_-_, _<_, _≤_}
 use Rattle.geometry.specs.declared.Rect.{Rect}
-use Rattle.cutouts.proofs.Groups.{outside, outside-more, outside-same, outside-all, put-more}
+use Rattle.cutouts.proofs.Groups.{outside, outside-more, outside-same, outside-all}
+use Rattle.layout.proofs.Stores.{put-more}
 use mathlib.Core.Path.{refl, sym, _∙_, _≡_}
 use lib.ListN.{length, take, getD, length-set}
 use lib.Seq.{getD-take, length-take-le}

@@ -3,7 +3,8 @@ use borrow.Author.Tests.{not-true, not-false}
 use mathlib.Core.Path.{refl, _∙_, _≡_}
 use lib.ListN.{length, take, getD, length-set}
 use Rattle.cutouts.specs.Cutouts.{hasAreaOf}
-use Rattle.layout.proofs.Loops.{filterMap-put, filterMap-skip, sized}
+use Rattle.layout.proofs.Loops.{one-more, no-more, sized}
+use Rattle.layout.proofs.Stores.{put-more}
 use Rattle.layout.specs.Layout.{anyRect}
 use Rattle.layout.specs.Lists.{retain}
 use borrow.Author.Needs.{needs}
@@ -25,14 +26,14 @@ loop-again c =
     let s = c .before .before .before .before .before .before in
     let l = c .before .before .before .before .loop in
     let a = l .inv .1 .0 .0 in
-    ((omega arith, omega arith), (l .inv .1 .0, filterMap-skip hasAreaOf (λ x. x) (s .args .cutouts .at) (l .i) anyRect (l .out) (l .count) (omega arith) (l .inv .1 .1) (c .before .has-area .ensures) (not-true _ (c .if1 .taken))))
+    ((omega arith, omega arith), (l .inv .1 .0, rw (no-more hasAreaOf (λ x. x) (s .args .cutouts .at) (l .i) anyRect (omega arith) (c .before .has-area .ensures) (not-true _ (c .if1 .taken))) (l .inv .1 .1)))
 
 loop-again-2 : tie.Need-loop-again-2 Inv-loop μ-loop
 loop-again-2 c =
     let s = c .before .before .before .before .before .before in
     let l = c .before .before .before .before .loop in
     let a = l .inv .1 .0 in
-    ((omega arith, omega arith), ((l .inv .1 .0 .0, length-set (l .out) (l .count) (getD (s .args .cutouts .at) (l .i) anyRect) ∙ l .inv .1 .0 .1), filterMap-put hasAreaOf (λ x. x) (s .args .cutouts .at) (l .i) anyRect (l .out) (l .count) (omega arith) (omega arith) (l .inv .1 .1) (c .before .has-area .ensures) (not-false _ (c .if1 .left)) refl))
+    ((omega arith, omega arith), ((l .inv .1 .0 .0, length-set (l .out) (l .count) (getD (s .args .cutouts .at) (l .i) anyRect) ∙ l .inv .1 .0 .1), put-more (l .out) (l .count) _ (omega arith) (l .inv .1 .1) (one-more hasAreaOf (λ x. x) (s .args .cutouts .at) (l .i) anyRect (omega arith) (c .before .has-area .ensures) (not-false _ (c .if1 .left)))))
 
 returns : tie.Need-returns Inv-loop μ-loop
 returns c =

@@ -8,7 +8,8 @@ use lib.ListN.{take, length, length-set}
 use Rattle.float.specs.Float.{_⊖_}
 use Rattle.geometry.specs.declared.Rect.{Rect}
 use Rattle.geometry.specs.Rect.{newOf, overlapsOf}
-use Rattle.layout.proofs.Loops.{sized, filterMap-put, filterMap-skip}
+use Rattle.layout.proofs.Loops.{sized, one-more, no-more}
+use Rattle.layout.proofs.Stores.{put-more}
 use Rattle.search.specs.Search.{obstaclesOf}
 use Prim.Native.Nat.{zero-le, _-_, _<_, _≤_}
 use Rattle.search.proofs.obstacles.Statement.{statement}
@@ -38,8 +39,8 @@ loop-again c =
     let p : Rect → Bool = λ r. overlapsOf r (s .args .bounds) in
     let f : Rect → Rect = λ r. newOf (r .x ⊖ s .args .bounds .x) (r .y ⊖ s .args .bounds .y) (r .w) (r .h) in
     ⊎-elim
-    (λ t. (omega arith, omega arith, ap length (t .6) ∙ simp length-set (l .loop .inv .2), rw (t .6, t .7) (filterMap-put p f from (l .loop .i) _ (l .loop .at) (l .loop .count) h k (l .loop .inv .3) (c .before .overlaps .ensures) (t .0 .taken) (t .5 .ensures))))
-    (λ t. (omega arith, omega arith, ap length (t .1) ∙ l .loop .inv .2, rw (t .1, t .2) (filterMap-skip p f from (l .loop .i) _ (l .loop .at) (l .loop .count) h (l .loop .inv .3) (c .before .overlaps .ensures) (t .0 .left))))
+    (λ t. (omega arith, omega arith, ap length (t .6) ∙ simp length-set (l .loop .inv .2), rw (t .6, t .7) (put-more (l .loop .at) (l .loop .count) _ k (l .loop .inv .3) (rw (t .5 .ensures) (one-more p f from (l .loop .i) _ h (c .before .overlaps .ensures) (t .0 .taken))))))
+    (λ t. (omega arith, omega arith, ap length (t .1) ∙ l .loop .inv .2, rw (t .1, t .2, no-more p f from (l .loop .i) _ h (c .before .overlaps .ensures) (t .0 .left)) (l .loop .inv .3)))
     (c .if1 .came)
 
 returns : tie.Need-returns Inv-loop μ-loop

@@ -1,11 +1,13 @@
 use native.Mathlib.Omega.{arith}
 use mathlib.Core.Path.{_≡_}
-use mathlib.Core.List.{_++_, append-nil}
-use Rattle.toolbar.specs.Toolbar.{obstacleList}
+use mathlib.Core.List.{_++_, append-assoc, append-nil}
 use lib.ListN.{length, take, length-set}
+use lib.Seq.{take-suc}
 use native.Mathlib.Nat.{add-zero}
+use native.Mathlib.Numerals.{add-one}
+use Rattle.layout.specs.Layout.{anyRect}
 use Rattle.layout.proofs.Loops.{sized}
-use Rattle.toolbar.proofs.Append.{append-next}
+use Rattle.layout.proofs.Stores.{put-more}
 use Prim.Native.Nat.{_+_, _-_, _≤_, zero-le}
 use Rattle.toolbar.proofs.extended.Statement.{statement}
 use Rattle.toolbar.proofs.extended.Tie as tie
@@ -27,7 +29,7 @@ loop-again c =
     let a = l .before .before .before .args in
     let k : length (a .elements .at) ≡ 19 = search sized in
     let e : a .obstacles .count + (l .loop .i + 1) ≡ a .obstacles .count + l .loop .i + 1 = omega arith in
-    (omega arith, rw length-set (l .loop .inv .1), rw e (append-next (obstacleList (a .obstacles)) (a .elements .at) (l .loop .at) (a .obstacles .count + l .loop .i) (l .loop .i) _ (l .loop .inv .2) (omega arith) (omega arith)))
+    (omega arith, rw length-set (l .loop .inv .1), rw e (put-more (l .loop .at) (a .obstacles .count + l .loop .i) _ (omega arith) (l .loop .inv .2) (rw (add-one, take-suc (a .elements .at) (l .loop .i) anyRect (omega arith), append-assoc))))
 
 returns : tie.Need-returns Inv-loop μ-loop
 returns c =

@@ -1,9 +1,11 @@
 use native.Mathlib.Omega.{arith}
 use mathlib.Core.Path.{_≡_, refl}
-use mathlib.Core.List.{[]}
+use native.Mathlib.Numerals.{add-one}
 use lib.ListN.{length, take, length-set}
+use lib.Seq.{take-suc}
+use Rattle.layout.specs.Layout.{anyRect}
 use Rattle.layout.proofs.Loops.{sized}
-use Rattle.toolbar.proofs.Append.{append-next}
+use Rattle.layout.proofs.Stores.{put-more}
 use Prim.Native.Nat.{_-_, _≤_, zero-le}
 use Rattle.toolbar.proofs.from_cutouts.Statement.{statement}
 use Rattle.toolbar.proofs.from_cutouts.Tie as tie
@@ -22,7 +24,7 @@ loop-again c =
     let l = c .before .before in
     let a = l .before .before .args in
     let k : length (a .cutouts .at) ≡ 16 = search sized in
-    (omega arith, rw length-set (l .loop .inv .1), append-next [] (a .cutouts .at) (l .loop .at) (l .loop .i) (l .loop .i) _ (l .loop .inv .2) (omega arith) (omega arith))
+    (omega arith, rw length-set (l .loop .inv .1), put-more (l .loop .at) (l .loop .i) _ (omega arith) (l .loop .inv .2) (rw add-one (take-suc (a .cutouts .at) (l .loop .i) anyRect (omega arith))))
 
 returns : tie.Need-returns Inv-loop μ-loop
 returns c =
