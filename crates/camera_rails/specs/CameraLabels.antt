@@ -30,9 +30,7 @@ use Rattle.camera_rails.specs.CameraCases.{cameraRail, cameraFace, camer
 pub avoid-formed : (labels : List Label) (sticks : ℕ) (w h : Float) (l : Layout) → l .count ≤ 12 → l .stickcount ≤ 2 → (cutouts : List Rect) → Formed labels sticks l → Formed labels sticks (avoidCutoutsOf l w h cutouts)
 unfolding avoidCutoutsOf
 avoid-formed labels sticks w h l cs ss cutouts f =
-    let c = f .1 .0 in
-    let s = f .1 .1 in
-    either (Formed labels sticks) (eqb (length (withAreaOf cutouts)) 0) f (set-elements-formed labels sticks l cs ss _ (length-after w h l cutouts (omega arith) (omega arith)) f)
+    either (Formed labels sticks) (eqb (length (withAreaOf cutouts)) 0) f (set-elements-formed labels sticks l cs ss _ (length-after w h l cutouts) f)
 
 module _ (w h rail face : Float) where
   railed-formed : Formed analogLabels 2 (cameraRailedOf w h rail face)

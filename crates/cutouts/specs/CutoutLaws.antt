@@ -1,11 +1,10 @@
--- Laws of the cutout pass: game, counts and labels stay; each element stays, or lies on the screen in its old size; the number of faces.
+-- Laws of the cutout pass: each element stays, or lies on the screen in its old size; the number of faces.
 use mathlib.Core.Path.{_≡_, refl, ap, _∙_}
 use mathlib.Core.Bool.{Bool, true, false, cond}
 use mathlib.Core.List.{List, [], _∷_, map, foldl}
 use mathlib.Core.Logic.{_⊎_, inl, inr}
-use Prim.Native.Nat.{ℕ, zero, suc, _≤_}
+use Prim.Native.Nat.{ℕ, zero, suc}
 use native.Mathlib.Omega.{arith}
-use lib.Dec.{eqb}
 use lib.Ieee.{Float, binary32}
 use lib.Ieee.Fits.{add-fits}
 use lib.Ieee.Bits.{is-true}
@@ -15,18 +14,16 @@ use Rattle.geometry.specs.Rect.{insideOf}
 use Rattle.float.proofs.Booleans.{either, by-test, both}
 use Rattle.layout.specs.declared.Layout.{Layout}
 use Rattle.layout.specs.Actions.{actionElementsOf}
-use Rattle.layout.specs.ElementLaws.{length-elements}
 use Rattle.layout.specs.declared.Control.{Control}
 use Rattle.layout.specs.declared.Label.{Label}
 use Rattle.layout.specs.Label.{isFaceOf}
 use Rattle.layout.specs.Labels.{labelsOf}
 use Rattle.layout.specs.Layout.{anyRect, controlList, elementsOf}
 use Rattle.layout.specs.Lists.{allOf, find, filterMap, retain, enumerateFrom}
-use Rattle.layout.specs.SetElementLaws.{Kept, set-elements-kept, set-elements-list}
 use Rattle.moves.specs.declared.Move.{Move}
 use Rattle.moves.specs.declared.Move.the-variants.{Stay, Go}
 use Rattle.moves.specs.Moves.{movedOf, clearOf, allClearOf, candidatesOf, orderedOf, searchOf}
-use Rattle.cutouts.specs.Cutouts.{withAreaOf, membersOf, othersOf, hitsOf, shiftOf, settleOf, singlesOf, avoidOf, avoidCutoutsOf}
+use Rattle.cutouts.specs.Cutouts.{withAreaOf, membersOf, othersOf, hitsOf, shiftOf, settleOf, singlesOf, avoidOf}
 use Rattle.cutouts.specs.Settled.{Settled, AllSettled, none, next}
 
 -- the answer of a search is none, or passes the test
@@ -88,7 +85,7 @@ module _ (w h : Float) where
   all-group holes old es [] e = e
   all-group holes old es (g ∷ groups) e = all-group holes old (settleOf w h holes es g) groups (all-then e (all-settle holes es g))
 
-  module _ (l : Layout) (cutouts : List Rect) (cs : l .count ≤ length (l .controls)) (ss : l .stickcount ≤ length (l .sticks)) where
+  module _ (l : Layout) (cutouts : List Rect) where
     -- the elements after the pass
     abbrev pub after : List Rect
     after = avoidOf w h (withAreaOf cutouts) (actionElementsOf l) (elementsOf l)
@@ -98,17 +95,6 @@ module _ (w h : Float) where
 
     pub length-after : length after ≡ length (elementsOf l)
     length-after = all-length all-after
-
-    -- of the layout, for the reader: no proof cites this law and the next
-    pub avoid-cutouts-kept : Kept l (avoidCutoutsOf l w h cutouts)
-    unfolding avoidCutoutsOf
-    avoid-cutouts-kept =
-        either (Kept l) (eqb (length (withAreaOf cutouts)) 0) (record { game = refl; count = refl; stickcount = refl; labels = refl }) (set-elements-kept l _ cs (length-after ∙ length-elements l cs ss))
-
-    pub avoid-cutouts-settled : AllSettled w h (elementsOf l) (elementsOf (avoidCutoutsOf l w h cutouts))
-    unfolding avoidCutoutsOf
-    avoid-cutouts-settled =
-        either (λ m. AllSettled w h (elementsOf l) (elementsOf m)) (eqb (length (withAreaOf cutouts)) 0) (all-same (elementsOf l)) (rw (set-elements-list l after cs (length-after ∙ length-elements l cs ss)) all-after)
 
 -- ---- how many faces a layout has, by its labels
 count-faces : (j : ℕ) (cs : List Control)

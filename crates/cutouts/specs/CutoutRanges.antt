@@ -106,5 +106,5 @@ module _ {w h : Float} (W : In w (at 0) (at 8192)) (H : In h (at 0) (at 8192)) w
   pub avoid-bounded : (l : Layout) (cutouts : List Rect) → l .count ≤ length (l .controls) → l .stickcount ≤ length (l .sticks) → Bounded l → Bounded (avoidCutoutsOf l w h cutouts)
   unfolding avoidCutoutsOf
   avoid-bounded l cutouts cs ss L =
-      let n = length-after w h l cutouts cs ss ∙ length-elements l cs ss in
-      either Bounded (eqb (length (withAreaOf cutouts)) 0) L (set-elements-in (after w h l cutouts cs ss) (omega (arith, n)) L (all-settled-in (all-after w h l cutouts cs ss) (elements-in l L)))
+      let n = length-after w h l cutouts ∙ length-elements l cs ss in
+      either Bounded (eqb (length (withAreaOf cutouts)) 0) L (set-elements-in (after w h l cutouts) (omega (arith, n)) L (all-settled-in (all-after w h l cutouts) (elements-in l L)))

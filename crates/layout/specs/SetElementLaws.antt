@@ -68,6 +68,7 @@ module _ (l : Layout) (rs : List Rect) (cs : l .count ≤ length (l .controls)) 
         labels = ap (map (λ (c : Control). c .label)) new-controls ∙ old-labels (l .count) (l .controls) (drop 1 rs) cs (omega arith);
       }
 
+  -- for the reader: no proof cites this law
   pub set-elements-list : elementsOf (setElementsOf l rs) ≡ rs
   unfolding setElementsOf elementsOf
   set-elements-list =
