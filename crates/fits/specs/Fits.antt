@@ -37,13 +37,13 @@ separateOf i j =
 
 module _ (w h : Float) (game : Rect) (holes : List Rect) where
   -- on the screen to 0.01, and clear of the picture and of the holes
-  unfoldable pub freeOf : Rect → Bool
-  freeOf r = insideOf r (w ⊕ k0·01) (h ⊕ k0·01) && (not (overlapsOf r game) && not (anyOf (overlapsOf r) holes))
+  unfoldable pub liesClearOf : Rect → Bool
+  liesClearOf r = insideOf r (w ⊕ k0·01) (h ⊕ k0·01) && (not (overlapsOf r game) && not (anyOf (overlapsOf r) holes))
 
-  -- each input is free, and separate from those after it
-  unfoldable pub allFree : List Input → Bool
-  allFree [] = true
-  allFree (i ∷ later) = freeOf (i .bounds) && (allOf (separateOf i) later && allFree later)
+  -- each input lies clear, and separate from those after it
+  unfoldable pub allFit : List Input → Bool
+  allFit [] = true
+  allFit (i ∷ later) = liesClearOf (i .bounds) && (allOf (separateOf i) later && allFit later)
 
 unfoldable pub fitsOf : Layout → Float → Float → Rect → List Rect → Bool
-fitsOf l w h game holes = allFree w h game holes (inputsOf l)
+fitsOf l w h game holes = allFit w h game holes (inputsOf l)

@@ -4,7 +4,7 @@ ghost use Prim.Native.Nat.{_≤_, _<_, _+_};
 ghost use lib.ListN.{take, drop};
 ghost use Rattle.layout.specs.Layout.{cutoutList};
 ghost use Rattle.layout.specs.Lists.{allOf};
-ghost use Rattle.fits.specs.Fits.{inputsOf, separateOf, freeOf, fitsOf};
+ghost use Rattle.fits.specs.Fits.{inputsOf, separateOf, liesClearOf, fitsOf};
 use geometry::Rect;
 use hypot::hypot;
 use layout::Cutouts;
@@ -67,9 +67,9 @@ fn separate(i: Input, j: Input) -> bool
                 >= (a.w + b.w) / 2.0 + 3.99)
 }
 
-fn free(r: Rect, w: f32, h: f32, game: Rect, holes: Cutouts) -> bool
+fn lies_clear(r: Rect, w: f32, h: f32, game: Rect, holes: Cutouts) -> bool
     requires { ⌜ holes .count ≤ 16 ⌝ }
-    ensures { λ b. ⌜ b ≡ freeOf w h game (cutoutList holes) r ⌝ }
+    ensures { λ b. ⌜ b ≡ liesClearOf w h game (cutoutList holes) r ⌝ }
 {
     r.inside(w + 0.01, h + 0.01) && (!r.overlaps(game) && !holes.overlap(r))
 }
@@ -97,7 +97,7 @@ pub fn fits(l: Layout, w: f32, h: f32, game: Rect, holes: Cutouts) -> bool
     let n = inputs.count;
     for i in 0..n {
         let a = inputs.at[i];
-        if !free(a.bounds, w, h, game, holes) {
+        if !lies_clear(a.bounds, w, h, game, holes) {
             return false;
         }
         if !separate_after(a, inputs, i) {

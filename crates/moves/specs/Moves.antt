@@ -25,12 +25,12 @@ awayOf r c =
     ∷ []
 
 -- the moves for one rectangle of a group and one cutout: none where they do not overlap
-unfoldable pub pairOf : Rect → Rect → List Move
-pairOf r c = cond (overlapsOf r c) (awayOf r c) []
+unfoldable pub movesOff : Rect → Rect → List Move
+movesOff r c = cond (overlapsOf r c) (awayOf r c) []
 
 -- the moves of a group, in the order in which they arise: for each of its rectangles, for each cutout
 unfoldable pub candidatesOf : List Rect → List Rect → List Move
-candidatesOf original holes = flatMap (λ r. flatMap (pairOf r) holes) original
+candidatesOf original holes = flatMap (λ r. flatMap (movesOff r) holes) original
 
 -- ---- the order in which they are tried
 

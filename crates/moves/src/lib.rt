@@ -4,7 +4,7 @@ ghost use mathlib.Core.List.{foldl, flatMap};
 ghost use Prim.Native.Nat.{_+_, _<_, _≤_};
 ghost use lib.ListN.{length, take};
 ghost use Rattle.layout.specs.Layout.{cutoutList, elementList};
-ghost use Rattle.moves.specs.Moves.{Holds, awayOf, rankOf, shorterOf, placeOf, insertAtOf, insertOf, pairOf, movesIn, movedOf, clearOf, allClearOf, firstClearOf, searchOf};
+ghost use Rattle.moves.specs.Moves.{Holds, awayOf, rankOf, shorterOf, placeOf, insertAtOf, insertOf, movesOff, movesIn, movedOf, clearOf, allClearOf, firstClearOf, searchOf};
 use geometry::Rect;
 use layout::Cutouts;
 use layout::Elements;
@@ -109,7 +109,7 @@ fn insert_off(
     holes: Cutouts,
 ) -> usize
     requires { ⌜ (n + 64 ≤ 256) × (holes .count ≤ 16) × Holds (now dxs) (now dys) (now lens) n (movesIn (now dxs) (now dys) n) ⌝ }
-    ensures { λ q. ⌜ (q ≤ n + 64) × Holds (now (dxs .exit)) (now (dys .exit)) (now (lens .exit)) q (foldl insertOf (movesIn (now (dxs .entry)) (now (dys .entry)) n) (flatMap (pairOf r) (cutoutList holes))) ⌝ }
+    ensures { λ q. ⌜ (q ≤ n + 64) × Holds (now (dxs .exit)) (now (dys .exit)) (now (lens .exit)) q (foldl insertOf (movesIn (now (dxs .entry)) (now (dys .entry)) n) (flatMap (movesOff r) (cutoutList holes))) ⌝ }
 {
     let holecount = holes.count;
     let mut count = n;

@@ -7,37 +7,37 @@ use Prim.Native.Nat.{_-_}
 use lib.ListN.{length, take}
 use Rattle.layout.specs.Layout.{anyRect, cutoutList}
 use Rattle.layout.proofs.Loops.{sized, Rest, stops, goes-on, runs-out}
-use Rattle.fits.specs.Fits.{fromStick, allFree, fitsOf}
+use Rattle.fits.specs.Fits.{fromStick, allFit, fitsOf}
 use Rattle.fits.proofs.fits.Statement.{statement}
 use Rattle.fits.proofs.fits.Tie as tie
 
 abbrev Inv-loop : tie.InvT-loop
-Inv-loop w h game holes inputs n i₀ i = Rest (allFree w h game (cutoutList holes)) (inputs .at) n (allFree w h game (cutoutList holes) (take n (inputs .at))) i
+Inv-loop w h game holes inputs n i₀ i = Rest (allFit w h game (cutoutList holes)) (inputs .at) n (allFit w h game (cutoutList holes) (take n (inputs .at))) i
 
 abbrev μ-loop : tie.MeasureT-loop
 μ-loop w h game holes inputs n i₀ i = n - i
 
 returns : tie.Need-returns Inv-loop μ-loop
-unfolding fitsOf allFree
+unfolding fitsOf allFit
 returns c =
     let l = c .before .before .before .before in
-    rw (← l .before .inputs .ensures .0) (stops (fromStick anyRect) (l .loop .inv) (c .before .before .before .loop-test .taken) (rw (← c .before .free .ensures, not-true (c .before .free .result) (c .if1 .taken))))
+    rw (← l .before .inputs .ensures .0) (stops (fromStick anyRect) (l .loop .inv) (c .before .before .before .loop-test .taken) (rw (← c .before .lies-clear .ensures, not-true (c .before .lies-clear .result) (c .if1 .taken))))
 
 returns-2 : tie.Need-returns-2 Inv-loop μ-loop
-unfolding fitsOf allFree
+unfolding fitsOf allFit
 returns-2 c =
     let e = c .before .before .before in
     let l = e .before .before .before in
-    rw (← l .before .inputs .ensures .0) (stops (fromStick anyRect) (l .loop .inv) (e .before .before .loop-test .taken) (rw (← e .free .ensures, not-false (e .free .result) (c .before .before .if1 .left), ← c .before .separate-after .ensures, not-true (c .before .separate-after .result) (c .if2 .taken))))
+    rw (← l .before .inputs .ensures .0) (stops (fromStick anyRect) (l .loop .inv) (e .before .before .loop-test .taken) (rw (← e .lies-clear .ensures, not-false (e .lies-clear .result) (c .before .before .if1 .left), ← c .before .separate-after .ensures, not-true (c .before .separate-after .result) (c .if2 .taken))))
 
 loop-again : tie.Need-loop-again Inv-loop μ-loop
-unfolding allFree
+unfolding allFit
 loop-again c =
     let e = c .before .before .before in
-    goes-on (fromStick anyRect) (e .before .before .before .loop .inv) (e .before .before .loop-test .taken) (rw (← e .free .ensures, not-false (e .free .result) (c .before .before .if1 .left), ← c .before .separate-after .ensures, not-false (c .before .separate-after .result) (c .if2 .left)))
+    goes-on (fromStick anyRect) (e .before .before .before .loop .inv) (e .before .before .loop-test .taken) (rw (← e .lies-clear .ensures, not-false (e .lies-clear .result) (c .before .before .if1 .left), ← c .before .separate-after .ensures, not-false (c .before .separate-after .result) (c .if2 .left)))
 
 returns-3 : tie.Need-returns-3 Inv-loop μ-loop
-unfolding fitsOf allFree
+unfolding fitsOf allFit
 returns-3 c = rw (← c .before .before .inputs .ensures .0) (runs-out (c .before .loop .inv) (c .loop-test .left))
 
 pub fits-spec : {M : Type 1} → statement M
