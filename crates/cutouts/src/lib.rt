@@ -15,8 +15,8 @@ use moves::Move;
 
 // Elements that move together, by index.
 struct Group {
-    pub at: [usize; 4],
-    pub count: usize,
+    at: [usize; 4],
+    count: usize,
 }
 
 fn has_area(r: Rect) -> bool
