@@ -1,20 +1,17 @@
 -- Searches of an array that go on while `!met & (i < n)`.
-use mathlib.Core.Path.{_≡_, refl, sym, subst, _∙_}
+use mathlib.Core.Path.{_≡_, refl, sym, subst}
 use mathlib.Core.Bool.{Bool, true, false, not, _&&_, _||_, cond}
 use mathlib.Core.List.{List, [], _∷_}
-use Prim.Native.Nat.{ℕ, _+_, _<_, _≤_}
-use native.Mathlib.Omega.{arith}
+use Prim.Native.Nat.{ℕ, _+_, _<_}
 use lib.Dec.{T, ltb}
-use lib.ListN.{length, take, drop, getD}
+use lib.ListN.{getD}
 use borrow.Author.Tests.{ltb-true, ltb-false}
 use Rattle.layout.specs.Lists.{anyOf, find}
-use Rattle.layout.proofs.Loops.{next-of, none-left}
+use Rattle.layout.proofs.Loops.{Rest, goes-on, runs-out}
 
 -- the answer k is v if an element was met, else it lies with the elements from i on
 pub record Scanned {A B : Type 0} (p : A → Bool) (hit : A → B) (none : B) (l : List A) (n : ℕ) (k : B) (i : ℕ) (v : B) (met : Bool) : Type 0 where
-  pub fits : n ≤ length l
-  pub most : i ≤ n
-  pub answer : k ≡ cond met v (find p hit none (drop i (take n l)))
+  pub rest : Rest (λ t. cond met v (find p hit none t)) l n k i
 
 module _ {A B : Type 0} {p : A → Bool} {hit : A → B} {none : B} {l : List A} {n : ℕ} {k : B} {i : ℕ} {v : B} {met : Bool} where
   going : Scanned p hit none l n k i v met → (b : Bool) → not b && ltb i n ≡ true → (b ≡ false) × (i < n)
@@ -26,26 +23,24 @@ module _ {A B : Type 0} {p : A → Bool} {hit : A → B} {none : B} {l : List A}
 
   pub scan-next : (d : A) {next : Bool} → Scanned p hit none l n k i v met → not met && ltb i n ≡ true → next ≡ p (getD l i d)
       → Scanned p hit none l n k (i + 1) (hit (getD l i d)) next
-  scan-next d s t e =
-      let j = scan-open s t in
-      record { fits = s .fits; most = omega arith; answer = rw e ((rw (going s met t .0) at (s .answer)) ∙ rw (next-of d l (length l) n i refl (s .fits) j)) }
+  scan-next d s t e = record { rest = goes-on d (s .rest) (scan-open s t) (rw (going s met t .0, e)) }
 
   pub scan-met : Scanned p hit none l n k i v met → met ≡ true → k ≡ v
-  scan-met s e = rw e at (s .answer)
+  scan-met s e = sym (rw e at (s .rest .left))
 
   pub scan-end : Scanned p hit none l n k i v met → not met && ltb i n ≡ false → met ≡ false → k ≡ none
-  scan-end s t e = (rw e at (s .answer)) ∙ rw (none-left l (length l) n i refl (s .fits) (ltb-false i n (rw e at t)))
+  scan-end s t e = sym (rw e at (runs-out (s .rest) (ltb-false i n (rw e at t))))
 
 -- the test that no element passes, as such a search
-none-passes : {A B : Type 0} (p : A → Bool) (x y : B) (l : List A) → cond (not (anyOf p l)) x y ≡ find p (λ _. y) x l
+none-passes : {A B : Type 0} (p : A → Bool) (x y : B) (l : List A) → find p (λ _. y) x l ≡ cond (not (anyOf p l)) x y
 unfolding anyOf
 none-passes p x y [] = refl
 none-passes p x y (a ∷ l) = go (p a) (none-passes p x y l)
   where
-    go : (b : Bool) → cond (not (anyOf p l)) x y ≡ find p (λ _. y) x l → cond (not (b || anyOf p l)) x y ≡ cond b y (find p (λ _. y) x l)
+    go : (b : Bool) → find p (λ _. y) x l ≡ cond (not (anyOf p l)) x y → cond b y (find p (λ _. y) x l) ≡ cond (not (b || anyOf p l)) x y
     go true e = refl
     go false e = e
 
-pub scan-first : {A B : Type 0} (p : A → Bool) (x y : B) (l : List A) (may : Bool) → cond (may && not (anyOf p l)) x y ≡ cond (not may) y (find p (λ _. y) x l)
+pub scan-first : {A B : Type 0} (p : A → Bool) (x y : B) (l : List A) (may : Bool) → cond (not may) y (find p (λ _. y) x l) ≡ cond (may && not (anyOf p l)) x y
 scan-first p x y l true = none-passes p x y l
 scan-first p x y l false = refl

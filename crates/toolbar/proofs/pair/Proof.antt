@@ -49,7 +49,7 @@ unfolding pass
 loop2-holds c =
     let l = c .before .loop in
     let e : c .before .before .before .args .n + 1 - l .counter ≡ suc (c .before .before .before .args .n - l .counter) = omega arith in
-    record { fits = l .inv .2; most = zero-le; answer = rw e at (l .inv .3) }
+    record { rest = record { most = zero-le; size = l .inv .2; left = sym (rw e at (l .inv .3)) } }
 
 array-copy-out-c : tie.Need-array-copy-out-c Inv-loop2 μ-loop2 Inv-loop3 μ-loop3 Inv-loop μ-loop
 array-copy-out-c c = omega (arith, scan-open (c .before .loop2 .inv) (c .loop2-test .taken))
@@ -65,7 +65,7 @@ loop2-again c =
 loop3-holds : tie.Need-loop3-holds Inv-loop2 μ-loop2 Inv-loop3 μ-loop3 Inv-loop μ-loop
 unfolding moved
 loop3-holds c =
-    record { fits = c .before .before .before .before .loop2 .inv .fits; most = zero-le; answer = rw (← c .before .candidate .ensures, ← c .room .ensures) (scan-first (overlapsOf (c .before .candidate .result)) _ _ _ (c .room .result)) }
+    record { rest = record { most = zero-le; size = c .before .before .before .before .loop2 .inv .rest .size; left = rw (← c .before .candidate .ensures, ← c .room .ensures) (scan-first (overlapsOf (c .before .candidate .result)) _ _ _ (c .room .result)) } }
 
 array-copy-out-o : tie.Need-array-copy-out-o Inv-loop2 μ-loop2 Inv-loop3 μ-loop3 Inv-loop μ-loop
 array-copy-out-o c = omega (arith, scan-open (c .before .loop3 .inv) (c .loop3-test .taken))
