@@ -9,10 +9,6 @@ use Rattle.camera_rails.specs.CameraRails.{analogCameraRailsOf}
 use Rattle.camera_rails.proofs.analog_camera_rails.Statement.{statement}
 use Rattle.camera_rails.proofs.analog_camera_rails.Tie as tie
 
-returns : tie.Need-returns
-unfolding analogCameraRailsOf
-returns c = (rw (c .before .if1 .taken) (c .no-layout .ensures .0), omega arith, omega arith)
-
 returns-2 : tie.Need-returns-2
 unfolding analogCameraRailsOf
 returns-2 c =
@@ -89,11 +85,12 @@ returns-5 c =
     )
 
 pub analog-camera-rails-spec : {M : Type 1} → statement M
+unfolding analogCameraRailsOf
 analog-camera-rails-spec =
     tie.close
     (tie.spec
     (λ c κs. search needs)
-    returns
+    (λ c. (rw (c .before .if1 .taken) (c .no-layout .ensures .0), omega arith, omega arith))
     (λ c κs. search needs)
     (λ c κs. search needs)
     returns-2

@@ -17,10 +17,6 @@ Inv-loop w h rail at count top₀ i₀ top i = (i ≤ count) × (top ≡ cameraT
 abbrev μ-loop : tie.MeasureT-loop
 μ-loop w h rail at count top₀ i₀ top i = count - i
 
-loop-holds : tie.Need-loop-holds Inv-loop μ-loop
-unfolding cameraTopOf
-loop-holds c = (omega arith, refl)
-
 loop-again : tie.Need-loop-again Inv-loop μ-loop
 unfolding cameraTopOf
 loop-again c =
@@ -43,12 +39,13 @@ returns c =
     rw e (l .loop .inv .1)
 
 pub camera-top-spec : {M : Type 1} → statement M
+unfolding cameraTopOf
 camera-top-spec =
     tie.close
     (tie.spec
     Inv-loop
     μ-loop
-    loop-holds
+    (λ c. (omega arith, refl))
     (λ c. omega arith)
     (λ c. omega arith)
     (λ c κs. search needs)

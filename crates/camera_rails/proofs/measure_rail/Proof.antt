@@ -3,9 +3,6 @@ use Rattle.camera_rails.specs.CameraRails.{measureRailOf}
 use Rattle.camera_rails.proofs.measure_rail.Statement.{statement}
 use Rattle.camera_rails.proofs.measure_rail.Tie as tie
 
-returns : tie.Need-returns
-unfolding measureRailOf
-returns c = rw (← c .pick .ensures)
-
 pub measure-rail-spec : {M : Type 1} → statement M
-measure-rail-spec = tie.close (tie.spec (λ c κs. search needs) returns)
+unfolding measureRailOf
+measure-rail-spec = tie.close (tie.spec (λ c κs. search needs) (λ c. rw (← c .pick .ensures)))

@@ -19,9 +19,6 @@ Inv-loop w h holes faces count out₀ i₀ out i = ((i ≤ count) × (out .count
 abbrev μ-loop : tie.MeasureT-loop
 μ-loop w h holes faces count out₀ i₀ out i = count - i
 
-loop-holds : tie.Need-loop-holds Inv-loop μ-loop
-loop-holds c = ((omega arith, c .settle .ensures .1), refl)
-
 loop-again : tie.Need-loop-again Inv-loop μ-loop
 loop-again c =
     let l = c .before .before .before .loop in
@@ -68,7 +65,7 @@ avoid-spec =
     Inv-loop
     μ-loop
     (λ c κs. search needs)
-    loop-holds
+    (λ c. ((omega arith, c .settle .ensures .1), refl))
     (λ c κs. search needs)
     (λ c. omega arith)
     (λ c. omega arith)

@@ -11,10 +11,6 @@ use borrow.Author.Needs.{needs}
 use Rattle.cutouts.proofs.avoid_cutouts.Statement.{statement}
 use Rattle.cutouts.proofs.avoid_cutouts.Tie as tie
 
-returns : tie.Need-returns
-unfolding avoidCutoutsOf
-returns c = rw (c .if1 .taken)
-
 returns-2 : tie.Need-returns-2
 unfolding avoidCutoutsOf
 returns-2 c =
@@ -23,9 +19,6 @@ returns-2 c =
     let k : length (a .result .at) ≡ 16 = search sized in
     let q : length (withAreaOf (cutoutList (s .args .cutouts))) ≡ a .result .count = ap length (sym (a .ensures .0)) ∙ length-take-le (a .result .count) (a .result .at) (omega (arith, a .ensures .1)) in
     rw (eq-eqb _ 0 (q ∙ c .if2 .taken))
-
-avoid-requires : tie.Need-avoid-requires
-avoid-requires c κs = ((omega arith, (omega arith, omega arith)), rw (c .elements .ensures .1) (c .before .faces .ensures .1 .1))
 
 returns-3 : tie.Need-returns-3
 unfolding avoidCutoutsOf
@@ -37,14 +30,15 @@ returns-3 c =
     rw (ne-eqb _ 0 (λ z. c .before .before .before .before .if2 .left (sym q ∙ z))) (c .set-elements .ensures ∙ ap (setElementsOf (s .args .l)) (c .before .avoid .ensures .0 ∙ rw (a .ensures .0, c .before .before .before .faces .ensures .0, c .before .before .elements .ensures .0)))
 
 pub avoid-cutouts-spec : {M : Type 1} → statement M
+unfolding avoidCutoutsOf
 avoid-cutouts-spec =
     tie.close
     (tie.spec
-    returns
+    (λ c. rw (c .if1 .taken))
     (λ c κs. search needs)
     returns-2
     (λ c κs. search needs)
     (λ c κs. search needs)
-    avoid-requires
+    (λ c κs. ((omega arith, (omega arith, omega arith)), rw (c .elements .ensures .1) (c .before .faces .ensures .1 .1)))
     (λ c κs. search needs)
     returns-3)

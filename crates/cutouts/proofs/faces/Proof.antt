@@ -21,9 +21,6 @@ Inv-loop controls n at₀ count₀ i₀ at count i = ((i ≤ n) × (count ≤ 4)
 abbrev μ-loop : tie.MeasureT-loop
 μ-loop controls n at₀ count₀ i₀ at count i = n - i
 
-loop-holds : tie.Need-loop-holds Inv-loop μ-loop
-loop-holds c = ((omega arith, omega arith), ((search sized, refl), refl))
-
 loop-again : tie.Need-loop-again Inv-loop μ-loop
 loop-again c =
     let s = c .before .before .before .before .before .before in
@@ -62,7 +59,7 @@ faces-spec =
     (tie.spec
     Inv-loop
     μ-loop
-    loop-holds
+    (λ c. ((omega arith, omega arith), ((search sized, refl), refl)))
     (λ c. omega arith)
     (λ c. omega arith)
     (λ c κs. search needs)

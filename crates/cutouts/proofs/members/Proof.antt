@@ -17,18 +17,9 @@ Inv-loop el at n out₀ k₀ out k = ((k ≤ n) × ((length at ≡ 4) × (length
 abbrev μ-loop : tie.MeasureT-loop
 μ-loop el at n out₀ k₀ out k = n - k
 
-loop-holds : tie.Need-loop-holds Inv-loop μ-loop
-loop-holds c = ((omega arith, (search sized, refl)), refl)
-
 -- the index at k is one of an element
 index : (s : tie.Start Inv-loop μ-loop) (k : ℕ) → length (s .args .group .at) ≡ 4 → k < s .args .group .count → getD (s .args .group .at) k 0 < s .args .elements .count
 index s k e h = below-index (s .args .elements .count) (s .args .group .at) (s .args .group .count) k (s .pre .1) (omega arith) h
-
-mul-out : tie.Need-mul-out Inv-loop μ-loop
-mul-out c = let l = c .before .loop in omega (arith, index (c .before .before .before .before .before) (l .k) (l .inv .0 .1 .0) (c .loop-test .taken))
-
-array-copy-out-out-2 : tie.Need-array-copy-out-out-2 Inv-loop μ-loop
-array-copy-out-out-2 c = let l = c .before .loop in omega (arith, index (c .before .before .before .before .before) (l .k) (l .inv .0 .1 .0) (c .loop-test .taken))
 
 loop-again : tie.Need-loop-again Inv-loop μ-loop
 loop-again c =
@@ -52,11 +43,11 @@ members-spec =
     Inv-loop
     μ-loop
     (λ c. omega arith)
-    loop-holds
+    (λ c. ((omega arith, (search sized, refl)), refl))
     (λ c. omega arith)
     (λ c. omega arith)
-    mul-out
-    array-copy-out-out-2
+    (λ c. let l = c .before .loop in omega (arith, index (c .before .before .before .before .before) (l .k) (l .inv .0 .1 .0) (c .loop-test .taken)))
+    (λ c. let l = c .before .loop in omega (arith, index (c .before .before .before .before .before) (l .k) (l .inv .0 .1 .0) (c .loop-test .taken)))
     (λ c. omega arith)
     (λ c. omega arith)
     (λ c. omega arith)

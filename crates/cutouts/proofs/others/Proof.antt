@@ -19,9 +19,6 @@ Inv-loop group el n out₀ count₀ i₀ out count i = ((i ≤ n) × (count ≤ 
 abbrev μ-loop : tie.MeasureT-loop
 μ-loop group el n out₀ count₀ i₀ out count i = n - i
 
-loop-holds : tie.Need-loop-holds Inv-loop μ-loop
-loop-holds c = ((omega arith, omega arith), ((search sized, search sized), refl))
-
 loop-again : tie.Need-loop-again Inv-loop μ-loop
 loop-again c =
     let l = c .before .before .before .loop in
@@ -52,7 +49,7 @@ others-spec =
     (tie.spec
     Inv-loop
     μ-loop
-    loop-holds
+    (λ c. ((omega arith, omega arith), ((search sized, search sized), refl)))
     (λ c κs. search needs)
     (λ c. omega arith)
     (λ c. omega arith)

@@ -20,18 +20,9 @@ Inv-loop elements dx dy old at n el₀ k₀ el k = ((k ≤ n) × ((length at ≡
 abbrev μ-loop : tie.MeasureT-loop
 μ-loop elements dx dy old at n el₀ k₀ el k = n - k
 
-loop-holds : tie.Need-loop-holds Inv-loop μ-loop
-loop-holds c = ((omega arith, (search sized, search sized)), refl)
-
 -- the index at k is one of an element
 index : (s : tie.Start Inv-loop μ-loop) (k : ℕ) → length (s .args .group .at) ≡ 4 → k < s .args .group .count → getD (s .args .group .at) k 0 < s .args .elements .count
 index s k e h = below-index (s .args .elements .count) (s .args .group .at) (s .args .group .count) k (s .pre .1) (omega arith) h
-
-mul-moved : tie.Need-mul-moved Inv-loop μ-loop
-mul-moved c = let l = c .before .loop in omega (arith, index (c .before .before .before .before) (l .k) (l .inv .0 .1 .0) (c .loop-test .taken))
-
-array-copy-out-moved : tie.Need-array-copy-out-moved Inv-loop μ-loop
-array-copy-out-moved c = let l = c .before .loop in omega (arith, index (c .before .before .before .before) (l .k) (l .inv .0 .1 .0) (c .loop-test .taken))
 
 mul-el : tie.Need-mul-el Inv-loop μ-loop
 mul-el c = let l = c .before .before .before .loop in omega (arith, index (c .before .before .before .before .before .before) (l .k) (l .inv .0 .1 .0) (c .before .before .loop-test .taken))
@@ -63,11 +54,11 @@ shift-by-spec =
     (tie.spec
     Inv-loop
     μ-loop
-    loop-holds
+    (λ c. ((omega arith, (search sized, search sized)), refl))
     (λ c. omega arith)
     (λ c. omega arith)
-    mul-moved
-    array-copy-out-moved
+    (λ c. let l = c .before .loop in omega (arith, index (c .before .before .before .before) (l .k) (l .inv .0 .1 .0) (c .loop-test .taken)))
+    (λ c. let l = c .before .loop in omega (arith, index (c .before .before .before .before) (l .k) (l .inv .0 .1 .0) (c .loop-test .taken)))
     (λ c κs. search needs)
     mul-el
     array-set-from-el

@@ -18,9 +18,6 @@ Inv-loop at n out₀ count₀ i₀ out count i = ((i ≤ n) × (count ≤ i)) ×
 abbrev μ-loop : tie.MeasureT-loop
 μ-loop at n out₀ count₀ i₀ out count i = n - i
 
-loop-holds : tie.Need-loop-holds Inv-loop μ-loop
-loop-holds c = ((omega arith, omega arith), ((search sized, search sized), refl))
-
 loop-again : tie.Need-loop-again Inv-loop μ-loop
 loop-again c =
     let s = c .before .before .before .before .before .before in
@@ -48,7 +45,7 @@ with-area-spec =
     (tie.spec
     Inv-loop
     μ-loop
-    loop-holds
+    (λ c. ((omega arith, omega arith), ((search sized, search sized), refl)))
     (λ c. omega arith)
     (λ c. omega arith)
     (λ c κs. search needs)

@@ -36,11 +36,8 @@ loop-again c =
     let e = c .before .before .before in
     goes-on (fromStick anyRect) (e .before .before .before .loop .inv) (e .before .before .loop-test .taken) (rw (← e .lies-clear .ensures, not-false (e .lies-clear .result) (c .before .before .if1 .left), ← c .before .separate-after .ensures, not-false (c .before .separate-after .result) (c .if2 .left)))
 
-returns-3 : tie.Need-returns-3 Inv-loop μ-loop
-unfolding fitsOf allFit
-returns-3 c = rw (← c .before .before .inputs .ensures .0) (runs-out (c .before .loop .inv) (c .loop-test .left))
-
 pub fits-spec : {M : Type 1} → statement M
+unfolding fitsOf allFit
 fits-spec =
     tie.close
     (tie.spec
@@ -57,4 +54,4 @@ fits-spec =
     (λ c. omega arith)
     (λ c. omega arith)
     loop-again
-    returns-3)
+    (λ c. rw (← c .before .before .inputs .ensures .0) (runs-out (c .before .loop .inv) (c .loop-test .left))))

@@ -3,9 +3,6 @@ use Rattle.geometry.specs.Rect.{nearOf}
 use Rattle.geometry.proofs.near.Statement.{statement}
 use Rattle.geometry.proofs.near.Tie as tie
 
-returns : tie.Need-returns
-unfolding nearOf
-returns c = rw (← c .abs .ensures)
-
 pub near-spec : {M : Type 1} → statement M
-near-spec = tie.close (tie.spec (λ c κs. search needs) returns)
+unfolding nearOf
+near-spec = tie.close (tie.spec (λ c κs. search needs) (λ c. rw (← c .abs .ensures)))

@@ -18,9 +18,6 @@ Inv-loop n controls at out₀ i₀ out i = (i ≤ n) × (length out ≡ 12) × (
 abbrev μ-loop : tie.MeasureT-loop
 μ-loop n controls at out₀ i₀ out i = n - i
 
-loop-holds : tie.Need-loop-holds Inv-loop μ-loop
-loop-holds c = (omega arith, search sized, refl)
-
 loop-again : tie.Need-loop-again Inv-loop μ-loop
 loop-again c =
     let l = c .before .before .before in
@@ -47,7 +44,7 @@ set-bounds-spec =
     (tie.spec
     Inv-loop
     μ-loop
-    loop-holds
+    (λ c. (omega arith, search sized, refl))
     (λ c. omega arith)
     (λ c. omega arith)
     (λ c. omega arith)

@@ -3,25 +3,14 @@ use Rattle.moves.specs.Moves.{clearOf}
 use Rattle.moves.proofs.clear.Statement.{statement}
 use Rattle.moves.proofs.clear.Tie as tie
 
-returns : tie.Need-returns
-unfolding clearOf
-returns c = rw (← c .before .before .before .before .inside .ensures, ← c .before .before .overlap .ensures, ← c .overlap2 .ensures, c .before .before .before .if1 .taken) (rw (c .before .if2 .taken))
-
-returns-2 : tie.Need-returns-2
-unfolding clearOf
-returns-2 c = rw (← c .before .before .before .inside .ensures, ← c .before .overlap .ensures, c .before .before .if1 .taken, c .if2 .left)
-
-returns-3 : tie.Need-returns-3
-unfolding clearOf
-returns-3 c = rw (← c .before .inside .ensures, c .if1 .left)
-
 pub clear-spec : {M : Type 1} → statement M
+unfolding clearOf
 clear-spec =
     tie.close
     (tie.spec
     (λ c κs. search needs)
     (λ c κs. search needs)
     (λ c κs. search needs)
-    returns
-    returns-2
-    returns-3)
+    (λ c. rw (← c .before .before .before .before .inside .ensures, ← c .before .before .overlap .ensures, ← c .overlap2 .ensures, c .before .before .before .if1 .taken) (rw (c .before .if2 .taken)))
+    (λ c. rw (← c .before .before .before .inside .ensures, ← c .before .overlap .ensures, c .before .before .if1 .taken, c .if2 .left))
+    (λ c. rw (← c .before .inside .ensures, c .if1 .left)))

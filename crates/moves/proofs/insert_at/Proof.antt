@@ -13,9 +13,6 @@ Inv-loop a₀ n at v j₀ a j = ((at ≤ j) × (j ≤ n)) × (Opened a₀ n a j 
 abbrev μ-loop : tie.MeasureT-loop
 μ-loop a₀ n at v j₀ a j = j
 
-loop-holds : tie.Need-loop-holds Inv-loop μ-loop
-loop-holds c = ((omega arith, omega arith), (open-start (c .args .a .now) (c .args .n), c .pre .1 .1))
-
 loop-again : tie.Need-loop-again Inv-loop μ-loop
 loop-again c =
     let s = c .before .before .before in
@@ -36,7 +33,7 @@ insert-at-spec =
     (tie.spec
     Inv-loop
     μ-loop
-    loop-holds
+    (λ c. ((omega arith, omega arith), (open-start (c .args .a .now) (c .args .n), c .pre .1 .1)))
     (λ c. omega arith)
     (λ c. omega arith)
     (λ c. omega arith)

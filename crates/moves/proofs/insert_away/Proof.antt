@@ -5,12 +5,6 @@ use borrow.Author.Needs.{needs}
 use Rattle.moves.proofs.insert_away.Statement.{statement}
 use Rattle.moves.proofs.insert_away.Tie as tie
 
-insert-requires-2 : tie.Need-insert-requires-2
-insert-requires-2 c κs = (omega arith, held (c .before .before .before .before .before .insert .ensures))
-
-insert-requires-3 : tie.Need-insert-requires-3
-insert-requires-3 c κs = (omega arith, held (recount _ (omega arith) (c .before .before .before .before .before .before .insert2 .ensures)))
-
 add-insert-3 : tie.Need-add-insert-3
 add-insert-3 c = omega (arith, c .before .before .before .before .before .before .before .before .before .before .before .before .before .before .before .before .before .before .before .before .before .before .before .pre)
 
@@ -33,9 +27,9 @@ insert-away-spec =
     (tie.spec
     (λ c κs. search needs)
     (λ c. search needs)
-    insert-requires-2
+    (λ c κs. (omega arith, held (c .before .before .before .before .before .insert .ensures)))
     (λ c. search needs)
-    insert-requires-3
+    (λ c κs. (omega arith, held (recount _ (omega arith) (c .before .before .before .before .before .before .insert2 .ensures))))
     add-insert-3
     insert-requires-4
     returns)

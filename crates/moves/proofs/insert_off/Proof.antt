@@ -30,11 +30,8 @@ loop-again-2 c =
     let l = t .before .before .before .before .loop in
     (omega arith, held (c .insert-away .ensures), goes-on anyRect (l .inv .2) (t .before .before .before .loop-test .taken) (rw (foldl-append, ← t .before .overlaps .ensures, not-false (t .before .overlaps .result) (t .if1 .left), c .insert-away .ensures .offsets)))
 
-returns : tie.Need-returns Inv-loop μ-loop
-unfolding flatMap
-returns c = (omega arith, rw (runs-out (c .before .loop .inv .2) (c .loop-test .left)) at (c .before .loop .inv .1))
-
 pub insert-off-spec : {M : Type 1} → statement M
+unfolding flatMap
 insert-off-spec =
     tie.close
     (tie.spec
@@ -52,4 +49,4 @@ insert-off-spec =
     (λ c. omega arith)
     (λ c. omega arith)
     loop-again-2
-    returns)
+    (λ c. (omega arith, rw (runs-out (c .before .loop .inv .2) (c .loop-test .left)) at (c .before .loop .inv .1))))

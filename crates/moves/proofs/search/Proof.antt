@@ -17,10 +17,6 @@ Inv-loop w h holes others m original dxs₀ dys₀ lens₀ n₀ i₀ dxs dys len
 abbrev μ-loop : tie.MeasureT-loop
 μ-loop w h holes others m original dxs₀ dys₀ lens₀ n₀ i₀ dxs dys lens n i = m - i
 
-loop-holds : tie.Need-loop-holds Inv-loop μ-loop
-unfolding orderedOf movesIn
-loop-holds c = (omega arith, holds-none _ _ _ refl refl refl, search arith)
-
 loop-again : tie.Need-loop-again Inv-loop μ-loop
 unfolding candidatesOf flatMap
 loop-again c =
@@ -32,17 +28,14 @@ first-clear-requires c κs =
     let l = c .before .before .before .loop in
     ((l .inv .1 .dxsize, l .inv .1 .dysize), (omega arith, c .before .before .before .before .pre))
 
-returns : tie.Need-returns Inv-loop μ-loop
-unfolding searchOf candidatesOf flatMap
-returns c = c .first-clear .ensures ∙ ap (firstClearOf _ _ _ _ _) (runs-out (c .before .before .before .before .loop .inv .2) (c .before .before .before .loop-test .left))
-
 pub search-spec : {M : Type 1} → statement M
+unfolding orderedOf movesIn searchOf candidatesOf flatMap
 search-spec =
     tie.close
     (tie.spec
     Inv-loop
     μ-loop
-    loop-holds
+    (λ c. (omega arith, holds-none _ _ _ refl refl refl, search arith))
     (λ c. omega arith)
     (λ c. omega arith)
     (λ c κs. (omega arith, omega arith, c .before .before .before .before .before .loop .inv .1))
@@ -50,4 +43,4 @@ search-spec =
     (λ c. omega arith)
     loop-again
     first-clear-requires
-    returns)
+    (λ c. c .first-clear .ensures ∙ ap (firstClearOf _ _ _ _ _) (runs-out (c .before .before .before .before .loop .inv .2) (c .before .before .before .loop-test .left))))

@@ -4,10 +4,6 @@ use Rattle.safe_area.proofs.Scale.{ltZ-back}
 use Rattle.safe_area.proofs.clamp.Statement.{statement}
 use Rattle.safe_area.proofs.clamp.Tie as tie
 
-returns : tie.Need-returns
-unfolding clampOf
-returns c = let f = c .before .fits in rw (toZ-ofZ (f .low), ltZ-back (f .x) (f .low) (c .if1 .taken))
-
 returns-2 : tie.Need-returns-2
 unfolding clampOf
 returns-2 c =
@@ -21,4 +17,10 @@ returns-3 c =
     rw (toZ-ofZ (f .x), ltZ-back (f .x) (f .low) (c .before .if1 .left), ltZ-back (f .high) (f .x) (c .if2 .left))
 
 pub clamp-spec : {M : Type 1} → statement M
-clamp-spec = tie.close (tie.spec returns returns-2 returns-3)
+unfolding clampOf
+clamp-spec =
+    tie.close
+    (tie.spec
+    (λ c. let f = c .before .fits in rw (toZ-ofZ (f .low), ltZ-back (f .x) (f .low) (c .if1 .taken)))
+    returns-2
+    returns-3)

@@ -10,10 +10,13 @@ span-along-requires c κs = (search needs, (search needs, current-on-scale (c .b
 span-along-requires-2 : tie.Need-span-along-requires-2
 span-along-requires-2 c κs = (search needs, (search needs, current-on-scale (c .before .before .args .size) (c .before .before .args .inset-size) (c .before .before .args .edges) (c .before .current-edges .ensures) (search needs)))
 
-returns : tie.Need-returns
-unfolding contentOf
-returns c = rw (← c .before .before .before .current-edges .ensures, ← c .before .before .span-along .ensures, ← c .before .span-along2 .ensures, ← c .new .ensures)
-
 pub content-spec : {M : Type 1} → statement M
+unfolding contentOf
 content-spec =
-    tie.close (tie.spec (λ c κs. search needs) span-along-requires span-along-requires-2 (λ c κs. search needs) returns)
+    tie.close
+    (tie.spec
+    (λ c κs. search needs)
+    span-along-requires
+    span-along-requires-2
+    (λ c κs. search needs)
+    (λ c. rw (← c .before .before .before .current-edges .ensures, ← c .before .before .span-along .ensures, ← c .before .span-along2 .ensures, ← c .new .ensures)))

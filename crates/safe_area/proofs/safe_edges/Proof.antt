@@ -3,15 +3,8 @@ use borrow.Author.Needs.{needs}
 use Rattle.safe_area.proofs.safe_edges.Statement.{statement}
 use Rattle.safe_area.proofs.safe_edges.Tie as tie
 
-returns : tie.Need-returns
-unfolding safeEdgesOf
-returns c = rw (← c .before .before .all-on-scale .ensures, c .before .if1 .taken, c .merged .ensures)
-
-returns-2 : tie.Need-returns-2
-unfolding safeEdgesOf
-returns-2 c = rw (← c .before .all-on-scale .ensures, c .if1 .left)
-
 pub safe-edges-spec : {M : Type 1} → statement M
+unfolding safeEdgesOf
 safe-edges-spec =
     tie.close
     (tie.spec
@@ -20,5 +13,5 @@ safe-edges-spec =
     (λ c. search needs)
     (λ c κs. search needs)
     (λ c κs. search needs)
-    returns
-    returns-2)
+    (λ c. rw (← c .before .before .all-on-scale .ensures, c .before .if1 .taken, c .merged .ensures))
+    (λ c. rw (← c .before .all-on-scale .ensures, c .if1 .left)))

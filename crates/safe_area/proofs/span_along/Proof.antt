@@ -17,15 +17,6 @@ at-ends c =
     let on = start c .pre .1 in
     measured (within-at _ _ (on .0)) (within-at _ _ (on .1)) (within-at _ _ (on .1)) (c .before .before .before .max .ensures) (c .before .before .clamp .ensures) (c .max2 .ensures)
 
-sub-max : tie.Need-sub-max
-sub-max c = at-ends c .first
-
-sub-max-2 : tie.Need-sub-max-2
-sub-max-2 c = at-ends c .second
-
-int-to-float-t20 : tie.Need-int-to-float-t20
-int-to-float-t20 c = let m = at-ends (c .before .before) in cast-small (c .before .before .before .before .clamp .result) (omega (arith, m .start-small))
-
 int-to-float-t21 : tie.Need-int-to-float-t21
 int-to-float-t21 c =
     let x = c .before .before .max3 in
@@ -52,9 +43,9 @@ span-along-spec =
     (λ c. search needs)
     (λ c. search needs)
     (λ c κs. search needs)
-    sub-max
-    sub-max-2
+    (λ c. at-ends c .first)
+    (λ c. at-ends c .second)
     (λ c κs. search needs)
-    int-to-float-t20
+    (λ c. let m = at-ends (c .before .before) in cast-small (c .before .before .before .before .clamp .result) (omega (arith, m .start-small)))
     int-to-float-t21
     returns)

@@ -3,9 +3,11 @@ use Rattle.toolbar.specs.Toolbar.{candidateOf}
 use Rattle.toolbar.proofs.candidate.Statement.{statement}
 use Rattle.toolbar.proofs.candidate.Tie as tie
 
-returns : tie.Need-returns
-unfolding candidateOf
-returns c = rw (← c .before .pick .ensures, ← c .new .ensures)
-
 pub candidate-spec : {M : Type 1} → statement M
-candidate-spec = tie.close (tie.spec (λ c κs. search needs) (λ c κs. search needs) returns)
+unfolding candidateOf
+candidate-spec =
+    tie.close
+    (tie.spec
+    (λ c κs. search needs)
+    (λ c κs. search needs)
+    (λ c. rw (← c .before .pick .ensures, ← c .new .ensures)))

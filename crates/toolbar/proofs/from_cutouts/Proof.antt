@@ -16,9 +16,6 @@ Inv-loop from n at₀ i₀ at i = (i ≤ n) × (length at ≡ 31) × (take i at 
 abbrev μ-loop : tie.MeasureT-loop
 μ-loop from n at₀ i₀ at i = n - i
 
-loop-holds : tie.Need-loop-holds Inv-loop μ-loop
-loop-holds c = (zero-le, refl, refl)
-
 loop-again : tie.Need-loop-again Inv-loop μ-loop
 loop-again c =
     let l = c .before .before in
@@ -38,7 +35,7 @@ from-cutouts-spec =
     (tie.spec
     Inv-loop
     μ-loop
-    loop-holds
+    (λ c. (zero-le, refl, refl))
     (λ c. omega arith)
     (λ c. omega arith)
     (λ c. omega arith)

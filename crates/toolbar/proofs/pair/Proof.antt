@@ -51,12 +51,6 @@ loop2-holds c =
     let e : c .before .before .before .args .n + 1 - l .counter ≡ suc (c .before .before .before .args .n - l .counter) = omega arith in
     record { rest = record { most = zero-le; size = l .inv .2; left = sym (rw e at (l .inv .3)) } }
 
-array-copy-out-c : tie.Need-array-copy-out-c Inv-loop2 μ-loop2 Inv-loop3 μ-loop3 Inv-loop μ-loop
-array-copy-out-c c = omega (arith, scan-open (c .before .loop2 .inv) (c .loop2-test .taken))
-
-loop2-less : tie.Need-loop2-less Inv-loop2 μ-loop2 Inv-loop3 μ-loop3 Inv-loop μ-loop
-loop2-less c = omega (arith, scan-open (c .before .before .before .loop2 .inv) (c .before .before .loop2-test .taken))
-
 loop2-again : tie.Need-loop2-again Inv-loop2 μ-loop2 Inv-loop3 μ-loop3 Inv-loop μ-loop
 loop2-again c =
     let t = c .before .before in
@@ -66,16 +60,6 @@ loop3-holds : tie.Need-loop3-holds Inv-loop2 μ-loop2 Inv-loop3 μ-loop3 Inv-loo
 unfolding moved
 loop3-holds c =
     record { rest = record { most = zero-le; size = c .before .before .before .before .loop2 .inv .rest .size; left = rw (← c .before .candidate .ensures, ← c .room .ensures) (scan-first (overlapsOf (c .before .candidate .result)) _ _ _ (c .room .result)) } }
-
-array-copy-out-o : tie.Need-array-copy-out-o Inv-loop2 μ-loop2 Inv-loop3 μ-loop3 Inv-loop μ-loop
-array-copy-out-o c = omega (arith, scan-open (c .before .loop3 .inv) (c .loop3-test .taken))
-
-overlaps-requires-2 :
-    tie.Need-overlaps-requires-2 Inv-loop2 μ-loop2 Inv-loop3 μ-loop3 Inv-loop μ-loop
-overlaps-requires-2 c κs = search needs
-
-loop3-less : tie.Need-loop3-less Inv-loop2 μ-loop2 Inv-loop3 μ-loop3 Inv-loop μ-loop
-loop3-less c = omega (arith, scan-open (c .before .before .before .loop3 .inv) (c .before .before .loop3-test .taken))
 
 loop3-again : tie.Need-loop3-again Inv-loop2 μ-loop2 Inv-loop3 μ-loop3 Inv-loop μ-loop
 loop3-again c =
@@ -121,19 +105,19 @@ pair-spec =
     loop-holds
     loop2-holds
     (λ c. omega arith)
-    array-copy-out-c
+    (λ c. omega (arith, scan-open (c .before .loop2 .inv) (c .loop2-test .taken)))
     (λ c κs. search needs)
     (λ c. omega arith)
-    loop2-less
+    (λ c. omega (arith, scan-open (c .before .before .before .loop2 .inv) (c .before .before .loop2-test .taken)))
     loop2-again
     (λ c κs. search needs)
     (λ c κs. search needs)
     loop3-holds
     (λ c. omega arith)
-    array-copy-out-o
-    overlaps-requires-2
+    (λ c. omega (arith, scan-open (c .before .loop3 .inv) (c .loop3-test .taken)))
+    (λ c κs. search needs)
     (λ c. omega arith)
-    loop3-less
+    (λ c. omega (arith, scan-open (c .before .before .before .loop3 .inv) (c .before .before .loop3-test .taken)))
     loop3-again
     (λ c κs. search needs)
     (λ c. omega arith)

@@ -18,11 +18,8 @@ returns-2 c =
     let e : c .before .before .args .cutouts .count ≡ 0 = omega arith in
     rw (c .before .if1 .left, e) (record { left = refl; right = refl })
 
-returns-3 : tie.Need-returns-3
-unfolding avoidedOf
-returns-3 c = rw (c .before .before .before .if1 .left, ← c .before .from-cutouts2 .ensures .0) (c .place-both2 .ensures)
-
 pub place-bars-spec : {M : Type 1} → statement M
+unfolding avoidedOf
 place-bars-spec =
     tie.close
     (tie.spec
@@ -34,4 +31,4 @@ place-bars-spec =
     returns-2
     (λ c κs. search needs)
     (λ c κs. search needs)
-    returns-3)
+    (λ c. rw (c .before .before .before .if1 .left, ← c .before .from-cutouts2 .ensures .0) (c .place-both2 .ensures)))

@@ -27,14 +27,6 @@ Inv-loop l x y previous n outside controls others₀ faces₀ i₀ others faces 
 abbrev μ-loop : tie.MeasureT-loop
 μ-loop l x y previous n outside controls others₀ faces₀ i₀ others faces i = n - i
 
-infinite : tie.Need-float-from-bits-t13 Inv-loop μ-loop
-unfolding nanBits
-infinite c = tt
-
-loop-holds : tie.Need-loop-holds Inv-loop μ-loop
-unfolding othersMaskOf nearest
-loop-holds c = (omega arith, refl, refl, refl)
-
 loop-again : tie.Need-loop-again Inv-loop μ-loop
 unfolding othersMaskOf nearest
 loop-again c =
@@ -69,14 +61,15 @@ returns c =
     rw (← c .before .dpad-mask .ensures, ← v .1) (ap (bitOr (bitOr (c .before .dpad-mask .result) (l .loop .others))) (c .face-mask .ensures ∙ f))
 
 pub mask-near-spec : {M : Type 1} → statement M
+unfolding nanBits othersMaskOf nearest
 mask-near-spec =
     tie.close
     (tie.spec
     Inv-loop
     μ-loop
     (λ c κs. search needs)
-    infinite
-    loop-holds
+    (λ c. tt)
+    (λ c. (omega arith, refl, refl, refl))
     (λ c. omega arith)
     (λ c. omega arith)
     (λ c κs. search needs)

@@ -27,8 +27,13 @@ returns-2 c =
     over (s .args .radius) (s .args .dy) (s .args .dx) (passes _ (s .good .1 .0 .1)) (passes _ (s .good .0 .1)) (c .before .beyond2 .ensures) (c .if2 .taken)
     ∙ ap (lt (s .args .radius)) (hypot-comm (s .args .dy) (s .args .dx))
 
-returns-3 : tie.Need-returns-3
-returns-3 c = ap (lt (c .before .before .before .before .before .args .radius)) (c .hypot .ensures)
-
 pub off-centre-spec : {M : Type 1} → statement M
-off-centre-spec = tie.close (tie.spec (λ c κs. search needs) returns (λ c κs. search needs) returns-2 (λ c κs. search needs) returns-3)
+off-centre-spec =
+    tie.close
+    (tie.spec
+    (λ c κs. search needs)
+    returns
+    (λ c κs. search needs)
+    returns-2
+    (λ c κs. search needs)
+    (λ c. ap (lt (c .before .before .before .before .before .args .radius)) (c .hypot .ensures)))

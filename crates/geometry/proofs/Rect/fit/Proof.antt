@@ -3,9 +3,11 @@ use Rattle.geometry.specs.Rect.{fitOf}
 use Rattle.geometry.proofs.Rect.fit.Statement.{statement}
 use Rattle.geometry.proofs.Rect.fit.Tie as tie
 
-returns : tie.Need-returns
-unfolding fitOf
-returns c = rw (← c .before .before .before .before .before .min .ensures, ← c .new .ensures)
-
 pub fit-spec : {M : Type 1} → statement M
-fit-spec = tie.close (tie.spec (λ c κs. search needs) (λ c κs. search needs) returns)
+unfolding fitOf
+fit-spec =
+    tie.close
+    (tie.spec
+    (λ c κs. search needs)
+    (λ c κs. search needs)
+    (λ c. rw (← c .before .before .before .before .before .min .ensures, ← c .new .ensures)))

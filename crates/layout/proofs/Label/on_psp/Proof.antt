@@ -3,9 +3,6 @@ use Rattle.layout.specs.Label.{onPspOf}
 use Rattle.layout.proofs.Label.on_psp.Statement.{statement}
 use Rattle.layout.proofs.Label.on_psp.Tie as tie
 
-returns : tie.Need-returns
-unfolding onPspOf
-returns c = rw (← c .mask .ensures)
-
 pub on-psp-spec : {M : Type 1} → statement M
-on-psp-spec = tie.close (tie.spec (λ c κs. search needs) returns)
+unfolding onPspOf
+on-psp-spec = tie.close (tie.spec (λ c κs. search needs) (λ c. rw (← c .mask .ensures)))

@@ -18,9 +18,6 @@ Inv-loop self old controls₀ count₀ i₀ i-end controls count i =
 abbrev μ-loop : tie.MeasureT-loop
 μ-loop self old controls₀ count₀ i₀ i-end controls count i = i-end - i
 
-loop-holds : tie.Need-loop-holds Inv-loop μ-loop
-loop-holds c = (omega arith, omega arith, rw length-map at (c .before .good .0 .1 .1 .1 .1 .0 .1 .0 .1), refl, refl)
-
 loop-again : tie.Need-loop-again Inv-loop μ-loop
 loop-again c =
     let l = c .before .before .before .before in
@@ -51,7 +48,7 @@ psp-inputs-spec =
     (tie.spec
     Inv-loop
     μ-loop
-    loop-holds
+    (λ c. (omega arith, omega arith, rw length-map at (c .before .good .0 .1 .1 .1 .1 .0 .1 .0 .1), refl, refl))
     (λ c. omega arith)
     (λ c. omega arith)
     (λ c κs. search needs)

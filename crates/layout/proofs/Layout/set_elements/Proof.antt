@@ -20,9 +20,6 @@ Inv-loop self n at controls sticks₀ i₀ i-end sticks i = (i ≤ i-end) × (le
 abbrev μ-loop : tie.MeasureT-loop
 μ-loop self n at controls sticks₀ i₀ i-end sticks i = i-end - i
 
-loop-holds : tie.Need-loop-holds Inv-loop μ-loop
-loop-holds c = (omega arith, rw length-map at (c .before .before .before .before .good .0 .1 .1 .1 .1 .1 .1 .1 .1 .1 .1 .0 .1 .0 .1), refl)
-
 loop-again : tie.Need-loop-again Inv-loop μ-loop
 loop-again c =
     let l = c .before .before in
@@ -52,7 +49,7 @@ set-elements-spec =
     Inv-loop
     μ-loop
     (λ c κs. search needs)
-    loop-holds
+    (λ c. (omega arith, rw length-map at (c .before .before .before .before .good .0 .1 .1 .1 .1 .1 .1 .1 .1 .1 .1 .0 .1 .0 .1), refl))
     (λ c. omega arith)
     (λ c. omega arith)
     (λ c. omega arith)
