@@ -3,15 +3,15 @@ use mathlib.Core.Bool.{Bool, true, false, _||_}
 use mathlib.Core.List.{List, []}
 use lib.Ieee.{Float, lt}
 use lib.ListN.{replicate}
+use Rattle.prelude.specs.Booleans.{by-test}
+use Rattle.prelude.specs.Each.{Each, _&_}
+use Rattle.prelude.specs.EachLaws.{fold-ind}
 use Rattle.float.specs.Float.{_⊖_, _⊘_, k0, k1, k3, k4, k16, k122}
 use Rattle.geometry.specs.declared.Rect.{Rect}
-use Rattle.float.proofs.Booleans.{by-test}
 use Rattle.geometry.specs.Rect.{newOf, emptyRect, overlapsOf}
 use Rattle.layout.specs.declared.Layout.{Layout}
 use Rattle.numerics.specs.Rects.{Element, Key, margin}
 use Rattle.numerics.specs.Range.{In, at, minus}
-use Rattle.numerics.specs.Each.{Each, _&_}
-use Rattle.numerics.specs.Lists.{fold-ind}
 use Rattle.numerics.specs.Ranges.{in-more, most-in, add-in, sub-in, mul-in, times-in, div-in, min-in, max-in, clamp-in, cond-in, not-below, placed-in}
 use Rattle.numerics.specs.Literals.{lit, f0·4, f2, f3, f4}
 use Rattle.search.specs.Bounded.{Every, Arranged}

@@ -3,11 +3,11 @@ use mathlib.Core.Path.{_≡_, refl, _∙_}
 use mathlib.Core.Bool.{Bool, true, false, cond}
 use mathlib.Core.List.{List, []}
 use lib.Ieee.{Float, lt}
+use Rattle.prelude.specs.Lists.{mapFirst}
 use Rattle.float.specs.Float.{k0, k122}
 use Rattle.geometry.specs.declared.Rect.{Rect}
 use Rattle.layout.specs.declared.Layout.{Layout}
 use Rattle.layout.specs.Layout.{elementsOf, withGame, withDpad}
-use Rattle.layout.specs.Lists.{mapFirst}
 use Rattle.search.specs.declared.Offset.{Offset}
 use Rattle.search.specs.Search.{placeGameInAspectOf}
 use Rattle.toolbar.specs.Toolbar.{anchorToolbarOf}

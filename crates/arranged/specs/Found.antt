@@ -3,7 +3,7 @@ use mathlib.Core.Path.{_≡_, refl, subst}
 use mathlib.Core.Bool.{Bool, not, cond}
 use mathlib.Core.Option.{Option, some, none, Option·some-injective, Option·none-ne-some}
 use lib.Dec.{T}
-use Rattle.float.proofs.Booleans.{by-test}
+use Rattle.prelude.specs.Booleans.{by-test}
 use Rattle.layout.specs.declared.Layout.{Layout}
 
 abbrev pub Given : (Layout → Type 0) → Option Layout → Type 0

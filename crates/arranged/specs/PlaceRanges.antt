@@ -5,6 +5,7 @@ use Prim.Native.Nat.{ℕ}
 use lib.Dec.{T, leb}
 use lib.Ieee.{Float}
 use lib.Ieee.Fits.{and-l, and-r}
+use Rattle.prelude.specs.Each.{Each, _&_}
 use Rattle.geometry.specs.declared.Rect.{Rect}
 use Rattle.geometry.specs.Rect.{emptyRect}
 use Rattle.layout.specs.declared.Label.{Label}
@@ -12,7 +13,6 @@ use Rattle.layout.specs.declared.Label.the-variants.{Tri, O, X, Sq, L1, L2, R2,
 use Rattle.layout.specs.declared.Layout.{Layout}
 use Rattle.numerics.specs.Rects.{OnScreen, margin}
 use Rattle.numerics.specs.Range.{In, at, minus}
-use Rattle.numerics.specs.Each.{Each, _&_}
 use Rattle.numerics.specs.Ranges.{in-more, add-in, sub-in, div-in, placed-in}
 use Rattle.numerics.specs.Literals.{lit, i4√2, f1√2, f2}
 use Rattle.search.specs.Bounded.{Every}

@@ -5,6 +5,7 @@ use mathlib.Core.Option.{Option, some, none}
 use Prim.Native.Nat.{ℕ}
 use lib.Ieee.{Float}
 use lib.ListN.{replicate}
+use Rattle.prelude.specs.Lists.{mapFirst}
 use Rattle.float.specs.Float.{_⊕_, _⊖_, _⊗_, _⊘_, k1, k2, k4, √2}
 use Rattle.geometry.specs.declared.Rect.{Rect}
 use Rattle.geometry.specs.Rect.{newOf, emptyRect}
@@ -14,7 +15,6 @@ use Rattle.layout.specs.declared.Label.the-variants.{Tri, O, X, Sq, L1, L2, R2,
 use Rattle.layout.specs.declared.Layout.{Layout}
 use Rattle.layout.specs.Labels.{analogLabels}
 use Rattle.layout.specs.Layout.{withControls}
-use Rattle.layout.specs.Lists.{mapFirst}
 use Rattle.arranged.specs.declared.Faces.{Faces}
 use Rattle.arranged.specs.declared.MaybeLayout.{MaybeLayout}
 use Rattle.arranged.specs.declared.Places.{Places}

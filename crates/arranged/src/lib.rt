@@ -2,8 +2,8 @@
 ghost use mathlib.Core.Path.{_≡_};
 ghost use mathlib.Core.Option.{none};
 ghost use Prim.Native.Nat.{_≤_};
+ghost use Rattle.prelude.specs.Lists.{mapFirst};
 ghost use Rattle.layout.specs.Layout.{cutoutList};
-ghost use Rattle.layout.specs.Lists.{mapFirst};
 ghost use Rattle.arranged.specs.Places.{maybe, capOf, placeFacesOf, atOf, controlAtOf, controlsAtOf, controllerOf, moved, placedOf};
 ghost use Rattle.arranged.specs.Arranged.{anchoredOf, finishedOf, sizeWellsOf, placeDockOf, dockPlacesOf, dockedOf, arrangedOf, measureRailsOf, railPlacesOf, requestedOf, narrowOf, clusterOf, sideRailsOf};
 ghost use Rattle.arranged.specs.Controls.{railControlsOf, sideControlsOf};

@@ -6,6 +6,8 @@ use Prim.Native.Nat.{ℕ, _+_, _≤_}
 use native.Mathlib.Omega.{arith}
 use lib.Ieee.{Float}
 use lib.ListN.{length, length-set}
+use Rattle.prelude.specs.Lists.{retain}
+use Rattle.prelude.specs.Stores.{stored}
 use Rattle.geometry.specs.declared.Rect.{Rect}
 use Rattle.layout.specs.declared.Control.{Control}
 use Rattle.layout.specs.declared.Label.{Label}
@@ -15,9 +17,7 @@ use Rattle.layout.specs.Label.{idOf, maskOf, isFaceOf, onPspOf}
 use Rattle.layout.specs.Labels.{standardLabels, analogLabels, pspLabels, Inputs, Formed}
 use Rattle.layout.specs.LabelLaws.{psp-inputs-formed}
 use Rattle.layout.specs.Layout.{controlList}
-use Rattle.layout.specs.Lists.{retain}
 use Rattle.layout.specs.Psp.{atMostOneOf}
-use Rattle.layout.proofs.Stores.{stored}
 use Rattle.search.specs.Search.{placeGameInAspectOf}
 use Rattle.toolbar.specs.Toolbar.{anchorToolbarOf}
 use Rattle.arranged.specs.Places.{control}

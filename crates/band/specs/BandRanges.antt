@@ -4,15 +4,15 @@ use mathlib.Core.List.{[]}
 use Prim.Native.Nat.{_+_}
 use lib.Ieee.{Float}
 use lib.ListN.{set}
+use Rattle.prelude.specs.Booleans.{either}
+use Rattle.prelude.specs.Each.{_&_}
+use Rattle.prelude.specs.EachLaws.{each-set}
 use Rattle.float.specs.Float.{k1}
 use Rattle.geometry.specs.declared.Rect.{Rect}
-use Rattle.float.proofs.Booleans.{either}
 use Rattle.layout.specs.declared.Label.the-variants.{L3, R3}
 use Rattle.layout.specs.declared.Layout.{Layout}
 use Rattle.numerics.specs.Rects.{Area}
 use Rattle.numerics.specs.Range.{In, at, minus}
-use Rattle.numerics.specs.Each.{_&_}
-use Rattle.numerics.specs.Lists.{each-set}
 use Rattle.numerics.specs.Ranges.{in-more, most-in, add-in, sub-in, mul-in, times-in, div-in, min-in, clamp-in, cond-in, not-below, placed-in}
 use Rattle.numerics.specs.Products.{scaled-in}
 use Rattle.numerics.specs.Literals.{lit, f0·75, f2, f4, f52, psp-high}

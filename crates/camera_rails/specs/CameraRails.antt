@@ -3,13 +3,13 @@ use mathlib.Core.Bool.{Bool, false, cond, _&&_, _||_}
 use mathlib.Core.List.{List, [], _∷_, foldl}
 use mathlib.Core.Option.{Option, some, none}
 use lib.Ieee.{Float, lt, le}
+use Rattle.prelude.specs.Lists.{filterMap}
 use Rattle.float.specs.Float.{_⊕_, _⊖_, _⊗_, _⊘_, k0, k1, k1·35, k2, k3, k4, k8, k24, k32, k48, k52, k104, k122, k128, k156, k184, k224, k272, k360, k480}
 use Rattle.float.specs.MinMax.{minOf}
 use Rattle.geometry.specs.declared.Rect.{Rect}
 use Rattle.geometry.specs.Rect.{newOf}
 use Rattle.layout.specs.declared.Layout.{Layout}
 use Rattle.layout.specs.Layout.{withDpad, withSticks, elementsOf}
-use Rattle.layout.specs.Lists.{filterMap}
 use Rattle.search.specs.Search.{centred, placeGameInAspectOf}
 use Rattle.toolbar.specs.Toolbar.{anchorToolbarOf, reusableTop}
 use Rattle.arranged.specs.declared.Places.{Places}

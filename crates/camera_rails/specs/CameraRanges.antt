@@ -4,16 +4,16 @@ use mathlib.Core.List.{List, []}
 use native.Mathlib.Omega.{arith}
 use lib.Dec.{T}
 use lib.Ieee.{Float, lt}
+use Rattle.prelude.specs.Booleans.{either}
+use Rattle.prelude.specs.Lists.{filterMap}
+use Rattle.prelude.specs.Each.{Each, _&_}
+use Rattle.prelude.specs.EachLaws.{fold-ind}
 use Rattle.float.specs.Float.{_⊖_, _⊗_, _⊘_, k1, k2, k3, k4, k48, k122, k184, k272, k480}
 use Rattle.float.specs.MinMax.{minOf}
 use Rattle.geometry.specs.declared.Rect.{Rect}
-use Rattle.float.proofs.Booleans.{either}
-use Rattle.layout.specs.Lists.{filterMap}
 use Rattle.numerics.specs.Value.{P, N, E}
 use Rattle.numerics.specs.Rects.{Element, Area}
 use Rattle.numerics.specs.Range.{In, at, minus}
-use Rattle.numerics.specs.Each.{Each, _&_}
-use Rattle.numerics.specs.Lists.{fold-ind}
 use Rattle.numerics.specs.Bounds.{sub-law, div-law}
 use Rattle.numerics.specs.Ranges.{in-reach, in-more, most-in, area-side, add-in, sub-in, mul-in, div-in, min-in, cond-in, not-below, placed-in}
 use Rattle.numerics.specs.Literals.{lit, f2, f3, f4, psp-wide}

@@ -5,9 +5,9 @@ use mathlib.Core.List.{List}
 use mathlib.Core.Option.{Option}
 use lib.Dec.{T}
 use lib.Ieee.{Float}
+use Rattle.prelude.specs.Booleans.{either}
 use Rattle.float.specs.Float.{k1}
 use Rattle.geometry.specs.declared.Rect.{Rect}
-use Rattle.float.proofs.Booleans.{either}
 use Rattle.layout.specs.declared.Layout.{Layout}
 use Rattle.search.specs.Search.{centred, placeGameInAspectOf}
 use Rattle.arranged.specs.Found.{Given, maybe-case}

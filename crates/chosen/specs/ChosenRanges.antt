@@ -6,13 +6,13 @@ use native.Mathlib.Omega.{arith}
 use lib.Dec.{T}
 use lib.Ieee.{Float}
 use lib.ListN.{length}
+use Rattle.prelude.specs.Booleans.{either}
+use Rattle.prelude.specs.Each.{Each}
 use Rattle.float.specs.Float.{k1}
 use Rattle.geometry.specs.declared.Rect.{Rect}
-use Rattle.float.proofs.Booleans.{either}
 use Rattle.layout.specs.declared.Layout.{Layout}
 use Rattle.numerics.specs.Rects.{Element, Area}
 use Rattle.numerics.specs.Range.{In, at}
-use Rattle.numerics.specs.Each.{Each}
 use Rattle.numerics.specs.Ranges.{in-more, area-side}
 use Rattle.search.specs.Bounded.{Bounded, Shrunk}
 use Rattle.search.proofs.Changes.{shrunk-bounded, arranged-shrunk, anchored-shrunk}

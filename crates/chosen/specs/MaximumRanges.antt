@@ -4,17 +4,17 @@ use mathlib.Core.List.{List, [], _∷_, map, foldl}
 use Prim.Native.Nat.{ℕ, _+_, _*_, _≤_}
 use native.Mathlib.Omega.{arith}
 use lib.Ieee.{Float, lt, eq}
+use Rattle.prelude.specs.Booleans.{either}
+use Rattle.prelude.specs.Each.{Each, _&_}
+use Rattle.prelude.specs.EachLaws.{fold-ind}
 use Rattle.float.specs.Float.{_⊕_, _⊖_, _⊗_, _⊘_, k0}
 use Rattle.float.specs.MinMax.{minOf, maxOf}
 use Rattle.geometry.specs.declared.Rect.{Rect}
 use Rattle.geometry.specs.Rect.{emptyRect}
-use Rattle.float.proofs.Booleans.{either}
 use Rattle.layout.specs.declared.Layout.{Layout}
 use Rattle.numerics.specs.Value.{Whole, P, N, E, Le}
 use Rattle.numerics.specs.Rects.{maxArea, Area, Key}
 use Rattle.numerics.specs.Range.{In, at, minus}
-use Rattle.numerics.specs.Each.{Each, _&_}
-use Rattle.numerics.specs.Lists.{fold-ind}
 use Rattle.numerics.specs.Bounds.{add-law, sub-law, min-ind, max-law, add-most, most-more}
 use Rattle.numerics.specs.Ranges.{in-more, in-reach, most-in, area-side, add-in, sub-in, mul-in, div-in, min-in, max-in, clamp-whole-in, range-most}
 use Rattle.numerics.specs.Products.{product-most}

@@ -9,17 +9,16 @@ use lib.Dec.{ltb}
 use lib.Ieee.{Float}
 use lib.ListN.{length, take, drop, getD, set, length-append, take-append-drop}
 use lib.Seq.{getD-take, length-take-le, take-all, take-set-lt}
+use Rattle.prelude.specs.Booleans.{either, both}
+use Rattle.prelude.specs.Lists.{countFrom, range, allOf, anyOf, filterMap, enumerateFrom}
+use Rattle.prelude.specs.Loops.{filterMap-append, one-more, no-more}
 use Rattle.geometry.specs.declared.Rect.{Rect}
-use Rattle.float.proofs.Booleans.{either, both}
 use Rattle.geometry.specs.Rect.{overlapsOf}
-use Rattle.layout.specs.Elements.{countFrom, range}
 use Rattle.layout.specs.declared.Control.{Control}
 use Rattle.layout.specs.declared.Layout.{Layout}
 use Rattle.layout.specs.Actions.{actionElementsOf}
 use Rattle.layout.specs.Label.{isFaceOf}
 use Rattle.layout.specs.Layout.{anyRect, anyControl, controlList}
-use Rattle.layout.specs.Lists.{allOf, anyOf, filterMap, enumerateFrom}
-use Rattle.layout.proofs.Loops.{filterMap-append, one-more, no-more}
 use Rattle.cutouts.specs.Cutouts.{inGroupOf, settleOf, belowAll}
 
 -- an element on no cutout stays

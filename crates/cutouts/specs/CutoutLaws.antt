@@ -9,9 +9,10 @@ use lib.Ieee.{Float, binary32}
 use lib.Ieee.Fits.{add-fits}
 use lib.Ieee.Bits.{is-true}
 use lib.ListN.{length, getD, set}
+use Rattle.prelude.specs.Booleans.{either, by-test, both}
+use Rattle.prelude.specs.Lists.{allOf, find, filterMap, retain, enumerateFrom}
 use Rattle.geometry.specs.declared.Rect.{Rect}
 use Rattle.geometry.specs.Rect.{insideOf}
-use Rattle.float.proofs.Booleans.{either, by-test, both}
 use Rattle.layout.specs.declared.Layout.{Layout}
 use Rattle.layout.specs.Actions.{actionElementsOf}
 use Rattle.layout.specs.declared.Control.{Control}
@@ -19,7 +20,6 @@ use Rattle.layout.specs.declared.Label.{Label}
 use Rattle.layout.specs.Label.{isFaceOf}
 use Rattle.layout.specs.Labels.{labelsOf}
 use Rattle.layout.specs.Layout.{anyRect, controlList, elementsOf}
-use Rattle.layout.specs.Lists.{allOf, find, filterMap, retain, enumerateFrom}
 use Rattle.moves.specs.declared.Move.{Move}
 use Rattle.moves.specs.declared.Move.the-variants.{Stay, Go}
 use Rattle.moves.specs.Moves.{movedOf, clearOf, allClearOf, candidatesOf, orderedOf, searchOf}

@@ -13,12 +13,13 @@ use lib.Pow.{pow-pos}
 use lib.Ieee.{Float, nan, inf, fin, binary32, up, down, ofBits, round, sum, add, le, fits}
 use lib.Ieee.Fits.{down-pos, add-fits}
 use lib.Ieee.Order.{round-mono}
+use Rattle.prelude.specs.Each.{Each}
+use Rattle.prelude.specs.Booleans.{either, by-test, all-four}
 use Rattle.float.specs.Float.{_⊕_, k0, k8192}
 use Rattle.geometry.specs.declared.Rect.{Rect}
 use Rattle.geometry.specs.Rect.{insideOf}
 use Rattle.layout.specs.declared.Layout.{Layout}
 use Rattle.layout.specs.ElementLaws.{length-elements}
-use Rattle.numerics.specs.Each.{Each}
 use Rattle.numerics.specs.Value.{magnitude, Whole, eps, posPart, AtMost, P}
 use Rattle.numerics.specs.Range.{In, at}
 use Rattle.numerics.specs.Rects.{maxCorner, maxSide, Element}
@@ -26,7 +27,6 @@ use Rattle.numerics.specs.Operations.{fits-whole, size-is, less}
 use Rattle.numerics.specs.Bounds.{eps-pos, most-magnitude, between-most, le-law, zero-most, zero-parts}
 use Rattle.numerics.specs.Ranges.{add-in, most-in, moved-in, range-most, tested}
 use Rattle.numerics.specs.Literals.{lit}
-use Rattle.float.proofs.Booleans.{either, by-test, all-four}
 use Rattle.search.specs.Bounded.{Bounded}
 use Rattle.search.proofs.Layouts.{elements-in}
 use Rattle.search.proofs.Changes.{set-elements-in}

@@ -5,14 +5,14 @@ use Prim.Native.Nat.{ℕ}
 use lib.Dec.{eqb, ltb}
 use lib.Ieee.{Float, lt}
 use lib.ListN.{length, take, getD, set}
+use Rattle.prelude.specs.Lists.{range, anyOf, allOf, filterMap, retain}
 use Rattle.float.specs.Float.{k0}
 use Rattle.geometry.specs.declared.Rect.{Rect}
 use Rattle.geometry.specs.Rect.{overlapsOf}
 use Rattle.layout.specs.declared.Layout.{Layout}
 use Rattle.layout.specs.Actions.{actionElementsOf}
-use Rattle.layout.specs.Elements.{range, setElementsOf}
+use Rattle.layout.specs.Elements.{setElementsOf}
 use Rattle.layout.specs.Layout.{anyRect, elementsOf}
-use Rattle.layout.specs.Lists.{anyOf, allOf, filterMap, retain}
 use Rattle.moves.specs.declared.Move.{Move}
 use Rattle.moves.specs.declared.Move.the-variants.{Stay, Go}
 use Rattle.moves.specs.Moves.{movedOf, searchOf}

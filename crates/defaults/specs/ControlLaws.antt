@@ -5,6 +5,7 @@ use mathlib.Core.List.{List, [], _∷_, _++_, map, map-map, zipWith}
 use native.Mathlib.Omega.{arith}
 use lib.Ieee.{ne}
 use lib.Seq.{take-all}
+use Rattle.prelude.specs.ListLaws.{take-mapFirst}
 use Rattle.geometry.specs.declared.Rect.{Rect}
 use Rattle.layout.specs.declared.Control.{Control}
 use Rattle.layout.specs.declared.Label.the-variants.{L3, R3}
@@ -12,7 +13,6 @@ use Rattle.layout.specs.declared.Layout.{Layout}
 use Rattle.layout.specs.Layout.{withGame, withDpad, controlList, elementsOf}
 use Rattle.layout.specs.Elements.{setElementsOf}
 use Rattle.layout.specs.Labels.{labelsOf, standardLabels, analogLabels, Formed}
-use Rattle.layout.specs.ListLaws.{take-mapFirst}
 use Rattle.toolbar.specs.Toolbar.{withToolbar}
 use Rattle.arranged.specs.declared.Places.{Places}
 use Rattle.arranged.specs.ArrangedLabels.{placed-formed}

@@ -2,9 +2,9 @@
 use mathlib.Core.Bool.{Bool, true, false, _&&_}
 use mathlib.Core.List.{List}
 use lib.Ieee.{Float, lt, le}
+use Rattle.prelude.specs.Booleans.{either}
 use Rattle.float.specs.Float.{_⊕_, _⊖_, _⊗_, _⊘_, k0·01, k1·35, k2, k8, k16, k160, k304}
 use Rattle.geometry.specs.declared.Rect.{Rect}
-use Rattle.float.proofs.Booleans.{either}
 use Rattle.layout.specs.declared.Layout.{Layout}
 use Rattle.arranged.specs.Found.{Given, maybe-case}
 use Rattle.arranged.specs.Arranged.{arrangedOf, sideRailsOf}

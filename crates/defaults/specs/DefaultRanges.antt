@@ -5,15 +5,15 @@ use Prim.Native.Nat.{_≤_}
 use native.Mathlib.Omega.{arith}
 use lib.Ieee.{Float, lt, ne}
 use lib.ListN.{length}
+use Rattle.prelude.specs.Booleans.{either}
+use Rattle.prelude.specs.Each.{Each}
 use Rattle.float.specs.Float.{_⊗_, _⊘_, k0, k1, k1·35, k3, k4, k360}
 use Rattle.float.specs.MinMax.{maxOf}
 use Rattle.geometry.specs.declared.Rect.{Rect}
 use Rattle.geometry.specs.Rect.{newOf}
-use Rattle.float.proofs.Booleans.{either}
 use Rattle.layout.specs.declared.Layout.{Layout}
 use Rattle.numerics.specs.Rects.{Element, maxArea, Area, OnScreen, Key, margin}
 use Rattle.numerics.specs.Range.{In, at}
-use Rattle.numerics.specs.Each.{Each}
 use Rattle.numerics.specs.Bounds.{most-more, max-law, zero-most}
 use Rattle.numerics.specs.Ranges.{in-more, add-in, sub-in, div-in, max-in, above-zero, clamp-in, cond-in, range-most, placed-in}
 use Rattle.numerics.specs.Literals.{lit, f2}

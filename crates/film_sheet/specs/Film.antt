@@ -1,7 +1,7 @@
 -- The film sheet of document 01, made from an order's bytes. Definitions only.
 use mathlib.Core.List.{List}
 use Prim.Native.Nat.{ℕ}
-use Rattle.geometry.specs.Answer.{Answer, accepted, refused}
+use Rattle.prelude.specs.Answer.{Answer, accepted, refused}
 use Rattle.settings.specs.declared.Settings.{Settings}
 use Rattle.reader.specs.Order.{readOrderOf}
 use Rattle.preset.specs.Preset.{settingsLayoutOf}

@@ -4,7 +4,7 @@ use mathlib.Core.List.{List}
 use Prim.Native.Nat.{ℕ, _≤_}
 use native.Mathlib.Omega.{arith}
 use lib.ListN.{length, length-append}
-use Rattle.geometry.specs.Answer.{Answer, accepted, refused}
+use Rattle.prelude.specs.Answer.{Answer, accepted, refused}
 use Rattle.search.specs.Bounded.{Bounded, BoundedGame}
 use Rattle.settings.specs.declared.Settings.{Settings}
 use Rattle.limits.specs.SettingsRanges.{accepted-in-range}

@@ -8,10 +8,10 @@ use borrow.Author.Tests.{eqb-true, leb-true, leb-false, le-leb}
 use lib.Dec.{eqb, leb}
 use lib.ListN.{length, take, drop, length-append, length-drop, take-append-drop}
 use lib.Seq.{length-take-le, take-all, take-append-le, drop-append-le}
-use Rattle.geometry.specs.Answer.{accepted, must}
-use Rattle.geometry.specs.AnswerLaws.{must-met, then-same}
-use Rattle.numerics.specs.Each.{Each}
-use Rattle.numerics.specs.Lists.{each-take, each-drop}
+use Rattle.prelude.specs.Answer.{accepted, must}
+use Rattle.prelude.specs.AnswerLaws.{must-met, then-same}
+use Rattle.prelude.specs.Each.{Each}
+use Rattle.prelude.specs.EachLaws.{each-take, each-drop}
 use Rattle.settings.specs.declared.Settings.{Settings}
 use Rattle.reader.specs.declared.Tag.{Tag}
 use Rattle.reader.specs.declared.Tag.the-variants as Tag

@@ -2,6 +2,7 @@
 use mathlib.Core.Bool.{Bool, true, false, not, _&&_, _||_}
 use mathlib.Core.List.{List, [], _∷_, _++_, map}
 use lib.Ieee.{Float, le}
+use Rattle.prelude.specs.Lists.{anyOf, allOf}
 use Rattle.float.specs.Float.{_⊕_, _⊖_, _⊘_, k0·01, k2, k3·99}
 use Rattle.geometry.specs.declared.Rect.{Rect}
 use Rattle.geometry.specs.Rect.{insideOf, overlapsOf}
@@ -10,7 +11,6 @@ use Rattle.layout.specs.declared.Control.{Control}
 use Rattle.layout.specs.declared.Layout.{Layout}
 use Rattle.layout.specs.Label.{isFaceOf}
 use Rattle.layout.specs.Layout.{controlList, stickList}
-use Rattle.layout.specs.Lists.{anyOf, allOf}
 use Rattle.fits.specs.declared.Input.{Input}
 
 abbrev pub input : Rect → Bool → Input

@@ -2,8 +2,8 @@
 ghost use mathlib.Core.Path.{_≡_};
 ghost use Prim.Native.Nat.{_≤_, _<_, _+_};
 ghost use lib.ListN.{take, drop};
+ghost use Rattle.prelude.specs.Lists.{allOf};
 ghost use Rattle.layout.specs.Layout.{cutoutList};
-ghost use Rattle.layout.specs.Lists.{allOf};
 ghost use Rattle.fits.specs.Fits.{inputsOf, separateOf, liesClearOf, fitsOf};
 use geometry::Rect;
 use hypot::hypot;

@@ -1,5 +1,3 @@
-pub mod Booleans
-pub mod Compare
 pub mod Magnitude
 pub mod Literals
 pub mod Order

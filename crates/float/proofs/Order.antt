@@ -10,8 +10,8 @@ use lib.Ieee.{Float, nan, inf, fin, up, down, below, level, lt, le, eq, ne}
 use lib.Ieee.Compare.{differs-from-itself}
 use lib.Ieee.Fits.{down-pos, and-l, and-r}
 use lib.Ieee.Bits.{is-true}
+use Rattle.prelude.specs.Booleans.{by-test, or-case}
 use Rattle.float.specs.MinMax.{minOf}
-use Rattle.float.proofs.Booleans.{by-test, or-case}
 
 -- the factor of a product that is above something
 above : (a x d g : ℕ) → 0 < g → a < x * d → 0 < x * g

@@ -1,3 +1,1 @@
 pub mod Rect
-pub mod Answer
-pub mod AnswerLaws

@@ -10,10 +10,10 @@ use lib.Ieee.{binary32, size, nearest, units}
 use lib.Ieee.Digits.{size-reaches}
 use lib.Ieee.Fits.{kept-lt, nearest-le}
 use lib.Ieee.Nearest.{nearest-ge}
+use Rattle.prelude.specs.Compare.{cmp}
 use Rattle.hypot.specs.Hypot.{isqrt, nearestRoot}
 use Rattle.hypot.specs.Pattern.{f32At}
 use Rattle.hypot.specs.Nearest.{Nearest, RootIsNearest}
-use Rattle.float.proofs.Compare.{cmp}
 use Rattle.hypot.proofs.Order.{lt-or-ge, square-le}
 use Rattle.hypot.proofs.Isqrt.{is-root}
 use Rattle.hypot.proofs.Rounding.{nearest-digits, unique}

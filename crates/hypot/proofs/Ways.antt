@@ -6,11 +6,11 @@ use native.Mathlib.Nat.{le-trans, le-of-eq, le-of-lt, lt-of-lt-of-le, lt-of-not-
 use native.Mathlib.Omega.{arith}
 use lib.Pow.{pow-pos, pow-add, pow-mono, pow-lt}
 use lib.Ieee.{binary32, nearest, ofBits}
+use Rattle.prelude.specs.Compare.{Cmp, cmp}
 use Rattle.hypot.specs.Hypot.{nearestRoot}
 use Rattle.hypot.specs.Pattern.{exponentOf, significandOf, value, f32At}
 use Rattle.hypot.specs.Nearest.{mid, Nearest}
 use Rattle.hypot.specs.Parts.{rootOf}
-use Rattle.float.proofs.Compare.{Cmp, cmp}
 use Rattle.hypot.proofs.Isqrt.{isqrt-from, isqrt-to, root-within, root-ge, root-cmp}
 use Rattle.hypot.proofs.Value.{significand-lt}
 use Rattle.hypot.proofs.Rounding.{lower, mid-next, nearest-digits}

@@ -6,6 +6,7 @@ use Prim.Native.Nat.{ℕ}
 use lib.Dec.{eqb, ltb}
 use lib.Ieee.{Float, lt, le}
 use lib.ListN.{getD, set}
+use Rattle.prelude.specs.Lists.{mapFirst}
 use Rattle.float.specs.Float.{_⊕_, _⊖_, _⊗_, _⊘_, k0·01, k1, k1·35, k2, k4, k8, k16, k24, k48, k64, k72, k104, k120, k122}
 use Rattle.geometry.specs.declared.Rect.{Rect}
 use Rattle.geometry.specs.Rect.{newOf}
@@ -15,7 +16,6 @@ use Rattle.layout.specs.declared.Label.the-variants.{Tri, O, X, Sq, L1, L2, R2,
 use Rattle.layout.specs.declared.Layout.{Layout}
 use Rattle.layout.specs.Actions.{actionBoundsOf}
 use Rattle.layout.specs.Layout.{anyRect, withBounds, withDpad, withControls, withSticks}
-use Rattle.layout.specs.Lists.{mapFirst}
 use Rattle.search.specs.Search.{centred, placeGameInAspectOf}
 use Rattle.toolbar.specs.Toolbar.{toolbarHeight}
 use Rattle.moves.specs.declared.Move.the-variants.{Go}

@@ -6,9 +6,9 @@ use Prim.Native.Nat.{ℕ}
 use lib.Dec.{T, eqb, ltb}
 use lib.Ieee.{Float, le}
 use lib.ListN.{length, length-set}
+use Rattle.prelude.specs.Booleans.{either, by-test}
 use Rattle.float.specs.Float.{_⊕_, _⊗_, k0·01, k1·35}
 use Rattle.geometry.specs.declared.Rect.{Rect}
-use Rattle.float.proofs.Booleans.{either, by-test}
 use Rattle.layout.specs.declared.Label.{Label}
 use Rattle.layout.specs.declared.Layout.{Layout}
 use Rattle.layout.specs.Labels.{Formed}

@@ -5,9 +5,12 @@ use Prim.Native.Nat.{ℕ, _+_, _≤_, _<_}
 use lib.Dec.{T, ltb}
 use lib.Ieee.{Float, lt}
 use lib.ListN.{length, getD, set}
+use Rattle.prelude.specs.Booleans.{either, nor-l, nor-r}
+use Rattle.prelude.specs.Lists.{mapFirst, filterMap, reduce}
+use Rattle.prelude.specs.Each.{Each}
+use Rattle.prelude.specs.EachLaws.{each-take, each-at, each-set, fold-ind}
 use Rattle.float.specs.Float.{k1, k104, k122}
 use Rattle.geometry.specs.declared.Rect.{Rect}
-use Rattle.float.proofs.Booleans.{either, nor-l, nor-r}
 use Rattle.geometry.specs.Rect.{emptyRect}
 use Rattle.layout.specs.declared.Control.{Control}
 use Rattle.layout.specs.declared.Label.{Label}
@@ -17,12 +20,9 @@ use Rattle.layout.specs.Actions.{joinOf, actionBoundsOf}
 use Rattle.layout.specs.ActionLaws.{action-bounds}
 use Rattle.layout.specs.Label.{isFaceOf}
 use Rattle.layout.specs.Layout.{anyRect, controlList}
-use Rattle.layout.specs.Lists.{mapFirst, filterMap, reduce}
 use Rattle.numerics.specs.Value.{AtMost}
 use Rattle.numerics.specs.Rects.{Area, Element, OnScreen, maxArea, maxCorner, maxSide}
 use Rattle.numerics.specs.Range.{In, at, minus}
-use Rattle.numerics.specs.Each.{Each}
-use Rattle.numerics.specs.Lists.{each-take, each-at, each-set, fold-ind}
 use Rattle.numerics.specs.Bounds.{most-more}
 use Rattle.numerics.specs.Ranges.{in-more, most-in, add-in, sub-in, sub-back, div-in, times-in, min-in, not-below, range-most, element-in, placed-element}
 use Rattle.numerics.specs.Literals.{lit, i0·5, f2}

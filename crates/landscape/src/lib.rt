@@ -1,7 +1,7 @@
 // `fit_landscape_controls` of input.rs: on a wide screen, the keys beside the sticks in a row at the bottom.
 ghost use mathlib.Core.Path.{_≡_};
 ghost use Prim.Native.Nat.{_≤_};
-ghost use Rattle.layout.specs.Lists.{mapFirst};
+ghost use Rattle.prelude.specs.Lists.{mapFirst};
 ghost use Rattle.landscape.specs.Landscape.{measureRowOf, tightOf, placeOf, inRow, rowSticksOf, rowedOf, fitLandscapeControlsOf};
 use geometry::Rect;
 use layout::Control;

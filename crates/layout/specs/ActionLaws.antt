@@ -5,13 +5,13 @@ use Prim.Native.Nat.{ℕ, suc, _+_, _-_, _<_, _≤_}
 use native.Mathlib.Omega.{arith}
 use lib.ListN.{length, getD}
 use lib.Seq.{getD-take, length-take-le}
+use Rattle.prelude.specs.Lists.{filterMap, reduce, enumerateFrom}
+use Rattle.prelude.specs.ListLaws.{map-cond}
 use Rattle.geometry.specs.Rect.{emptyRect}
 use Rattle.layout.specs.declared.Control.{Control}
 use Rattle.layout.specs.declared.Layout.{Layout}
 use Rattle.layout.specs.Label.{isFaceOf}
 use Rattle.layout.specs.Layout.{anyControl, controlList, elementOf}
-use Rattle.layout.specs.Lists.{filterMap, reduce, enumerateFrom}
-use Rattle.layout.specs.ListLaws.{map-cond}
 use Rattle.layout.specs.ElementLaws.{by-ltb}
 use Rattle.layout.specs.Actions.{joinOf, actionElementsOf, actionBoundsOf}
 

@@ -1,6 +1,7 @@
 -- The face controls of a layout, the action elements. Definitions only.
 use mathlib.Core.List.{List, map}
 use Prim.Native.Nat.{ℕ}
+use Rattle.prelude.specs.Lists.{filterMap, reduce, enumerateFrom}
 use Rattle.float.specs.Float.{_⊕_, _⊖_}
 use Rattle.float.specs.MinMax.{minOf, maxOf}
 use Rattle.geometry.specs.declared.Rect.{Rect}
@@ -8,7 +9,6 @@ use Rattle.geometry.specs.Rect.{newOf, emptyRect}
 use Rattle.layout.specs.declared.Layout.{Layout}
 use Rattle.layout.specs.Label.{isFaceOf}
 use Rattle.layout.specs.Layout.{controlList, elementOf}
-use Rattle.layout.specs.Lists.{filterMap, reduce, enumerateFrom}
 
 -- the element's index, one above the control's, of each face control
 unfoldable pub actionElementsOf : Layout → List ℕ

@@ -7,12 +7,13 @@ use native.Mathlib.Omega.{arith}
 use lib.Dec.{ltb, ltb→lt, nltb→le}
 use lib.ListN.{length, take, drop, getD, length-append, length-map, List·getD-append, List·getD-map}
 use lib.Seq.{drop-cons, getD-append-add, getD-take, length-take-le, take-at, take-all, drop-append-add}
+use Rattle.prelude.specs.Booleans.{by-test}
+use Rattle.prelude.specs.Lists.{countFrom}
 use Rattle.geometry.specs.declared.Rect.{Rect}
-use Rattle.float.proofs.Booleans.{by-test}
 use Rattle.layout.specs.declared.Control.{Control}
 use Rattle.layout.specs.declared.Layout.{Layout}
 use Rattle.layout.specs.Layout.{anyRect, anyControl, controlList, stickList, elementCountOf, elementOf, boundsOf, elementsOf}
-use Rattle.layout.specs.Elements.{countFrom, controllerElementsOf}
+use Rattle.layout.specs.Elements.{controllerElementsOf}
 
 module _ {A : Type 0} where
   -- a claim about a branch, by its two sides

@@ -1,24 +1,11 @@
 -- Lists of a layout's elements, as indices and as rectangles. Definitions only.
-use mathlib.Core.List.{List, [], _∷_, _++_, zipWith}
-use Prim.Native.Nat.{ℕ, zero, suc, _+_, _-_}
-use lib.ListN.{take, drop, getD}
+use mathlib.Core.List.{List, _++_, zipWith}
+use Prim.Native.Nat.{ℕ, _+_}
+use lib.ListN.{drop, getD}
+use Rattle.prelude.specs.Lists.{replaceFirst, range}
 use Rattle.geometry.specs.declared.Rect.{Rect}
 use Rattle.layout.specs.declared.Layout.{Layout}
 use Rattle.layout.specs.Layout.{anyRect, withBounds, elementCountOf}
-
-module _ {A : Type 0} where
-  -- the first n elements from one list, the others from another
-  abbrev pub replaceFirst : ℕ → List A → List A → List A
-  replaceFirst n new old = take n new ++ drop n old
-
--- k numbers from a on
-abbrev pub countFrom : ℕ → ℕ → List ℕ
-countFrom a zero = []
-countFrom a (suc k) = a ∷ countFrom (suc a) k
-
--- Rust's `a..b`
-abbrev pub range : ℕ → ℕ → List ℕ
-range a b = countFrom a (b - a)
 
 -- the indices of all elements but the toolbar's
 unfoldable pub controllerElementsOf : Layout → List ℕ

@@ -5,6 +5,8 @@ use Prim.Native.Nat.{ℕ, _+_, _≤_}
 use native.Mathlib.Omega.{arith}
 use lib.ListN.{length, take, drop, length-drop, length-map}
 use lib.Seq.{length-front, length-take-le}
+use Rattle.prelude.specs.Lists.{mapFirst, retain, replaceFirst}
+use Rattle.prelude.specs.ListLaws.{length-mapFirst, take-mapFirst, length-zipWith}
 use Rattle.geometry.specs.declared.Rect.{Rect}
 use Rattle.layout.specs.declared.Control.{Control}
 use Rattle.layout.specs.declared.Label.{Label}
@@ -12,9 +14,7 @@ use Rattle.layout.specs.declared.Layout.{Layout}
 use Rattle.layout.specs.Label.{onPspOf}
 use Rattle.layout.specs.Layout.{withBounds, withControls, controlList, elementCountOf, elementsOf}
 use Rattle.layout.specs.Labels.{labelsOf, pspLabels, Formed}
-use Rattle.layout.specs.Lists.{mapFirst, retain}
-use Rattle.layout.specs.ListLaws.{length-mapFirst, take-mapFirst, length-zipWith}
-use Rattle.layout.specs.Elements.{replaceFirst, setElementsOf}
+use Rattle.layout.specs.Elements.{setElementsOf}
 use Rattle.layout.specs.ElementLaws.{length-elements}
 use Rattle.layout.specs.SetElementLaws.{set-elements-kept}
 use Rattle.layout.specs.Psp.{atMostOneOf, onPsp, pspInputsOf}

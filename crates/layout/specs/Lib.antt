@@ -1,4 +1,3 @@
-pub mod Lists
 pub mod Label
 pub mod Layout
 pub mod Elements
@@ -7,7 +6,6 @@ pub mod Labels
 pub mod SetElementLaws
 pub mod Actions
 pub mod Psp
-pub mod ListLaws
 pub mod ActionLaws
 pub mod PspLaws
 pub mod LabelLaws

@@ -3,11 +3,11 @@ use mathlib.Core.Bool.{Bool, cond}
 use Prim.Native.Nat.{ℕ}
 use lib.Dec.{ltb}
 use lib.ListN.{length}
+use Rattle.prelude.specs.Lists.{retain, compact}
 use Rattle.layout.specs.declared.Control.{Control}
 use Rattle.layout.specs.declared.Layout.{Layout}
 use Rattle.layout.specs.Label.{onPspOf}
 use Rattle.layout.specs.Layout.{controlList}
-use Rattle.layout.specs.Lists.{retain, compact}
 
 unfoldable pub atMostOneOf : ℕ → ℕ
 atMostOneOf n = cond (ltb n 1) n 1

@@ -5,12 +5,12 @@ use Prim.Native.Nat.{_≤_}
 use native.Mathlib.Omega.{arith}
 use lib.ListN.{length, drop}
 use lib.Seq.{take-at, length-take-le}
+use Rattle.prelude.specs.Lists.{retain}
+use Rattle.prelude.specs.ListLaws.{map-retain, retain-fewer}
 use Rattle.layout.specs.declared.Control.{Control}
 use Rattle.layout.specs.declared.Layout.{Layout}
 use Rattle.layout.specs.Label.{onPspOf}
 use Rattle.layout.specs.Layout.{controlList}
-use Rattle.layout.specs.Lists.{retain}
-use Rattle.layout.specs.ListLaws.{map-retain, retain-fewer}
 use Rattle.layout.specs.Labels.{labelsOf}
 use Rattle.layout.specs.Psp.{onPsp, pspInputsOf}
 

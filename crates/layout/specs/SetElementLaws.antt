@@ -6,14 +6,15 @@ use native.Mathlib.Nat.{add-suc}
 use native.Mathlib.Omega.{arith}
 use lib.ListN.{length, take, drop, getD, length-drop, take-append-drop}
 use lib.Seq.{take-nil, take-take, getD-take, drop-cons, drop-drop, take-at, take-all, length-take-le}
+use Rattle.prelude.specs.Lists.{replaceFirst}
+use Rattle.prelude.specs.ListLaws.{length-zipWith, take-zipWith}
 use Rattle.geometry.specs.declared.Rect.{Rect}
 use Rattle.layout.specs.declared.Control.{Control}
 use Rattle.layout.specs.declared.Label.{Label}
 use Rattle.layout.specs.declared.Layout.{Layout}
 use Rattle.layout.specs.Layout.{anyRect, withBounds, elementCountOf, boundsOf, elementsOf}
-use Rattle.layout.specs.Elements.{replaceFirst, setElementsOf}
+use Rattle.layout.specs.Elements.{setElementsOf}
 use Rattle.layout.specs.Labels.{labelsOf}
-use Rattle.layout.specs.ListLaws.{length-zipWith, take-zipWith}
 
 module _ {A : Type 0} where
   drop-take : (n k : ℕ) (l : List A) → drop n (take (n + k) l) ≡ take k (drop n l)

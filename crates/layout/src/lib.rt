@@ -7,10 +7,10 @@ ghost use Rattle.layout.specs.Actions.{joinOf, actionBoundsOf};
 ghost use Rattle.layout.specs.Psp.{atMostOneOf, pspInputsOf};
 ghost use mathlib.Core.List.{map, zipWith};
 ghost use lib.ListN.{drop, take};
+ghost use Rattle.prelude.specs.Lists.{anyOf, replaceFirst};
 ghost use Rattle.geometry.specs.Rect.{overlapsOf};
-ghost use Rattle.layout.specs.Lists.{anyOf};
 ghost use Rattle.layout.specs.Layout.{elementCountOf, elementOf, setElementOf, elementsOf, elementList, cutoutList, withBounds};
-ghost use Rattle.layout.specs.Elements.{replaceFirst, controllerElementsOf, setElementsOf};
+ghost use Rattle.layout.specs.Elements.{controllerElementsOf, setElementsOf};
 use geometry::EMPTY;
 use geometry::Rect;
 

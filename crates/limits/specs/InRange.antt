@@ -2,13 +2,13 @@
 use mathlib.Core.Path.{_≡_}
 use mathlib.Core.Bool.{true}
 use lib.Ieee.{eq}
+use Rattle.prelude.specs.Each.{Each}
 use Rattle.float.specs.Float.{k1}
 use Rattle.float.specs.MinMax.{maxOf}
 use Rattle.layout.specs.Layout.{cutoutList}
 use Rattle.numerics.specs.Value.{Whole}
 use Rattle.numerics.specs.Range.{In, at}
 use Rattle.numerics.specs.Rects.{Element, Area}
-use Rattle.numerics.specs.Each.{Each}
 use Rattle.settings.specs.declared.Settings.{Settings}
 
 pub record InRange (s : Settings) : Type 0 where

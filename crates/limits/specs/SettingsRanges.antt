@@ -11,14 +11,14 @@ use lib.Ieee.{Float, nan, inf, fin, binary32, ofBits, up, down, fits, le, eq}
 use lib.Ieee.Back.{whole-unique}
 use lib.Ieee.Bits.{ofBits-fits}
 use lib.Ieee.Fits.{down-pos}
+use Rattle.prelude.specs.Booleans.{both}
+use Rattle.prelude.specs.Lists.{allOf}
+use Rattle.prelude.specs.Each.{Each}
 use Rattle.float.specs.Float.{k0, k1, k8192}
 use Rattle.geometry.specs.declared.Rect.{Rect}
-use Rattle.float.proofs.Booleans.{both}
 use Rattle.layout.specs.Layout.{cutoutList}
-use Rattle.layout.specs.Lists.{allOf}
 use Rattle.numerics.specs.Range.{In, at, minus}
 use Rattle.numerics.specs.Rects.{maxArea, Element, Area}
-use Rattle.numerics.specs.Each.{Each}
 use Rattle.numerics.specs.Ranges.{max-in, neg-in, tested, range-most, element-in}
 use Rattle.numerics.specs.Literals.{lit}
 use Rattle.settings.specs.declared.Settings.{Settings}

@@ -10,7 +10,7 @@ use lib.Signed.{mag, ltZ}
 use lib.Ieee.{Float}
 use mir.Syntax.{w32}
 use mir.Val.{SFits}
-use Rattle.geometry.proofs.Signed.{back, kept, stored, minus-fits, minus-is}
+use Rattle.prelude.specs.Signed.{back, kept, stored, minus-fits, minus-is}
 use Rattle.numerics.specs.Value.{AtMost}
 use Rattle.lines.specs.Line.{tenthsOf, numberText, digitsOf, most, mostTenths}
 use Rattle.lines.specs.LineLaws.{tenths-most}

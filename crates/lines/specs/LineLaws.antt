@@ -12,8 +12,8 @@ use lib.IntN.{ℤ, pos, negsuc, negℤ, _+ℤ_, _*ℤ_}
 use lib.ListN.{length, length-append}
 use lib.Pow.{pow-pos}
 use lib.Signed.{shrZ, mag}
+use Rattle.prelude.specs.Booleans.{by-test}
 use Rattle.geometry.specs.declared.Rect.{Rect}
-use Rattle.float.proofs.Booleans.{by-test}
 use Rattle.numerics.specs.Bounds.{eps-pos, most-magnitude}
 use Rattle.numerics.specs.Value.{magnitude, sign, Whole, eps, AtMost}
 use Rattle.lines.specs.Line.{tenthsOf, tenthsSizeOf, lineOf, digitsIn, digitsOf, numberText, fieldText, lineText, headText, most, mostTenths, Printable}

@@ -6,10 +6,10 @@ use Prim.Native.Nat.{ℕ, suc, _+_, _-_}
 use lib.Dec.{ltb}
 use lib.Ieee.{Float, toBits, binary32}
 use lib.ListN.{length, take, drop}
+use Rattle.prelude.specs.Lists.{anyOf, allOf, find}
 use Rattle.float.specs.Float.{_⊕_, _⊖_, _⊗_, k0, k8}
 use Rattle.geometry.specs.declared.Rect.{Rect}
 use Rattle.geometry.specs.Rect.{newOf, insideOf, overlapsOf}
-use Rattle.layout.specs.Lists.{anyOf, allOf, find}
 use Rattle.moves.specs.declared.Move.{Move}
 use Rattle.moves.specs.declared.Move.the-variants.{Stay, Go}
 

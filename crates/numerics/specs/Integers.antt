@@ -8,7 +8,7 @@ use lib.Dec.{T, T-not, ltb, leb→le, le→leb, ltb→lt, nltb→le}
 use lib.IntN.{ℤ, pos, negsuc, negℤ, subℕ, _+ℤ_, _*ℤ_}
 use lib.Signed.{leZ, ltZ, ltZ-no}
 use lib.Ieee.{Float, nan, inf, fin}
-use Rattle.float.proofs.Booleans.{by-test}
+use Rattle.prelude.specs.Booleans.{by-test}
 use Rattle.numerics.specs.Value.{magnitude, Whole, posPart, negPart, value, above, below, P, N}
 
 pub le-parts : (a b : ℤ) → T (leZ a b) → above a + below b ≤ above b + below a

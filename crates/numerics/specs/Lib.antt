@@ -1,8 +1,6 @@
 pub mod Value
 pub mod Range
 pub mod Rects
-pub mod Each
-pub mod Lists
 pub mod Integers
 pub mod Rounding
 pub mod Operations

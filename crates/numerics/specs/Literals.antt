@@ -10,7 +10,7 @@ use lib.Dec.{T, ltb, leb, leb→le, ltb→lt, lit≤}
 use lib.Pow.{pow-add}
 use lib.Ieee.{Float, binary32, ofBits, add, mul, div}
 use lib.Ieee.Exact.{HasValue}
-use Rattle.float.proofs.Booleans.{and-three}
+use Rattle.prelude.specs.Booleans.{and-three}
 use Rattle.float.proofs.Patterns.{ofBits-is, fields-normal}
 use Rattle.float.specs.Float.{_⊕_, _⊗_, _⊘_, k0·01, k0·055, k0·25, k0·4, k0·5, k0·75, k1, k1·4, k2, k3, k4, k52, k272, k480, √2}
 use Rattle.numerics.specs.Value.{magnitude, posPart, negPart, eps, limit, AtMost, Fraction, P, N, E}

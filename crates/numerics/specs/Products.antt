@@ -9,13 +9,13 @@ use lib.Dec.{T, leb, ltb, leb→le, le→leb, ltb→lt, lit≤}
 use lib.Pow.{pow-pos}
 use lib.Ieee.{Float, binary32}
 use lib.Ieee.Scale.{overflow}
+use Rattle.prelude.specs.Booleans.{all-four}
 use Rattle.float.specs.Float.{_⊗_, _⊘_}
 use Rattle.numerics.specs.Value.{magnitude, Whole, posIf, negIf, posPart, negPart, eps, top, limit, AtMost, P, N, Le}
 use Rattle.numerics.specs.Range.{In, at, reach}
 use Rattle.numerics.specs.Rects.{maxCorner, maxArea}
 use Rattle.numerics.specs.Operations.{Rounded, round-within, mul-rounded, div-rounded, size-is, one-zero}
 use Rattle.numerics.specs.Bounds.{eps-pos, top-eps, near-magnitude, most-magnitude, most-more}
-use Rattle.float.proofs.Booleans.{all-four}
 use Rattle.numerics.specs.Ranges.{in-reach, most-in}
 
 -- the size of a rounded fraction Z / W units

@@ -10,6 +10,7 @@ use lib.Dec.{T, not-T, leb, ltb, leb→le, ltb→lt}
 use lib.Ieee.{Float, nan, inf, fin, binary32, up, down, unlike, neg, mul, lt, le, fits, isNan}
 use lib.Ieee.Fits.{and-l, and-r, mul-fits}
 use lib.Ieee.Scale.{finite}
+use Rattle.prelude.specs.Booleans.{either, by-test, and-three, all-four}
 use Rattle.float.specs.Float.{_⊕_, _⊖_, _⊗_, _⊘_, k0}
 use Rattle.geometry.specs.declared.Rect.{Rect}
 use Rattle.geometry.specs.Rect.{newOf}
@@ -17,7 +18,6 @@ use Rattle.float.specs.MinMax.{minOf, maxOf, clampOf}
 use Rattle.numerics.specs.Value.{magnitude, sign, Whole, posPart, negPart, eps, limit, AtMost, Fraction, P, N, Le}
 use Rattle.numerics.specs.Rects.{maxCorner, maxSide, Element, maxArea, Placed}
 use Rattle.numerics.specs.Range.{In, at, minus, reach}
-use Rattle.float.proofs.Booleans.{either, by-test, and-three, all-four}
 use Rattle.numerics.specs.Rounding.{round-ind}
 use Rattle.numerics.specs.Operations.{Near, fits-whole, whole-ind, neg-whole, neg-swaps, one-zero, mul-flip}
 use Rattle.numerics.specs.Bounds.{add-bounded, sub-bounded, mul-bounded, div-bounded, lt-not, le-law, le-not, min-ind, max-ind, eps-pos, zero-most, most-more}

@@ -14,8 +14,8 @@ use lib.Ieee.Exact.{HasValue, units-val}
 use lib.Ieee.Nearest.{closest}
 use lib.Ieee.Order.{drop, kept}
 use lib.Ieee.Scale.{grid, overflow}
-use Rattle.float.proofs.Compare.{Cmp, cmp}
-use Rattle.float.proofs.Booleans.{either}
+use Rattle.prelude.specs.Compare.{Cmp, cmp}
+use Rattle.prelude.specs.Booleans.{either}
 
 -- what holds of any rounded number: it is finite with the sign s, or the infinity
 odd-ind : (C : Float → Type 0) (d : ℕ) (s : Bool) (q k l : ℕ) → ((m : ℕ) (e : ℤ) → C (fin s m e)) → C (odd d s q k l)

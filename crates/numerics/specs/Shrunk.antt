@@ -8,6 +8,7 @@ use lib.Dec.{T, leb, ltb, ltb→lt}
 use lib.Ieee.{Float, nan, inf, fin, binary32, unlike, div}
 use lib.Ieee.Fits.{mul-fits}
 use lib.Ieee.Scale.{finite}
+use Rattle.prelude.specs.Booleans.{all-four}
 use Rattle.float.specs.Float.{_⊗_, _⊘_}
 use Rattle.geometry.specs.declared.Rect.{Rect}
 use Rattle.geometry.specs.Rect.{newOf}
@@ -17,7 +18,6 @@ use Rattle.numerics.specs.Rects.{maxArea, Placed, margin}
 use Rattle.numerics.specs.Rounding.{round-ind}
 use Rattle.numerics.specs.Operations.{Rounded, fits-whole, mul-rounded, div-rounded}
 use Rattle.numerics.specs.Bounds.{eps-pos, most-more}
-use Rattle.float.proofs.Booleans.{all-four}
 use Rattle.numerics.specs.Ranges.{in-more, most-in, range-most}
 use Rattle.numerics.specs.Products.{scaledable, scaled-in, le-magnitude}
 

@@ -1,7 +1,7 @@
 use mathlib.Core.Path.{_≡_}
 use mathlib.Core.List.{List}
 use Prim.Native.Nat.{ℕ}
-use Rattle.geometry.specs.Answer.{Answer, accepted}
+use Rattle.prelude.specs.Answer.{Answer, accepted}
 use Rattle.layout.specs.declared.Layout.{Layout}
 use Rattle.settings.specs.declared.Settings.{Settings}
 use Rattle.reader.specs.Order.{readOrderOf}

@@ -2,7 +2,7 @@
 use mathlib.Core.Path.{_≡_}
 use mathlib.Core.List.{List}
 use Prim.Native.Nat.{ℕ}
-use Rattle.geometry.specs.Answer.{Answer, accepted}
+use Rattle.prelude.specs.Answer.{Answer, accepted}
 use Rattle.layout.specs.Layout.{elementsOf}
 use Rattle.search.specs.Widest.{centredWidth, Widest}
 use Rattle.settings.specs.declared.Settings.{Settings}

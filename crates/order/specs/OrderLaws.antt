@@ -7,9 +7,9 @@ use native.Mathlib.Omega.{arith}
 use lib.Dec.{leb}
 use lib.Ieee.{Float}
 use lib.ListN.{length, drop}
-use Rattle.geometry.specs.Answer.{Answer, accepted, refused, must}
-use Rattle.geometry.specs.AnswerLaws.{never, refused-then}
-use Rattle.float.proofs.Booleans.{either}
+use Rattle.prelude.specs.Answer.{Answer, accepted, refused, must}
+use Rattle.prelude.specs.AnswerLaws.{never, refused-then}
+use Rattle.prelude.specs.Booleans.{either}
 use Rattle.layout.specs.declared.Layout.{Layout}
 use Rattle.limits.specs.SettingsRanges.{accepted-in-range}
 use Rattle.settings.specs.declared.Preset.{Preset}

@@ -2,7 +2,7 @@
 use mathlib.Core.List.{List}
 use Prim.Native.Nat.{ℕ}
 use lib.Ieee.{Float}
-use Rattle.geometry.specs.Answer.{Answer, accepted, refused, must, andThen}
+use Rattle.prelude.specs.Answer.{Answer, accepted, refused, must, andThen}
 use Rattle.layout.specs.declared.Layout.{Layout}
 use Rattle.settings.specs.Settings.{topsInLimitsOf}
 use Rattle.touch.specs.Touch.{maskNearOf}

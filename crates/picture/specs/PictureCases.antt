@@ -4,11 +4,11 @@ use mathlib.Core.List.{List, [], _∷_}
 use mathlib.Core.Option.{Option, some, none}
 use lib.Dec.{T}
 use lib.Ieee.{Float, lt}
+use Rattle.prelude.specs.Booleans.{either, nor-l, nor-r}
+use Rattle.prelude.specs.Each.{Each}
 use Rattle.float.specs.Float.{_⊖_, k96, k124}
 use Rattle.geometry.specs.declared.Rect.{Rect}
-use Rattle.float.proofs.Booleans.{either, nor-l, nor-r}
 use Rattle.layout.specs.declared.Layout.{Layout}
-use Rattle.numerics.specs.Each.{Each}
 use Rattle.arranged.specs.Found.{Given, nothing, given, guard}
 use Rattle.fits.specs.Fits.{fitsOf}
 use Rattle.picture.specs.Picture.{minWell, measureStackOf, crampedOf, stackedOf, verticalOf, measureRowOf, rowedOf, horizontalOf, firstFit}

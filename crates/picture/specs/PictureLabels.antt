@@ -5,11 +5,11 @@ use mathlib.Core.List.{List}
 use Prim.Native.Nat.{ℕ}
 use lib.Dec.{T}
 use lib.Ieee.{Float}
+use Rattle.prelude.specs.Each.{_&_}
 use Rattle.geometry.specs.declared.Rect.{Rect}
 use Rattle.layout.specs.declared.Label.{Label}
 use Rattle.layout.specs.declared.Layout.{Layout}
 use Rattle.layout.specs.Labels.{Formed}
-use Rattle.numerics.specs.Each.{_&_}
 use Rattle.arranged.specs.declared.Places.{Places}
 use Rattle.arranged.specs.Found.{Given}
 use Rattle.arranged.specs.ArrangedLabels.{placed-formed, arranged-formed}

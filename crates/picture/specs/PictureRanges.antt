@@ -4,6 +4,7 @@ use mathlib.Core.List.{List}
 use Prim.Native.Nat.{ℕ}
 use lib.Dec.{T, leb}
 use lib.Ieee.{Float, lt}
+use Rattle.prelude.specs.Each.{_&_}
 use Rattle.float.specs.Float.{_⊕_, _⊖_, _⊗_, _⊘_, k0, k2, k3, k4, k12, k14, k24, k64, k96}
 use Rattle.float.specs.MinMax.{minOf, maxOf, clampOf}
 use Rattle.geometry.specs.declared.Rect.{Rect}
@@ -14,7 +15,6 @@ use Rattle.layout.specs.declared.Layout.{Layout}
 use Rattle.numerics.specs.Value.{AtMost}
 use Rattle.numerics.specs.Rects.{maxCorner, Element}
 use Rattle.numerics.specs.Range.{In, at, minus}
-use Rattle.numerics.specs.Each.{_&_}
 use Rattle.numerics.specs.Bounds.{add-most}
 use Rattle.numerics.specs.Ranges.{in-more, add-in, sub-in, times-in, div-in, min-in, max-in, clamp-in, clamp-whole-in, cond-in, neg-in, not-below, range-most, element-in}
 use Rattle.numerics.specs.Literals.{lit, i4√2, f1√2, f2, f3, f4}

@@ -4,8 +4,8 @@ use mathlib.Core.List.{List}
 use lib.Dec.{T}
 use lib.Ieee.{Float}
 use lib.Ieee.Fits.{and-l, and-r}
+use Rattle.prelude.specs.Booleans.{by-test}
 use Rattle.geometry.specs.declared.Rect.{Rect}
-use Rattle.float.proofs.Booleans.{by-test}
 use Rattle.layout.specs.declared.Layout.{Layout}
 use Rattle.search.specs.Search.{placeGameInAspectOf}
 use Rattle.settings.specs.declared.Preset.{Preset}

@@ -3,15 +3,15 @@ use mathlib.Core.Bool.{Bool, true, false, _||_}
 use mathlib.Core.List.{List, [], _∷_}
 use lib.Dec.{T}
 use lib.Ieee.{Float, lt}
+use Rattle.prelude.specs.Booleans.{either}
+use Rattle.prelude.specs.Each.{Each}
 use Rattle.float.specs.Float.{k0}
 use Rattle.geometry.specs.declared.Rect.{Rect}
-use Rattle.float.proofs.Booleans.{either}
 use Rattle.layout.specs.declared.Layout.{Layout}
 use Rattle.layout.specs.Layout.{cutoutList}
 use Rattle.numerics.specs.Value.{Whole}
 use Rattle.numerics.specs.Rects.{Element, Area, OnScreen, Key, margin}
 use Rattle.numerics.specs.Range.{In, at, minus}
-use Rattle.numerics.specs.Each.{Each}
 use Rattle.numerics.specs.Ranges.{max-in, placed-element}
 use Rattle.numerics.specs.Literals.{lit}
 use Rattle.numerics.specs.Shrunk.{shrunkMargin}

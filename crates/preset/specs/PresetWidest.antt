@@ -3,6 +3,7 @@ use mathlib.Core.Path.{_≡_, subst}
 use mathlib.Core.Bool.{false, _||_}
 use mathlib.Core.List.{List}
 use lib.Ieee.{Float}
+use Rattle.prelude.specs.Each.{Each}
 use Rattle.float.specs.Float.{k1}
 use Rattle.geometry.specs.declared.Rect.{Rect}
 use Rattle.layout.specs.declared.Layout.{Layout}
@@ -10,7 +11,6 @@ use Rattle.layout.specs.Layout.{cutoutList}
 use Rattle.numerics.specs.Value.{Whole}
 use Rattle.numerics.specs.Rects.{Element, Area}
 use Rattle.numerics.specs.Range.{In, at}
-use Rattle.numerics.specs.Each.{Each}
 use Rattle.search.specs.Bounded.{Bounded}
 use Rattle.search.specs.Search.{placeGameInAspectOf}
 use Rattle.search.proofs.Layouts.{place-widest}

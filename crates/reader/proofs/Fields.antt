@@ -8,7 +8,7 @@ use borrow.Author.Tests.{lt-ltb, le-ltb, le-leb, lt-leb, eq-eqb, ne-eqb}
 use lib.Dec.{eqb, ltb, leb}
 use lib.ListN.{length, getD, take, drop, length-drop, drop-of-length-le}
 use lib.Seq.{drop-cons, drop-drop}
-use Rattle.geometry.specs.Answer.{accepted, refused, must, andThen}
+use Rattle.prelude.specs.Answer.{accepted, refused, must, andThen}
 use Rattle.settings.specs.declared.Settings.{Settings}
 use Rattle.reader.specs.declared.Reading.{Reading}
 use Rattle.reader.specs.declared.Tag.{Tag}

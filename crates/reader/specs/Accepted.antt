@@ -10,15 +10,15 @@ use lib.Ieee.{Float, binary32, ofBits, fits, lt, le, eq, ne, neg}
 use lib.Ieee.Bits.{is-true, ofBits-fits}
 use lib.ListN.{length, take, drop, replicate, length-append}
 use lib.Seq.{take-at}
+use Rattle.prelude.specs.Answer.{Answer, accepted, refused, must, andThen}
+use Rattle.prelude.specs.Booleans.{either, both}
+use Rattle.prelude.specs.Lists.{allOf}
 use Rattle.float.specs.Float.{k0, k1}
 use Rattle.float.specs.MinMax.{maxOf}
 use Rattle.geometry.specs.declared.Rect.{Rect}
-use Rattle.geometry.specs.Answer.{Answer, accepted, refused, must, andThen}
-use Rattle.float.proofs.Booleans.{either, both}
 use Rattle.geometry.specs.Rect.{newOf, emptyRect}
 use Rattle.layout.specs.declared.Cutouts.{Cutouts}
 use Rattle.layout.specs.Layout.{cutoutList}
-use Rattle.layout.specs.Lists.{allOf}
 use Rattle.search.specs.declared.Offset.{Offset}
 use Rattle.settings.specs.declared.Settings.{Settings}
 use Rattle.settings.specs.Settings.{defaultOf, least, inLimitsOf, screenInLimitsOf, rectInLimitsOf, placeInLimitsOf, cutoutsInLimitsOf, acceptedOf, rectIsF32, IsF32}

@@ -4,9 +4,9 @@ use mathlib.Core.List.{List, [], _∷_, _++_, map}
 use Prim.Native.Nat.{ℕ}
 use lib.Ieee.{ofBits, lt, le, eq, ne, neg}
 use lib.ListN.{replicate}
+use Rattle.prelude.specs.Answer.{Answer, accepted, refused, must}
+use Rattle.prelude.specs.Lists.{allOf}
 use Rattle.float.specs.MinMax.{maxOf}
-use Rattle.geometry.specs.Answer.{Answer, accepted, refused, must}
-use Rattle.layout.specs.Lists.{allOf}
 use Rattle.settings.specs.declared.Settings.{Settings}
 use Rattle.settings.specs.Settings.{defaultOf, inLimitsOf, screenInLimitsOf, rectInLimitsOf, placeInLimitsOf, cutoutsInLimitsOf}
 use Rattle.reader.specs.Order.{numberAtOf, rectAtOf, rects, filled, hasBit, fitMarkOf, readScreenOf, readPictureOf, readModeOf, readFitOf, readPlaceOf, readCutoutsOf, readSavedOf, fromByteOf, readFieldOf, fields, blankOf, readOrderOf}

@@ -5,10 +5,10 @@ use Prim.Native.Nat.{ℕ, zero, suc, _+_, _-_, _*_, _/_, _%_, _^_}
 use lib.Dec.{eqb, ltb, leb}
 use lib.Ieee.{Float, binary32, ofBits}
 use lib.ListN.{length, getD, take, drop, replicate}
+use Rattle.prelude.specs.Answer.{Answer, accepted, refused, must, andThen}
 use Rattle.float.specs.Float.{k0, k1}
 use Rattle.float.specs.MinMax.{maxOf}
 use Rattle.geometry.specs.declared.Rect.{Rect}
-use Rattle.geometry.specs.Answer.{Answer, accepted, refused, must, andThen}
 use Rattle.geometry.specs.Rect.{newOf, emptyRect}
 use Rattle.layout.specs.declared.Cutouts.{Cutouts}
 use Rattle.search.specs.declared.Offset.{Offset}

@@ -1,7 +1,7 @@
 -- What a reading says of its order, by its refusal's number.
 use mathlib.Core.Path.{_≡_, sym, _∙_}
 use borrow.Author.Tests.{eq-eqb, ne-eqb}
-use Rattle.geometry.specs.Answer.{Answer, accepted, refused}
+use Rattle.prelude.specs.Answer.{Answer, accepted, refused}
 use Rattle.settings.specs.declared.Settings.{Settings}
 use Rattle.reader.specs.declared.Reading.{Reading}
 use Rattle.reader.specs.Order.{answerOf}

@@ -3,7 +3,7 @@ ghost use mathlib.Core.Path.{_≡_};
 ghost use Prim.Native.Nat.{_+_, _*_, _≤_, _<_};
 ghost use lib.Ieee.{binary32, ofBits};
 ghost use lib.ListN.{length};
-ghost use Rattle.geometry.specs.Answer.{accepted, refused};
+ghost use Rattle.prelude.specs.Answer.{accepted, refused};
 ghost use Rattle.reader.specs.Order.{answerOf, shortOf, numberAtOf, rectAtOf, filled, readScreenOf, readPictureOf, readModeOf, fitMarkOf, readFitOf, readPlaceOf, readCutoutsOf, readSavedOf, fromByteOf, readFieldOf, blankOf, readOrderOf};
 use geometry::EMPTY;
 use geometry::Rect;

@@ -13,8 +13,8 @@ use mir.Val.{SFits, ofZ}
 use mir.Facts.{toZ-ofZ}
 use borrow.Author.Needs.{sfits-of}
 use borrow.Author.Tests.{leb-true, eqb-true, eqb-false, eq-eqb, ne-eqb}
-use Rattle.float.proofs.Booleans.{either, both}
-use Rattle.geometry.proofs.Signed.{back, kept}
+use Rattle.prelude.specs.Booleans.{either, both}
+use Rattle.prelude.specs.Signed.{back, kept}
 use Rattle.safe_area.specs.Safe.{at, eqZ, maxOf, clampOf, withinLimitsOf, onScaleOf, allOnScaleOf, sameSizeOf, currentEdgesOf}
 
 -- ---- tests

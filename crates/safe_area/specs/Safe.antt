@@ -7,7 +7,7 @@ use lib.IntN.{ℤ, pos, negsuc, _-ℤ_}
 use lib.Signed.{ltZ, leZ}
 use lib.ListN.{getD, replicate}
 use lib.Ieee.{Float, binary32, ofInt}
-use Rattle.geometry.specs.Answer.{Answer, accepted, refused}
+use Rattle.prelude.specs.Answer.{Answer, accepted, refused}
 use Rattle.geometry.specs.Rect.{newOf}
 use Rattle.geometry.specs.declared.Rect.{Rect}
 use Rattle.safe_area.specs.declared.Edges.{Edges}

@@ -7,9 +7,9 @@ use native.Mathlib.Omega.{arith}
 use lib.Ieee.{Float}
 use lib.ListN.{length, take, drop, getD, set}
 use lib.Seq.{take-all, take-take}
+use Rattle.prelude.specs.Lists.{replaceFirst}
+use Rattle.prelude.specs.Loops.{take-map}
 use Rattle.geometry.specs.declared.Rect.{Rect}
-use Rattle.layout.specs.Elements.{replaceFirst}
-use Rattle.layout.proofs.Loops.{take-map}
 use Rattle.saved.specs.Saved.{restoreOf, restoredOf}
 
 module _ (w h : Float) where

@@ -4,13 +4,14 @@ use mathlib.Core.List.{List, [], _∷_, map}
 use lib.Dec.{eqb}
 use lib.Ieee.{Float, inf, lt}
 use lib.ListN.{length}
+use Rattle.prelude.specs.Lists.{replaceFirst}
 use Rattle.float.specs.Float.{_⊖_, _⊗_, _⊘_, k0, k24}
 use Rattle.float.specs.MinMax.{minOf, clampOf, absOf}
 use Rattle.geometry.specs.declared.Rect.{Rect}
 use Rattle.geometry.specs.Rect.{newOf}
 use Rattle.layout.specs.declared.Layout.{Layout}
 use Rattle.layout.specs.Layout.{elementsOf, elementCountOf}
-use Rattle.layout.specs.Elements.{replaceFirst, setElementsOf}
+use Rattle.layout.specs.Elements.{setElementsOf}
 use Rattle.settings.specs.declared.Preset.{Preset}
 
 -- ---- restored

@@ -7,15 +7,15 @@ use lib.Dec.{T}
 use lib.Ieee.{Float, nan, inf, fin, lt}
 use lib.Ieee.Scale.{finite}
 use lib.ListN.{length}
+use Rattle.prelude.specs.Booleans.{either, by-test, all-four}
+use Rattle.prelude.specs.Each.{Each}
 use Rattle.float.specs.MinMax.{absOf}
 use Rattle.geometry.specs.declared.Rect.{Rect}
-use Rattle.float.proofs.Booleans.{either, by-test, all-four}
 use Rattle.layout.specs.declared.Layout.{Layout}
 use Rattle.layout.specs.Layout.{elementsOf}
 use Rattle.layout.specs.ElementLaws.{length-elements}
 use Rattle.numerics.specs.Rects.{Element}
 use Rattle.numerics.specs.Range.{In, at}
-use Rattle.numerics.specs.Each.{Each}
 use Rattle.numerics.specs.Operations.{whole-finite}
 use Rattle.numerics.specs.Ranges.{sub-in, min-in, element-in, saved-in}
 use Rattle.numerics.specs.Literals.{lit}

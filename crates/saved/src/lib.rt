@@ -3,7 +3,7 @@ ghost use mathlib.Core.Path.{_≡_};
 ghost use mathlib.Core.List.{map};
 ghost use Prim.Native.Nat.{_≤_};
 ghost use lib.ListN.{take};
-ghost use Rattle.layout.specs.Elements.{replaceFirst};
+ghost use Rattle.prelude.specs.Lists.{replaceFirst};
 ghost use Rattle.layout.specs.Layout.{elementList};
 ghost use Rattle.saved.specs.Saved.{isFiniteOf, usableOf, onScreenOf, restoreOf, restoredOf, withSavedOf, partOf, captureOf};
 use float::abs;

@@ -6,16 +6,16 @@ use Prim.Native.Nat.{ℕ, zero, suc, _+_, _≤_}
 use native.Mathlib.Omega.{arith}
 use lib.ListN.{length, take, drop, getD, length-map}
 use lib.Seq.{getD-append-add, drop-append-add}
+use Rattle.prelude.specs.Lists.{mapFirst, retain, compact, replaceFirst}
+use Rattle.prelude.specs.Each.{Each}
+use Rattle.prelude.specs.EachLaws.{each-take, each-drop, each-at, each-append, each-map, each-imp}
 use Rattle.geometry.specs.declared.Rect.{Rect}
 use Rattle.layout.specs.declared.Control.{Control}
 use Rattle.layout.specs.declared.Layout.{Layout}
 use Rattle.layout.specs.Layout.{anyRect, withBounds, withDpad, withControls, withSticks, stickList, boundsOf, elementsOf}
-use Rattle.layout.specs.Lists.{mapFirst, retain, compact}
-use Rattle.layout.specs.Elements.{replaceFirst, setElementsOf}
+use Rattle.layout.specs.Elements.{setElementsOf}
 use Rattle.layout.specs.ElementLaws.{length-bounds}
 use Rattle.layout.specs.Psp.{onPsp, pspInputsOf}
-use Rattle.numerics.specs.Each.{Each}
-use Rattle.numerics.specs.Lists.{each-take, each-drop, each-at, each-append, each-map, each-imp}
 use Rattle.numerics.specs.Rects.{OnScreen, Key, margin}
 use Rattle.numerics.specs.Ranges.{placed-element}
 use Rattle.numerics.specs.Shrunk.{shrunkMargin, placed-shrunk}

@@ -6,13 +6,13 @@ use Prim.Native.Nat.{ℕ, _+_, _*_, _≤_, _<_}
 use native.Mathlib.Omega.{arith}
 use lib.Dec.{T}
 use lib.Ieee.{Float, le}
+use Rattle.prelude.specs.Each.{Each}
+use Rattle.prelude.specs.EachLaws.{each-map, each-imp}
 use Rattle.float.specs.Float.{_⊕_, _⊖_, _⊗_, _⊘_, k0, k0·01}
 use Rattle.geometry.specs.declared.Rect.{Rect}
 use Rattle.geometry.specs.Rect.{newOf, emptyRect}
 use Rattle.numerics.specs.Value.{AtMost, P, N, E, Le}
 use Rattle.numerics.specs.Rects.{maxSide, maxArea}
-use Rattle.numerics.specs.Each.{Each}
-use Rattle.numerics.specs.Lists.{each-map, each-imp}
 use Rattle.numerics.specs.Bounds.{add-law, add-most, sub-law, sub-most, le-law, zero-most, zero-parts, most-more}
 use Rattle.numerics.specs.Literals.{hundredth-most, hundredth}
 use Rattle.search.specs.Search.{bottomOf, rightOf, bottoms, rights}

@@ -5,14 +5,14 @@ use Prim.Native.Nat.{ℕ, _+_, _*_}
 use native.Mathlib.Nat.{zero-lt-suc}
 use native.Mathlib.Omega.{arith}
 use lib.Ieee.{Float}
+use Rattle.prelude.specs.Each.{Each, _&_}
+use Rattle.prelude.specs.EachLaws.{each-take, each-append, each-map}
 use Rattle.float.specs.Float.{k1}
 use Rattle.geometry.specs.declared.Rect.{Rect}
 use Rattle.layout.specs.declared.Layout.{Layout}
 use Rattle.layout.specs.Layout.{controlList, boundsOf, elementsOf}
 use Rattle.numerics.specs.Value.{Whole, AtMost}
 use Rattle.numerics.specs.Rects.{maxArea, Element, Area}
-use Rattle.numerics.specs.Each.{Each, _&_}
-use Rattle.numerics.specs.Lists.{each-take, each-append, each-map}
 use Rattle.numerics.specs.Bounds.{add-most, most-size, most-more, between-most}
 use Rattle.numerics.specs.Ranges.{range-most, sub-in, clamp-whole-in}
 use Rattle.numerics.specs.Products.{product-most}

@@ -7,13 +7,13 @@ use Prim.Native.Nat.{ℕ, _+_, _<_, _≤_}
 use lib.ListN.{length, take, drop, getD}
 use lib.Dec.{T}
 use lib.Ieee.{Float, lt, le, eq}
+use Rattle.prelude.specs.Booleans.{either}
+use Rattle.prelude.specs.Loops.{next-of, none-left}
 use Rattle.float.specs.Float.{_⊕_, _⊘_, k0·01}
 use Rattle.float.proofs.Order.{lt-trans, lt-irrefl, lt-not-eq, min-below}
 use Rattle.geometry.specs.declared.Rect.{Rect}
 use Rattle.geometry.specs.Rect.{newOf}
-use Rattle.float.proofs.Booleans.{either}
 use Rattle.layout.specs.Layout.{anyRect}
-use Rattle.layout.proofs.Loops.{next-of, none-left}
 use Rattle.search.specs.Search.{bottomOf, rightOf, narrowOf, narrowSideOf, betterOf}
 
 -- f leaves a width that is below b below b

@@ -8,15 +8,15 @@ use native.Mathlib.Nat.{le-refl}
 use native.Mathlib.Omega.{arith}
 use lib.Dec.{T}
 use lib.Ieee.{Float, le}
+use Rattle.prelude.specs.Each.{Each}
+use Rattle.prelude.specs.EachLaws.{each-imp, each-both, each-unmap, fold-ind, fold-each}
+use Rattle.prelude.specs.Booleans.{or-case, nor-l, nor-r}
 use Rattle.float.specs.Float.{_⊕_, _⊖_, _⊗_, _⊘_, k0, k0·01}
 use Rattle.float.specs.MinMax.{maxOf}
 use Rattle.geometry.specs.declared.Rect.{Rect}
 use Rattle.geometry.specs.Rect.{newOf, emptyRect}
 use Rattle.numerics.specs.Value.{AtMost, P, N, Le}
 use Rattle.numerics.specs.Rects.{maxArea}
-use Rattle.numerics.specs.Each.{Each}
-use Rattle.numerics.specs.Lists.{each-imp, each-both, each-unmap, fold-ind, fold-each}
-use Rattle.float.proofs.Booleans.{or-case, nor-l, nor-r}
 use Rattle.numerics.specs.Bounds.{sub-law, sub-most, most-more, le-law, max-ind, max-law, max-most, zero-most, zero-parts}
 use Rattle.search.specs.Search.{bottomOf, rightOf, bottoms, rights, withinOf, narrowSideOf, sideWidthAt, trySideAt, tryColumn, sideOf}
 use Rattle.search.proofs.Shapes.{width, left-end, Shape, times-most, over-most, falls}

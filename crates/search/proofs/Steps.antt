@@ -6,12 +6,12 @@ use Prim.Native.Nat.{ℕ, _-_, _<_, _≤_}
 use native.Mathlib.Omega.{arith}
 use lib.ListN.{getD}
 use lib.Ieee.{Float, eq}
+use Rattle.prelude.specs.Loops.{getD-first}
 use Rattle.float.specs.Float.{_⊕_, _⊖_, _⊗_, _⊘_, k0, k0·25, k1, k3, k4}
 use Rattle.float.specs.MinMax.{clampOf}
 use Rattle.geometry.specs.declared.Rect.{Rect}
 use Rattle.geometry.specs.Rect.{newOf}
 use Rattle.layout.specs.Layout.{anyRect}
-use Rattle.layout.proofs.Loops.{getD-first}
 use Rattle.search.specs.Search.{clearPictureOf, clearPictureAspectOf, obstaclesOf, gameOf}
 use Rattle.search.specs.declared.Offset.{Offset}
 

@@ -1,10 +1,10 @@
 -- Layouts whose numbers are in range. Definitions only.
 use Prim.Native.Nat.{_*_}
+use Rattle.prelude.specs.Each.{Each}
 use Rattle.geometry.specs.declared.Rect.{Rect}
 use Rattle.layout.specs.declared.Layout.{Layout}
 use Rattle.numerics.specs.Value.{AtMost}
 use Rattle.numerics.specs.Rects.{Element, OnScreen, Key, margin}
-use Rattle.numerics.specs.Each.{Each}
 use Rattle.numerics.specs.Shrunk.{shrunkMargin}
 
 -- C holds of the d-pad, the controls and the sticks, D of the toolbar's keys: of every rectangle but the game, and of the unused places of the arrays too

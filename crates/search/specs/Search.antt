@@ -2,13 +2,13 @@
 use mathlib.Core.Bool.{Bool, cond, _&&_, _||_}
 use mathlib.Core.List.{List, [], _∷_, map, foldl}
 use lib.Ieee.{Float, lt, le, eq}
+use Rattle.prelude.specs.Lists.{filterMap}
 use Rattle.float.specs.Float.{_⊕_, _⊖_, _⊗_, _⊘_, k0, k0·01, k0·25, k0·5, k1, k2, k3, k4}
 use Rattle.float.specs.MinMax.{minOf, maxOf, clampOf}
 use Rattle.geometry.specs.declared.Rect.{Rect}
 use Rattle.geometry.specs.Rect.{newOf, emptyRect, overlapsOf}
 use Rattle.layout.specs.declared.Layout.{Layout}
 use Rattle.layout.specs.Layout.{elementsOf, withGame}
-use Rattle.layout.specs.Lists.{filterMap}
 use Rattle.search.specs.declared.Offset.{Offset}
 
 -- the lower and the right edge of an obstacle

@@ -8,10 +8,10 @@ use lib.Dec.{T}
 use lib.IntN.{ℤ, pos, _+ℤ_, _-ℤ_, _*ℤ_}
 use lib.Signed.{leZ, ltZ}
 use lib.Ieee.{Float}
+use Rattle.prelude.specs.Each.{Each}
 use Rattle.geometry.specs.declared.Rect.{Rect}
 use Rattle.layout.specs.declared.Layout.{Layout}
 use Rattle.layout.specs.Layout.{elementsOf}
-use Rattle.numerics.specs.Each.{Each}
 use Rattle.numerics.specs.Rects.{WholeRect}
 use Rattle.numerics.specs.Value.{value}
 use Rattle.search.specs.Search.{centeredOf, obstaclesOf}

@@ -5,12 +5,12 @@ use mathlib.Core.List.{List}
 use lib.Dec.{leb}
 use lib.Ieee.{Float, binary32, fits, le, eq, neg}
 use lib.ListN.{take, replicate}
+use Rattle.prelude.specs.Lists.{allOf}
 use Rattle.float.specs.Float.{k0, k0·5, k1, k8192}
 use Rattle.geometry.specs.declared.Rect.{Rect}
 use Rattle.geometry.specs.Rect.{emptyRect}
 use Rattle.layout.specs.declared.Cutouts.{Cutouts}
 use Rattle.layout.specs.Layout.{cutoutList}
-use Rattle.layout.specs.Lists.{allOf}
 use Rattle.search.specs.declared.Offset.{Offset}
 use Rattle.search.specs.Search.{centred}
 use Rattle.settings.specs.declared.Fit.{Fit}

@@ -6,6 +6,8 @@ use native.Mathlib.Omega.{arith}
 use lib.Dec.{T, leb, leb→le, le→leb, lit≤}
 use lib.ListN.{length, length-append, length-map, length-take}
 use lib.Seq.{length-take-le}
+use Rattle.prelude.specs.Each.{Each, _&_}
+use Rattle.prelude.specs.EachLaws.{each-take, each-append, each-map, each-imp}
 use Rattle.geometry.specs.declared.Rect.{Rect}
 use Rattle.layout.specs.declared.Control.{Control}
 use Rattle.layout.specs.declared.Label.{Label}
@@ -14,8 +16,6 @@ use Rattle.layout.specs.declared.Layout.{Layout}
 use Rattle.layout.specs.Label.{nameOf}
 use Rattle.layout.specs.Layout.{controlList, stickList}
 use Rattle.numerics.specs.Bounds.{most-more}
-use Rattle.numerics.specs.Each.{Each, _&_}
-use Rattle.numerics.specs.Lists.{each-take, each-append, each-map, each-imp}
 use Rattle.numerics.specs.Rects.{Element}
 use Rattle.search.specs.Bounded.{Bounded, BoundedGame}
 use Rattle.lines.specs.Line.{Line, lineOf, lineText, headText, most, Printable}

@@ -3,7 +3,7 @@ ghost use mathlib.Core.Path.{_≡_};
 ghost use mathlib.Core.List.{map};
 ghost use Prim.Native.Nat.{_+_, _≤_};
 ghost use lib.ListN.{length, take};
-ghost use Rattle.numerics.specs.Each.{Each};
+ghost use Rattle.prelude.specs.Each.{Each};
 ghost use Rattle.numerics.specs.Rects.{Element};
 ghost use Rattle.search.specs.Bounded.{Bounded, BoundedGame};
 ghost use Rattle.lines.specs.Line.{putOf};

@@ -6,7 +6,7 @@ use lib.IntN.{pos, negsuc}
 use lib.ListN.{length, set}
 use lib.Seq.{sets-eq}
 use borrow.Author.Tests.{le-leb, lt-leb}
-use Rattle.geometry.specs.Answer.{must}
+use Rattle.prelude.specs.Answer.{must}
 use Rattle.thumb_layout.specs.Interface.{roomOf, statusOf, fourOutput}
 
 module _ {A : Type 0} (a b c d : A) (out : List A) where

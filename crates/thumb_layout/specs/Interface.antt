@@ -6,7 +6,7 @@ use lib.Dec.{eqb, leb}
 use lib.Ieee.{Float}
 use lib.IntN.{ℤ, pos, negℤ}
 use lib.ListN.{length, drop}
-use Rattle.geometry.specs.Answer.{Answer, accepted, refused, must, andThen}
+use Rattle.prelude.specs.Answer.{Answer, accepted, refused, must, andThen}
 use Rattle.safe_area.specs.Safe.{at, safeContentOf, safeEdgesOf}
 use Rattle.geometry.specs.declared.Rect.{Rect}
 use Rattle.safe_area.specs.declared.Edges.{Edges}

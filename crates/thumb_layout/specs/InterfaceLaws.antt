@@ -10,8 +10,8 @@ use lib.Ieee.{Float}
 use lib.IntN.{ℤ, negsuc}
 use lib.ListN.{length, drop}
 use lib.Signed.{mag}
-use Rattle.geometry.specs.Answer.{Answer, accepted, refused, must, andThen}
-use Rattle.float.proofs.Booleans.{either}
+use Rattle.prelude.specs.Answer.{Answer, accepted, refused, must, andThen}
+use Rattle.prelude.specs.Booleans.{either}
 use Rattle.settings.specs.declared.Settings.{Settings}
 use Rattle.settings.specs.Settings.{topsInLimitsOf}
 use Rattle.safe_area.specs.Safe.{allOnScaleOf, contentOf, safeContentOf, mergedOf, safeEdgesOf}

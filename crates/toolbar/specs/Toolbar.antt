@@ -5,6 +5,7 @@ use mathlib.Core.List.{List, _++_, map}
 use Prim.Native.Nat.{ℕ, zero, suc, _+_}
 use lib.Ieee.{Float, lt, le, neg}
 use lib.ListN.{length, take}
+use Rattle.prelude.specs.Lists.{anyOf, find}
 use Rattle.float.specs.Float.{_⊕_, _⊖_, _⊗_, _⊘_, k0, k0·01, k0·055, k1, k1·4, k2, k3, k4, k8, k18, k28, k40, k320}
 use Rattle.float.specs.MinMax.{minOf, maxOf, clampOf}
 use Rattle.geometry.specs.declared.Rect.{Rect}
@@ -12,7 +13,6 @@ use Rattle.geometry.specs.Rect.{newOf, overlapsOf}
 use Rattle.layout.specs.declared.Layout.{Layout}
 use Rattle.layout.specs.Layout.{elementOf}
 use Rattle.layout.specs.Elements.{controllerElementsOf}
-use Rattle.layout.specs.Lists.{anyOf, find}
 use Rattle.toolbar.specs.declared.Bars.{Bars}
 use Rattle.toolbar.specs.declared.Obstacles.{Obstacles}
 

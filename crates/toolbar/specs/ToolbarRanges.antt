@@ -7,19 +7,19 @@ use lib.Dec.{T}
 use lib.Ieee.{Float, lt, le, ofBits}
 use lib.Ieee.Fits.{and-l}
 use lib.ListN.{length}
+use Rattle.prelude.specs.Booleans.{either, by-test, and-three, all-four}
+use Rattle.prelude.specs.Lists.{anyOf, find}
+use Rattle.prelude.specs.Each.{Each, _&_}
+use Rattle.prelude.specs.EachLaws.{each-take, each-append}
 use Rattle.float.specs.Float.{_⊕_, _⊖_, _⊘_, k0, k0·01, k2, k8, k320}
 use Rattle.geometry.specs.declared.Rect.{Rect}
-use Rattle.float.proofs.Booleans.{either, by-test, and-three, all-four}
 use Rattle.geometry.specs.Rect.{overlapsOf}
 use Rattle.layout.specs.declared.Layout.{Layout}
 use Rattle.layout.specs.Layout.{elementOf, stickList, boundsOf}
 use Rattle.layout.specs.Elements.{controllerElementsOf}
 use Rattle.layout.specs.ElementLaws.{controller-elements}
-use Rattle.layout.specs.Lists.{anyOf, find}
 use Rattle.numerics.specs.Rects.{Element, Area, Key, margin}
 use Rattle.numerics.specs.Range.{In, at, minus}
-use Rattle.numerics.specs.Each.{Each, _&_}
-use Rattle.numerics.specs.Lists.{each-take, each-append}
 use Rattle.numerics.specs.Bounds.{lt-law}
 use Rattle.numerics.specs.Ranges.{in-reach, in-more, most-in, add-in, sub-in, sub-back, times-in, mul-in, div-in, min-in, max-in, clamp-in, cond-in, neg-in, raise, moved-in, placed-in}
 use Rattle.numerics.specs.Products.{product-most}

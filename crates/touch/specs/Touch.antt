@@ -5,6 +5,7 @@ use Prim.Native.Nat.{ℕ, _^_}
 use lib.Bits.{bitAnd, bitOr}
 use lib.Dec.{eqb}
 use lib.Ieee.{Float, binary32, ofBits, lt, le}
+use Rattle.prelude.specs.Lists.{anyOf}
 use Rattle.float.specs.Float.{_⊕_, _⊖_, _⊗_, _⊘_, k0, k0·09, k0·15, k1, k2, k6, k10, √2}
 use Rattle.float.specs.MinMax.{minOf, absOf}
 use Rattle.geometry.specs.declared.Rect.{Rect}
@@ -14,7 +15,6 @@ use Rattle.layout.specs.declared.Control.{Control}
 use Rattle.layout.specs.declared.Layout.{Layout}
 use Rattle.layout.specs.Label.{maskOf, isFaceOf}
 use Rattle.layout.specs.Layout.{controlList}
-use Rattle.layout.specs.Lists.{anyOf}
 use Rattle.touch.specs.declared.Face.{Face}
 
 -- ---- the d-pad

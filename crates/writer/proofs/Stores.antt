@@ -7,8 +7,8 @@ use native.Mathlib.Omega.{arith}
 use borrow.Author.Tests.{le-leb, lt-leb}
 use lib.ListN.{length, set, drop, take, getD, length-append}
 use lib.Seq.{sets, sets-eq, length-sets, take-suc, length-take-le}
+use Rattle.prelude.specs.Answer.{accepted, refused}
 use Rattle.geometry.specs.declared.Rect.{Rect}
-use Rattle.geometry.specs.Answer.{accepted, refused}
 use Rattle.layout.specs.declared.Layout.{Layout}
 use Rattle.layout.specs.Layout.{elementsOf, controlList, elementCountOf}
 use Rattle.writer.specs.Bytes.{stored, numberBytes, rectBytes, maskBytes, headBytes, layoutBytes, writeLayoutOf, outputOf}

@@ -6,8 +6,8 @@ use lib.Dec.{eqb, leb}
 use lib.Ieee.{Float, binary32, toBits}
 use lib.ListN.{length, drop}
 use lib.Seq.{sets}
+use Rattle.prelude.specs.Answer.{Answer, accepted, refused}
 use Rattle.geometry.specs.declared.Rect.{Rect}
-use Rattle.geometry.specs.Answer.{Answer, accepted, refused}
 use Rattle.layout.specs.declared.Control.{Control}
 use Rattle.layout.specs.declared.Layout.{Layout}
 use Rattle.layout.specs.Label.{maskOf}

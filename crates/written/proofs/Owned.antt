@@ -8,12 +8,12 @@ use denote.Laws.{Is}
 use denote.Shadow.{shadow}
 use denote.Struct.Field.{Field}
 use mir.Val.{Val}
+use Rattle.prelude.specs.Each.{Each}
 use Rattle.geometry.specs.declared.Rect.{Rect}
 use Rattle.geometry.proofs.Rect as Rect
 use Rattle.layout.specs.declared.Layout.{Layout}
 use Rattle.layout.proofs.Control as Control
 use Rattle.layout.proofs.Layout as Layout
-use Rattle.numerics.specs.Each.{Each}
 use Rattle.search.proofs.Layouts.{elements-in}
 use Rattle.settings.specs.Settings.{rectIsF32}
 use Rattle.written.specs.Written.{LayoutIsF32}

@@ -13,13 +13,13 @@ use lib.Ieee.Back.{whole-unique}
 use lib.Ieee.Bits.{ofBits-toBits, is-true, is-false}
 use lib.ListN.{length, getD}
 use lib.Seq.{getD-append-add, take-at, drop-at}
+use Rattle.prelude.specs.Booleans.{by-test, both}
+use Rattle.prelude.specs.Each.{Each}
 use Rattle.float.specs.Float.{k0}
 use Rattle.geometry.specs.declared.Rect.{Rect}
-use Rattle.float.proofs.Booleans.{by-test, both}
 use Rattle.layout.specs.declared.Layout.{Layout}
 use Rattle.layout.specs.Layout.{elementsOf}
 use Rattle.numerics.specs.Value.{magnitude, Whole, value}
-use Rattle.numerics.specs.Each.{Each}
 use Rattle.numerics.specs.Bounds.{zero-most}
 use Rattle.reader.specs.Order.{shortOf, numberAtOf, rectAtOf, rects}
 use Rattle.settings.specs.Settings.{rectIsF32}

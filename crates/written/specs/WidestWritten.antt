@@ -4,10 +4,10 @@ use mathlib.Core.List.{List, _++_, map}
 use Prim.Native.Nat.{ℕ}
 use lib.Dec.{T}
 use lib.Ieee.{Float}
+use Rattle.prelude.specs.EachLaws.{each-map, each-unmap, each-imp}
 use Rattle.geometry.specs.declared.Rect.{Rect}
 use Rattle.layout.specs.declared.Layout.{Layout}
 use Rattle.layout.specs.Layout.{elementsOf}
-use Rattle.numerics.specs.Lists.{each-map, each-unmap, each-imp}
 use Rattle.search.specs.Widest.{Exact, over, meets, Rival, Widest}
 use Rattle.writer.specs.Bytes.{layoutBytes}
 use Rattle.written.specs.Written.{writtenGame, writtenElements, plusZeroRect, LayoutIsF32}

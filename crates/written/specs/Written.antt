@@ -6,12 +6,12 @@ use Prim.Native.Nat.{ℕ, zero, suc, _/_}
 use lib.Dec.{eqb}
 use lib.Ieee.{Float, eq}
 use lib.ListN.{length, getD, take, drop}
+use Rattle.prelude.specs.Each.{Each}
 use Rattle.float.specs.Float.{k0}
 use Rattle.geometry.specs.declared.Rect.{Rect}
 use Rattle.geometry.specs.Rect.{newOf}
 use Rattle.layout.specs.declared.Layout.{Layout}
 use Rattle.layout.specs.Layout.{elementsOf}
-use Rattle.numerics.specs.Each.{Each}
 use Rattle.reader.specs.Order.{shortOf, rectAtOf, rects}
 use Rattle.settings.specs.Settings.{rectIsF32}
 

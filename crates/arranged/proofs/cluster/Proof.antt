@@ -2,8 +2,8 @@ use borrow.Author.Needs.{needs}
 use mathlib.Core.Path.{refl, _≡_}
 use mathlib.Core.List.{foldl}
 use lib.ListN.{length, take}
+use Rattle.prelude.specs.Loops.{sized, fold-next}
 use Rattle.layout.specs.Layout.{anyRect}
-use Rattle.layout.proofs.Loops.{sized, fold-next}
 use Rattle.arranged.specs.Arranged.{narrowOf, clusterOf}
 use native.Mathlib.Omega.{arith}
 use Prim.Native.Nat.{_-_, _<_, _≤_}

@@ -5,8 +5,8 @@ use mathlib.Core.List.{foldl-append}
 use mathlib.Core.Logic.{⊎-elim}
 use Prim.Native.Nat.{_-_, _<_, _≤_}
 use lib.ListN.{length, take}
+use Rattle.prelude.specs.Loops.{sized, one-more, no-more}
 use Rattle.layout.specs.Layout.{anyRect}
-use Rattle.layout.proofs.Loops.{sized, one-more, no-more}
 use Rattle.camera_rails.specs.CameraRails.{inRailOf, cameraTopOf}
 use Rattle.camera_rails.proofs.camera_top.Statement.{statement}
 use Rattle.camera_rails.proofs.camera_top.Tie as tie

@@ -1,9 +1,9 @@
 use borrow.Author.Needs.{needs}
 use native.Mathlib.Omega.{arith}
 use Prim.Native.Nat.{_-_}
+use Rattle.prelude.specs.Lists.{anyOf}
+use Rattle.prelude.specs.Loops.{in-array, Rest, stops, goes-on, runs-out}
 use Rattle.layout.specs.Layout.{anyRect, cutoutList, elementList}
-use Rattle.layout.specs.Lists.{anyOf}
-use Rattle.layout.proofs.Loops.{in-array, Rest, stops, goes-on, runs-out}
 use Rattle.cutouts.specs.Cutouts.{hitsOf}
 use Rattle.camera_rails.proofs.hits.Statement.{statement}
 use Rattle.camera_rails.proofs.hits.Tie as tie

@@ -4,8 +4,8 @@ use Rattle.cutouts.proofs.Groups.{missed, outside, outside-more, outsid
 use mathlib.Core.Path.{refl, sym, ap, ap₂, _∙_, _≡_}
 use lib.ListN.{length}
 use lib.Seq.{length-take-le}
+use Rattle.prelude.specs.Loops.{sized}
 use Rattle.cutouts.specs.Cutouts.{settleOf, groupList}
-use Rattle.layout.proofs.Loops.{sized}
 use Rattle.layout.specs.Layout.{elementList, cutoutList}
 use borrow.Author.Tests.{not-true}
 use borrow.Author.Needs.{needs}

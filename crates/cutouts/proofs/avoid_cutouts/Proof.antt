@@ -4,8 +4,8 @@ use mathlib.Core.Path.{sym, ap, _∙_, _≡_}
 use lib.ListN.{length}
 use native.Mathlib.Omega.{arith}
 use lib.Seq.{length-take-le}
+use Rattle.prelude.specs.Loops.{sized}
 use Rattle.cutouts.specs.Cutouts.{withAreaOf, avoidCutoutsOf}
-use Rattle.layout.proofs.Loops.{sized}
 use Rattle.layout.specs.Layout.{cutoutList}
 use borrow.Author.Needs.{needs}
 use Rattle.cutouts.proofs.avoid_cutouts.Statement.{statement}

@@ -1,15 +1,15 @@
 use Prim.Native.Nat.{ℕ, _+_, _-_, _≤_}
 use borrow.Author.Tests.{not-true, not-false}
+use Rattle.prelude.specs.Stores.{put-more}
 use Rattle.cutouts.proofs.Groups.{face-more, face-same, faces-all, faces-few, faces-below, room}
-use Rattle.layout.proofs.Stores.{put-more}
 use Rattle.layout.specs.Actions.{actionElementsOf}
 use Rattle.layout.specs.Label.{isFaceOf}
 use Rattle.layout.specs.declared.Control.{Control}
 use mathlib.Core.Path.{refl, sym, _∙_, _≡_}
 use lib.ListN.{length, take, length-set}
+use Rattle.prelude.specs.Loops.{sized}
+use Rattle.prelude.specs.Lists.{filterMap, enumerateFrom}
 use Rattle.cutouts.specs.Cutouts.{groupList}
-use Rattle.layout.proofs.Loops.{sized}
-use Rattle.layout.specs.Lists.{filterMap, enumerateFrom}
 use borrow.Author.Needs.{needs}
 use native.Mathlib.Omega.{arith}
 use Rattle.cutouts.proofs.faces.Statement.{statement}

@@ -2,9 +2,9 @@ use borrow.Author.Needs.{needs}
 use native.Mathlib.Omega.{arith}
 use Prim.Native.Nat.{_-_}
 use lib.ListN.{take}
-use Rattle.layout.proofs.Loops.{Rest, stops, goes-on, runs-out}
+use Rattle.prelude.specs.Loops.{Rest, stops, goes-on, runs-out}
+use Rattle.prelude.specs.Lists.{anyOf}
 use Rattle.layout.specs.Layout.{anyRect, cutoutList}
-use Rattle.layout.specs.Lists.{anyOf}
 use Rattle.cutouts.specs.Cutouts.{hitsOf}
 use Rattle.cutouts.proofs.hits.Statement.{statement}
 use Rattle.cutouts.proofs.hits.Tie as tie

@@ -1,9 +1,9 @@
 use Prim.Native.Nat.{_-_}
 use borrow.Author.Tests.{eq-eqb, ne-eqb}
 use lib.ListN.{take}
+use Rattle.prelude.specs.Loops.{in-array, Rest, stops, goes-on, runs-out}
+use Rattle.prelude.specs.Lists.{anyOf}
 use Rattle.cutouts.specs.Cutouts.{inGroupOf}
-use Rattle.layout.proofs.Loops.{in-array, Rest, stops, goes-on, runs-out}
-use Rattle.layout.specs.Lists.{anyOf}
 use native.Mathlib.Omega.{arith}
 use Rattle.cutouts.proofs.in_group.Statement.{statement}
 use Rattle.cutouts.proofs.in_group.Tie as tie

@@ -1,11 +1,11 @@
 use Prim.Native.Nat.{ℕ, _-_, _<_, _≤_}
 use mathlib.Core.List.{[], map}
+use Rattle.prelude.specs.Stores.{map-put}
 use Rattle.cutouts.proofs.Groups.{members-first, below-index}
-use Rattle.layout.proofs.Stores.{map-put}
 use mathlib.Core.Path.{refl, _∙_, _≡_}
 use lib.ListN.{length, take, getD, length-set}
+use Rattle.prelude.specs.Loops.{sized}
 use Rattle.cutouts.specs.Cutouts.{groupList}
-use Rattle.layout.proofs.Loops.{sized}
 use Rattle.layout.specs.Layout.{anyRect}
 use native.Mathlib.Omega.{arith}
 use Rattle.cutouts.proofs.members.Statement.{statement}

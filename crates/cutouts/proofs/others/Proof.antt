@@ -1,12 +1,12 @@
 use Prim.Native.Nat.{_-_, _<_, _≤_}
+use Rattle.prelude.specs.Stores.{put-more}
 use Rattle.geometry.specs.declared.Rect.{Rect}
 use Rattle.cutouts.proofs.Groups.{outside, outside-more, outside-same, outside-all}
-use Rattle.layout.proofs.Stores.{put-more}
 use mathlib.Core.Path.{refl, sym, _∙_, _≡_}
 use lib.ListN.{length, take, getD, length-set}
 use lib.Seq.{getD-take, length-take-le}
+use Rattle.prelude.specs.Loops.{sized}
 use Rattle.cutouts.specs.Cutouts.{groupList}
-use Rattle.layout.proofs.Loops.{sized}
 use Rattle.layout.specs.Layout.{anyRect, elementList}
 use borrow.Author.Needs.{needs}
 use native.Mathlib.Omega.{arith}

@@ -2,8 +2,8 @@ use Rattle.geometry.specs.declared.Rect.{Rect}
 use mathlib.Core.List.{List}
 use borrow.Author.Tests.{not-true, not-false}
 use mathlib.Core.Path.{refl, ap, _∙_}
+use Rattle.prelude.specs.Booleans.{cond-yes, cond-no}
 use Rattle.cutouts.specs.Cutouts.{membersOf, hitsOf, shiftOf, settleOf, groupList}
-use Rattle.layout.proofs.Loops.{cond-yes, cond-no}
 use Rattle.layout.specs.Layout.{elementList, cutoutList}
 use borrow.Author.Needs.{needs}
 use Rattle.cutouts.proofs.settle.Statement.{statement}

@@ -4,10 +4,10 @@ use mathlib.Core.List.{List}
 use Rattle.cutouts.proofs.Groups.{below-index, put-first}
 use mathlib.Core.Path.{refl, _∙_, _≡_}
 use lib.ListN.{length, take, getD, set, length-set}
+use Rattle.prelude.specs.Loops.{fold-next, sized}
 use Rattle.moves.specs.declared.Move.the-variants.{Go}
 use Rattle.moves.specs.Moves.{movedOf}
 use Rattle.cutouts.specs.Cutouts.{shiftByOf}
-use Rattle.layout.proofs.Loops.{fold-next, sized}
 use Rattle.layout.specs.Layout.{anyRect}
 use borrow.Author.Needs.{needs}
 use native.Mathlib.Omega.{arith}

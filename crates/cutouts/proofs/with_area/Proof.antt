@@ -2,11 +2,11 @@ use Prim.Native.Nat.{_-_, _≤_}
 use borrow.Author.Tests.{not-true, not-false}
 use mathlib.Core.Path.{refl, _∙_, _≡_}
 use lib.ListN.{length, take, getD, length-set}
+use Rattle.prelude.specs.Loops.{one-more, no-more, sized}
+use Rattle.prelude.specs.Stores.{put-more}
+use Rattle.prelude.specs.Lists.{retain}
 use Rattle.cutouts.specs.Cutouts.{hasAreaOf}
-use Rattle.layout.proofs.Loops.{one-more, no-more, sized}
-use Rattle.layout.proofs.Stores.{put-more}
 use Rattle.layout.specs.Layout.{anyRect}
-use Rattle.layout.specs.Lists.{retain}
 use borrow.Author.Needs.{needs}
 use native.Mathlib.Omega.{arith}
 use Rattle.cutouts.proofs.with_area.Statement.{statement}

@@ -3,11 +3,11 @@ use native.Mathlib.Omega.{arith}
 use mathlib.Core.Path.{_≡_, refl}
 use Prim.Native.Nat.{_-_, _≤_}
 use lib.ListN.{length, length-set}
+use Rattle.prelude.specs.Lists.{mapFirst}
+use Rattle.prelude.specs.Loops.{sized, mapFirst-zero, mapFirst-step}
+use Rattle.prelude.specs.ListLaws.{take-mapFirst}
 use Rattle.layout.specs.Layout.{anyRect}
-use Rattle.layout.specs.Lists.{mapFirst}
-use Rattle.layout.proofs.Loops.{sized, mapFirst-zero, mapFirst-step}
 use Rattle.defaults.specs.Defaults.{scaledRectOf}
-use Rattle.layout.specs.ListLaws.{take-mapFirst}
 use Rattle.defaults.proofs.scaled.Statement.{statement}
 use Rattle.defaults.proofs.scaled.Tie as tie
 

@@ -6,10 +6,10 @@ use Prim.Native.Nat.{_+_, _-_, _≤_}
 use mathlib.Core.Bool.{false}
 use mathlib.Core.List.{List, [], _∷_, _++_, map}
 use lib.ListN.{length, take, getD, length-set, length-map}
+use Rattle.prelude.specs.Loops.{sized, take-map}
+use Rattle.prelude.specs.Stores.{map-put, stored, two}
 use Rattle.geometry.specs.declared.Rect.{Rect}
 use Rattle.layout.specs.Layout.{anyRect, controlList}
-use Rattle.layout.proofs.Loops.{sized, take-map}
-use Rattle.layout.proofs.Stores.{map-put, stored, two}
 use Rattle.fits.specs.declared.Input.{Input}
 use Rattle.fits.specs.Fits.{input, fromControl, fromStick, inputsOf}
 use Rattle.fits.proofs.inputs.Statement.{statement}

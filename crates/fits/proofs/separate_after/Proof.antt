@@ -3,9 +3,9 @@ use borrow.Author.Tests.{not-true, not-false}
 use native.Mathlib.Omega.{arith}
 use Prim.Native.Nat.{_+_, _-_}
 use lib.ListN.{take, drop}
+use Rattle.prelude.specs.Lists.{allOf}
+use Rattle.prelude.specs.Loops.{in-array, Rest, stops, goes-on, runs-out}
 use Rattle.layout.specs.Layout.{anyRect}
-use Rattle.layout.specs.Lists.{allOf}
-use Rattle.layout.proofs.Loops.{in-array, Rest, stops, goes-on, runs-out}
 use Rattle.fits.specs.Fits.{fromStick, separateOf}
 use Rattle.fits.proofs.separate_after.Statement.{statement}
 use Rattle.fits.proofs.separate_after.Tie as tie

@@ -4,11 +4,11 @@ use Prim.Native.Nat.{_+_, _-_, _<_, _≤_, suc}
 use mathlib.Core.List.{zipWith}
 use lib.ListN.{length, length-drop, length-set, drop, getD}
 use lib.Seq.{getD-drop}
+use Rattle.prelude.specs.Lists.{replaceFirst}
+use Rattle.prelude.specs.ListLaws.{length-zipWith, getD-zipWith}
+use Rattle.prelude.specs.Loops.{sized}
+use Rattle.prelude.specs.Stores.{replaceFirst-next}
 use Rattle.layout.specs.Layout.{anyRect, anyControl, withBounds}
-use Rattle.layout.specs.Elements.{replaceFirst}
-use Rattle.layout.specs.ListLaws.{length-zipWith, getD-zipWith}
-use Rattle.layout.proofs.Loops.{sized}
-use Rattle.layout.proofs.Stores.{replaceFirst-next}
 use Rattle.layout.proofs.set_bounds.Statement.{statement}
 use Rattle.layout.proofs.set_bounds.Tie as tie
 

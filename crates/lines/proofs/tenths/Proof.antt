@@ -1,6 +1,6 @@
+use Rattle.prelude.specs.Signed.{stored, minus-fits, minus-is}
 use Rattle.numerics.specs.Operations.{whole-not-nan}
 use Rattle.lines.proofs.Patterns.{exponent, size-is, tenths-plus, tenths-minus}
-use Rattle.geometry.proofs.Signed.{stored, minus-fits, minus-is}
 use Prim.Native.Nat.{ℕ}
 use mathlib.Core.Path.{sym, ap, _∙_}
 use lib.IntN.{pos, negℤ}

@@ -3,9 +3,9 @@ use borrow.Author.Tests.{not-true, not-false}
 use native.Mathlib.Omega.{arith}
 use Prim.Native.Nat.{_-_}
 use lib.ListN.{take}
+use Rattle.prelude.specs.Lists.{allOf}
+use Rattle.prelude.specs.Loops.{Rest, stops, goes-on, runs-out}
 use Rattle.layout.specs.Layout.{cutoutList, elementList, anyRect}
-use Rattle.layout.specs.Lists.{allOf}
-use Rattle.layout.proofs.Loops.{Rest, stops, goes-on, runs-out}
 use Rattle.moves.specs.declared.Move.the-variants.{Go}
 use Rattle.moves.specs.Moves.{allClearOf}
 use Rattle.moves.proofs.all_clear.Statement.{statement}

@@ -6,9 +6,9 @@ use Prim.Native.Nat.{_-_}
 use native.Mathlib.Nat.{lt-of-lt-of-le}
 use lib.Ieee.{nan}
 use lib.ListN.{take}
+use Rattle.prelude.specs.ListLaws.{length-zipWith, getD-zipWith}
+use Rattle.prelude.specs.Loops.{Rest, stops, goes-on, runs-out}
 use Rattle.layout.specs.Layout.{cutoutList, elementList}
-use Rattle.layout.specs.ListLaws.{length-zipWith, getD-zipWith}
-use Rattle.layout.proofs.Loops.{Rest, stops, goes-on, runs-out}
 use Rattle.moves.specs.declared.Move.the-variants.{Stay, Go}
 use Rattle.moves.specs.Moves.{movesIn, firstClearOf}
 use Rattle.moves.proofs.first_clear.Statement.{statement}

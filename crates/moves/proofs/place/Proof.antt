@@ -1,7 +1,7 @@
 use lib.Ieee.{nan}
 use lib.ListN.{take}
+use Rattle.prelude.specs.Loops.{Rest, stops, goes-on, runs-out}
 use Rattle.moves.specs.Moves.{placeOf}
-use Rattle.layout.proofs.Loops.{Rest, stops, goes-on, runs-out}
 use borrow.Author.Needs.{needs}
 use native.Mathlib.Omega.{arith}
 use Prim.Native.Nat.{_+_, _-_}

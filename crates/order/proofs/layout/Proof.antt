@@ -1,9 +1,9 @@
 use mathlib.Core.Path.{sym}
 use borrow.Author.Needs.{needs}
+use Rattle.prelude.specs.AnswerLaws.{never}
 use Rattle.reader.specs.Accepted.{accepted-order}
 use Rattle.written.proofs.Owned.{layout-owned}
 use Rattle.order.specs.Orders.{orderLayout, layoutOf, layoutOutputOf}
-use Rattle.geometry.specs.AnswerLaws.{never}
 use Rattle.preset.specs.PresetLabels.{settings-few}
 use Rattle.reader.specs.Readings.{read-refused, read-accepted}
 use Rattle.order.proofs.Steps.{layout-accepted}

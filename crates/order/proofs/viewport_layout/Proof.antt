@@ -1,6 +1,6 @@
 use borrow.Author.Needs.{needs}
 use borrow.Author.Tests.{not-true, not-false}
-use Rattle.geometry.specs.Answer.{must}
+use Rattle.prelude.specs.Answer.{must}
 use Rattle.reader.specs.Accepted.{accepted-order}
 use Rattle.order.specs.Orders.{orderViewport, viewportLayoutOf, viewportOutputOf}
 use Rattle.preset.specs.PresetLabels.{viewport-few}

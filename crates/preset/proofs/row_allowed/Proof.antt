@@ -2,7 +2,7 @@ use Rattle.saved.specs.SavedLaws.{none-counted}
 use Rattle.preset.specs.Preset.{rowAllowedOf}
 use lib.ListN.{length}
 use native.Mathlib.Omega.{arith}
-use Rattle.layout.proofs.Loops.{sized}
+use Rattle.prelude.specs.Loops.{sized}
 use mathlib.Core.Path.{_≡_}
 use borrow.Author.Needs.{needs}
 use Rattle.preset.proofs.row_allowed.Statement.{statement}

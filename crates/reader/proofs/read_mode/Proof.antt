@@ -1,6 +1,6 @@
 use borrow.Author.Tests.{ne-eqb, eq-eqb}
 use mathlib.Core.Path.{_∙_}
-use Rattle.geometry.specs.Answer.{must}
+use Rattle.prelude.specs.Answer.{must}
 use Rattle.reader.specs.Order.{readModeOf}
 use lib.ListN.{getD}
 use Rattle.reader.proofs.Bits.{test-bit}

@@ -1,7 +1,7 @@
 use mathlib.Core.Path.{_∙_}
 use borrow.Author.Tests.{not-true, not-false}
 use lib.ListN.{length}
-use Rattle.geometry.specs.Answer.{must}
+use Rattle.prelude.specs.Answer.{must}
 use Rattle.reader.proofs.Fields.{Left, at-start, at-end, cut-header, not-above, not-a-tag, cut-value, bad-value, next-field}
 use borrow.Author.Needs.{needs}
 use native.Mathlib.Omega.{arith}

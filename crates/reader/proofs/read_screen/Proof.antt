@@ -1,6 +1,6 @@
 use borrow.Author.Tests.{ne-eqb, eq-eqb, not-true, not-false}
 use mathlib.Core.Path.{_∙_}
-use Rattle.geometry.specs.Answer.{must}
+use Rattle.prelude.specs.Answer.{must}
 use Rattle.reader.specs.Order.{readScreenOf}
 use borrow.Author.Needs.{needs}
 use Rattle.reader.proofs.read_screen.Statement.{statement}

@@ -6,7 +6,7 @@ use Prim.Native.Nat.{_-_}
 use lib.IntN.{pos}
 use lib.Seq.{take-length}
 use mir.Facts.{toZ-ofZ}
-use Rattle.layout.proofs.Loops.{Rest, stops, goes-on, runs-out}
+use Rattle.prelude.specs.Loops.{Rest, stops, goes-on, runs-out}
 use Rattle.safe_area.specs.Safe.{onScaleOf}
 use Rattle.safe_area.proofs.on_scale.Statement.{statement}
 use Rattle.safe_area.proofs.on_scale.Tie as tie

@@ -3,10 +3,10 @@ use Rattle.saved.specs.Saved.{partOf}
 use mathlib.Core.Path.{refl, sym, _∙_, _≡_}
 use mathlib.Core.List.{map}
 use lib.ListN.{length, length-map, length-set, List·getD-map}
+use Rattle.prelude.specs.Lists.{replaceFirst}
+use Rattle.prelude.specs.Loops.{sized}
+use Rattle.prelude.specs.Stores.{replaceFirst-next}
 use Rattle.layout.specs.Layout.{anyRect}
-use Rattle.layout.specs.Elements.{replaceFirst}
-use Rattle.layout.proofs.Loops.{sized}
-use Rattle.layout.proofs.Stores.{replaceFirst-next}
 use borrow.Author.Needs.{needs}
 use native.Mathlib.Omega.{arith}
 use Prim.Native.Nat.{_-_, _≤_}

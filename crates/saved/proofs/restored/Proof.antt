@@ -5,8 +5,8 @@ use mathlib.Core.Path.{sym, refl, ap, _∙_, _≡_}
 use Rattle.geometry.specs.declared.Rect.{Rect}
 use Rattle.saved.proofs.Turns.{restored-turn, restored-past, restored-front}
 use mathlib.Core.Logic.{⊎-elim}
+use Rattle.prelude.specs.Loops.{sized}
 use Rattle.layout.specs.Layout.{anyRect}
-use Rattle.layout.proofs.Loops.{sized}
 use borrow.Author.Needs.{needs}
 use native.Mathlib.Omega.{arith}
 use Prim.Native.Nat.{_-_, _≤_}

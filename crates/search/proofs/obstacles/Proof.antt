@@ -5,11 +5,11 @@ use mathlib.Core.Path.{_≡_, refl, ap, _∙_}
 use mathlib.Core.Bool.{Bool}
 use mathlib.Core.Logic.{⊎-elim}
 use lib.ListN.{take, length, length-set}
+use Rattle.prelude.specs.Loops.{sized, one-more, no-more}
+use Rattle.prelude.specs.Stores.{put-more}
 use Rattle.float.specs.Float.{_⊖_}
 use Rattle.geometry.specs.declared.Rect.{Rect}
 use Rattle.geometry.specs.Rect.{newOf, overlapsOf}
-use Rattle.layout.proofs.Loops.{sized, one-more, no-more}
-use Rattle.layout.proofs.Stores.{put-more}
 use Rattle.search.specs.Search.{obstaclesOf}
 use Prim.Native.Nat.{zero-le, _-_, _<_, _≤_}
 use Rattle.search.proofs.obstacles.Statement.{statement}

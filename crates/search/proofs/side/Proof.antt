@@ -5,8 +5,9 @@ use mathlib.Core.Path.{_≡_, refl, _∙_}
 use mathlib.Core.Logic.{⊎-elim, ⊎-map}
 use mathlib.Core.List.{foldl}
 use lib.ListN.{take, length, length-map}
+use Rattle.prelude.specs.Booleans.{cond-yes, cond-no}
+use Rattle.prelude.specs.Loops.{sized, fold-next, take-first}
 use Rattle.geometry.specs.Rect.{emptyRect}
-use Rattle.layout.proofs.Loops.{sized, fold-next, take-first, cond-yes, cond-no}
 use Rattle.search.specs.Search.{bottomOf, rightOf, bottoms, rights, narrowSideOf, sideWidthAt, trySideAt, tryColumn, sideOf}
 use Rattle.search.proofs.Narrower.{narrow-side-below, Left, left-next, settled}
 use Rattle.search.proofs.Steps.{first-start, later-start}

@@ -1,8 +1,8 @@
 use borrow.Author.Tests.{not-true, not-false}
 use lib.ListN.{take}
+use Rattle.prelude.specs.Lists.{allOf}
+use Rattle.prelude.specs.Loops.{in-array, Rest, stops, goes-on, runs-out}
 use Rattle.layout.specs.Layout.{anyRect}
-use Rattle.layout.specs.Lists.{allOf}
-use Rattle.layout.proofs.Loops.{in-array, Rest, stops, goes-on, runs-out}
 use Rattle.settings.specs.Settings.{least, rectInLimitsOf, cutoutsInLimitsOf}
 use borrow.Author.Needs.{needs}
 use native.Mathlib.Omega.{arith}

@@ -1,6 +1,6 @@
 use Rattle.lines.proofs.Puts.{after, ends, same}
 use lib.ListN.{length, length-map}
-use Rattle.layout.proofs.Loops.{sized}
+use Rattle.prelude.specs.Loops.{sized}
 use native.Mathlib.Omega.{arith}
 use Rattle.sheet.specs.SheetLaws.{element-printable, game-printable}
 use Rattle.sheet.proofs.Lines.{sheet-room, sheet-is}

@@ -1,12 +1,12 @@
 use mathlib.Core.Path.{sym, _≡_}
 use lib.Seq.{length-take-le}
+use Rattle.prelude.specs.EachLaws.{each-at}
+use Rattle.prelude.specs.Loops.{sized}
 use Rattle.layout.specs.Layout.{anyControl}
 use Rattle.numerics.specs.Rects.{Element}
-use Rattle.numerics.specs.Lists.{each-at}
 use Rattle.sheet.specs.SheetLaws.{element-printable}
 use Rattle.lines.proofs.Puts.{none, ends, same}
 use Rattle.sheet.proofs.Lines.{control-next, control-room}
-use Rattle.layout.proofs.Loops.{sized}
 use lib.ListN.{length, take}
 use mathlib.Core.List.{map, flatMap}
 use Rattle.lines.specs.Line.{putOf}

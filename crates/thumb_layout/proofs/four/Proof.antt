@@ -1,5 +1,5 @@
 use mathlib.Core.Path.{refl}
-use Rattle.geometry.proofs.Signed.{stored}
+use Rattle.prelude.specs.Signed.{stored}
 use Rattle.thumb_layout.specs.Interface.{fourOf}
 use borrow.Author.Needs.{needs}
 use Rattle.thumb_layout.proofs.four.Statement.{statement}

@@ -4,8 +4,8 @@ use native.Mathlib.Omega.{arith}
 use denote.Ref.{now}
 use lib.ListN.{length, length-set}
 use lib.Seq.{take-length}
-use Rattle.layout.specs.Elements.{replaceFirst}
-use Rattle.layout.proofs.Stores.{replaceFirst-next}
+use Rattle.prelude.specs.Lists.{replaceFirst}
+use Rattle.prelude.specs.Stores.{replaceFirst-next}
 use borrow.Author.Needs.{needs}
 use Rattle.thumb_layout.proofs.put_bytes.Statement.{statement}
 use Rattle.thumb_layout.proofs.put_bytes.Tie as tie

@@ -7,8 +7,8 @@ use mir.Facts.{toZ-pos}
 use lib.ListN.{length}
 use borrow.Author.Needs.{sfits-of, needs}
 use borrow.Author.Tests.{le-leb, lt-leb}
-use Rattle.geometry.specs.Answer.{must}
-use Rattle.layout.proofs.Loops.{sized}
+use Rattle.prelude.specs.Answer.{must}
+use Rattle.prelude.specs.Loops.{sized}
 use Rattle.film_sheet.specs.Film.{filmSheetOf}
 use Rattle.film_sheet.specs.FilmLaws.{film-fits}
 use Rattle.thumb_layout.specs.Interface.{tlFilmOf, tlFilmOutputOf}

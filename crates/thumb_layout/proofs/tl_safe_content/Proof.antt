@@ -1,7 +1,7 @@
-use Rattle.geometry.specs.Answer.{must}
+use Rattle.prelude.specs.Answer.{must}
 use Rattle.thumb_layout.specs.Interface.{contentFour, tlSafeContentOf, tlSafeContentOutputOf}
 use borrow.Author.Tests.{eq-eqb, ne-eqb}
-use Rattle.geometry.proofs.Signed.{stored}
+use Rattle.prelude.specs.Signed.{stored}
 use borrow.Author.Needs.{needs}
 use Rattle.thumb_layout.proofs.tl_safe_content.Statement.{statement}
 use Rattle.thumb_layout.proofs.tl_safe_content.Tie as tie

@@ -1,7 +1,7 @@
-use Rattle.geometry.specs.Answer.{must}
+use Rattle.prelude.specs.Answer.{must}
 use Rattle.thumb_layout.specs.Interface.{edgesFour, tlSafeEdgesOf, tlSafeEdgesOutputOf}
 use borrow.Author.Tests.{eq-eqb, ne-eqb}
-use Rattle.geometry.proofs.Signed.{stored}
+use Rattle.prelude.specs.Signed.{stored}
 use borrow.Author.Needs.{needs}
 use Rattle.thumb_layout.proofs.tl_safe_edges.Statement.{statement}
 use Rattle.thumb_layout.proofs.tl_safe_edges.Tie as tie

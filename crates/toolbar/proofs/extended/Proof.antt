@@ -5,9 +5,9 @@ use lib.ListN.{length, take, length-set}
 use lib.Seq.{take-suc}
 use native.Mathlib.Nat.{add-zero}
 use native.Mathlib.Numerals.{add-one}
+use Rattle.prelude.specs.Loops.{sized}
+use Rattle.prelude.specs.Stores.{put-more}
 use Rattle.layout.specs.Layout.{anyRect}
-use Rattle.layout.proofs.Loops.{sized}
-use Rattle.layout.proofs.Stores.{put-more}
 use Prim.Native.Nat.{_+_, _-_, _≤_, zero-le}
 use Rattle.toolbar.proofs.extended.Statement.{statement}
 use Rattle.toolbar.proofs.extended.Tie as tie

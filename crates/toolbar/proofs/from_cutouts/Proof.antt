@@ -3,9 +3,9 @@ use mathlib.Core.Path.{_≡_, refl}
 use native.Mathlib.Numerals.{add-one}
 use lib.ListN.{length, take, length-set}
 use lib.Seq.{take-suc}
+use Rattle.prelude.specs.Loops.{sized}
+use Rattle.prelude.specs.Stores.{put-more}
 use Rattle.layout.specs.Layout.{anyRect}
-use Rattle.layout.proofs.Loops.{sized}
-use Rattle.layout.proofs.Stores.{put-more}
 use Prim.Native.Nat.{_-_, _≤_, zero-le}
 use Rattle.toolbar.proofs.from_cutouts.Statement.{statement}
 use Rattle.toolbar.proofs.from_cutouts.Tie as tie

@@ -2,9 +2,9 @@
 use borrow.Author.Needs.{needs}
 use native.Mathlib.Omega.{arith}
 use Prim.Native.Nat.{_-_}
+use Rattle.prelude.specs.Lists.{anyOf}
+use Rattle.prelude.specs.Loops.{in-array, Rest, stops, goes-on, runs-out}
 use Rattle.layout.specs.Layout.{anyControl, controlList}
-use Rattle.layout.specs.Lists.{anyOf}
-use Rattle.layout.proofs.Loops.{in-array, Rest, stops, goes-on, runs-out}
 use Rattle.touch.specs.Touch.{otherHoldsOf}
 use Rattle.touch.proofs.any_other.Statement.{statement}
 use Rattle.touch.proofs.any_other.Tie as tie

@@ -7,11 +7,11 @@ use Prim.Native.Nat.{_-_, _<_, _≤_}
 use lib.Bits.{bitOr}
 use lib.Ieee.{Float, nanBits}
 use lib.ListN.{length, take, length-map}
-use Rattle.float.proofs.Booleans.{both}
+use Rattle.prelude.specs.Booleans.{both}
+use Rattle.prelude.specs.Loops.{fold-next}
 use Rattle.geometry.specs.Rect.{containsOf}
 use Rattle.layout.specs.declared.Layout.{Layout}
 use Rattle.layout.specs.Layout.{controlList}
-use Rattle.layout.proofs.Loops.{fold-next}
 use Rattle.touch.specs.declared.Face.{Face}
 use Rattle.touch.specs.Touch.{othersMaskOf, isFreeOf, nearest, maskNearOf}
 use Rattle.touch.proofs.mask_near.Statement.{statement}

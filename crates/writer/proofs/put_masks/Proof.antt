@@ -1,7 +1,7 @@
 use mathlib.Core.Path.{refl, ap, _∙_, _≡_}
 use lib.ListN.{length, take}
 use mathlib.Core.List.{flatMap}
-use Rattle.layout.proofs.Loops.{sized}
+use Rattle.prelude.specs.Loops.{sized}
 use Rattle.writer.specs.Bytes.{maskBytes, stored}
 use Rattle.writer.specs.Length.{length-mask}
 use Rattle.writer.proofs.Stores.{no-items, next-item, length-stored}

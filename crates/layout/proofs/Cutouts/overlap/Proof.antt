@@ -1,10 +1,10 @@
 use borrow.Author.Needs.{needs}
 use native.Mathlib.Omega.{arith}
 use Prim.Native.Nat.{_-_}
+use Rattle.prelude.specs.Lists.{anyOf}
+use Rattle.prelude.specs.Loops.{in-array, Rest, stops, goes-on, runs-out}
 use Rattle.geometry.specs.Rect.{overlapsOf}
 use Rattle.layout.specs.Layout.{anyRect, cutoutList}
-use Rattle.layout.specs.Lists.{anyOf}
-use Rattle.layout.proofs.Loops.{in-array, Rest, stops, goes-on, runs-out}
 use Rattle.layout.proofs.Cutouts.overlap.Statement.{statement}
 use Rattle.layout.proofs.Cutouts.overlap.Tie as tie
 

@@ -4,9 +4,9 @@ use Prim.Native.Nat.{_+_, _-_, _≤_, suc}
 use Rattle.geometry.specs.declared.Rect.{Rect}
 use mathlib.Core.List.{List, [], _∷_, _++_, map}
 use lib.ListN.{length, length-map, take, getD, length-set}
+use Rattle.prelude.specs.Loops.{sized}
+use Rattle.prelude.specs.Stores.{map-put, stored, two}
 use Rattle.layout.specs.Layout.{anyRect, boundsOf, elementsOf, elementCountOf}
-use Rattle.layout.proofs.Loops.{sized}
-use Rattle.layout.proofs.Stores.{map-put, stored, two}
 use Rattle.layout.proofs.Layout.elements.Statement.{statement}
 use Rattle.layout.proofs.Layout.elements.Tie as tie
 

@@ -5,12 +5,13 @@ use Prim.Native.Nat.{_+_, _-_, _≤_}
 use mathlib.Core.List.{List}
 use lib.ListN.{length, length-map, length-drop, length-set, drop}
 use lib.Seq.{getD-drop}
+use Rattle.prelude.specs.Lists.{replaceFirst}
+use Rattle.prelude.specs.Stores.{replaceFirst-next}
 use Rattle.geometry.specs.declared.Rect.{Rect}
 use Rattle.layout.specs.declared.Control.{Control}
 use Rattle.layout.specs.Layout.{anyRect, withControls, withSticks}
-use Rattle.layout.specs.Elements.{replaceFirst, setElementsOf}
+use Rattle.layout.specs.Elements.{setElementsOf}
 use Rattle.layout.specs.SetElementLaws.{set-elements-front}
-use Rattle.layout.proofs.Stores.{replaceFirst-next}
 use Rattle.layout.proofs.Layout.set_elements.Statement.{statement}
 use Rattle.layout.proofs.Layout.set_elements.Tie as tie
 

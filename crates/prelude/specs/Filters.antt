@@ -7,9 +7,9 @@ use native.Mathlib.Numerals.{add-one}
 use native.Mathlib.Omega.{arith}
 use lib.ListN.{length, take, drop, getD, set, length-append}
 use lib.Seq.{drop-cons, set-append-seam, length-take-le}
-use Rattle.layout.specs.Lists.{retain, compact, reduce}
-use Rattle.layout.specs.ListLaws.{retain-fewer}
-use Rattle.layout.proofs.Loops.{one-more, no-more}
+use Rattle.prelude.specs.Lists.{retain, compact, reduce}
+use Rattle.prelude.specs.ListLaws.{retain-fewer}
+use Rattle.prelude.specs.Loops.{one-more, no-more}
 
 -- `compact`, with n elements kept so far
 module _ {A : Type 0} (p : A → Bool) (l : List A) (i : ℕ) (d : A) (h : i < length l) {flag : Bool} (e : flag ≡ p (getD l i d)) where

@@ -8,7 +8,7 @@ use native.Mathlib.Omega.{arith}
 use lib.ListN.{length, take, drop, getD, set, length-map, drop-of-length-le, List·getD-map}
 use lib.Seq.{take-suc, drop-cons, getD-take, length-take-le}
 use borrow.Author.Needs.{length-unmapped}
-use Rattle.layout.specs.Lists.{mapFirst, filterMap}
+use Rattle.prelude.specs.Lists.{mapFirst, filterMap}
 
 -- the length of an array of structs, as owning it tells, and a count within it
 pub length-mapped : (X Y : Type 0) (f : X → Y) (l : List X) (n : ℕ) → length (map f l) ≡ n → length l ≡ n
@@ -18,14 +18,6 @@ pub in-array : (X Y : Type 0) (f : X → Y) (l : List X) (n k : ℕ) → length 
 in-array X Y f l n k e h = let m = length-mapped X Y f l k e in omega arith
 
 pub ruleset sized = (length-mapped, length-unmapped)
-
--- what a branch gives, where its test is the flag that a call returned
-module _ {A : Type 0} where
-  pub cond-yes : (b : Bool) (x y : A) {flag : Bool} {r : A} → flag ≡ b → flag ≡ true → r ≡ x → r ≡ cond b x y
-  cond-yes b x y p t q = rw (← p, t) q
-
-  pub cond-no : (b : Bool) (x y : A) {flag : Bool} {r : A} → flag ≡ b → flag ≡ false → r ≡ y → r ≡ cond b x y
-  cond-no b x y p t q = rw (← p, t) q
 
 -- the next of the first n elements of an array of k, and their end
 module _ {A : Type 0} where

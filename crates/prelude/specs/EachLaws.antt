@@ -3,7 +3,7 @@ use mathlib.Core.List.{List, [], _∷_, _++_, map, foldl}
 use Prim.Native.Nat.{ℕ, zero, suc, _<_}
 use native.Mathlib.Omega.{arith}
 use lib.ListN.{length, take, drop, getD, set}
-use Rattle.numerics.specs.Each.{Each}
+use Rattle.prelude.specs.Each.{Each}
 
 module _ {A : Type 0} (C : A → Type 0) where
   pub each-take : (n : ℕ) (xs : List A) → Each C xs → Each C (take n xs)

@@ -1,7 +1,7 @@
--- Loops over lists, as definitions write them: any, all, find, filter with map, retain, reduce, enumerate, and a change of the first elements in place. Definitions only.
+-- Loops over lists, as definitions write them: any, all, find, filter with map, retain, reduce, enumerate, `a..b`, and a change of the first elements in place. Definitions only.
 use mathlib.Core.Bool.{Bool, true, false, _&&_, _||_, cond}
 use mathlib.Core.List.{List, [], _∷_, _++_, foldl}
-use Prim.Native.Nat.{ℕ, zero, suc}
+use Prim.Native.Nat.{ℕ, zero, suc, _-_}
 use lib.ListN.{length, take, drop}
 
 module _ {A : Type 0} where
@@ -18,6 +18,10 @@ module _ {A : Type 0} where
   mapFirst g zero xs = xs
   mapFirst g (suc n) [] = []
   mapFirst g (suc n) (x ∷ xs) = g x ∷ mapFirst g n xs
+
+  -- the first n elements from one list, the others from another
+  abbrev pub replaceFirst : ℕ → List A → List A → List A
+  replaceFirst n new old = take n new ++ drop n old
 
 module _ {A B : Type 0} where
   -- what hit makes of the first element that passes the test
@@ -48,3 +52,12 @@ module _ {A : Type 0} where
   abbrev pub enumerateFrom : ℕ → List A → List (ℕ × A)
   enumerateFrom i [] = []
   enumerateFrom i (x ∷ xs) = (i, x) ∷ enumerateFrom (suc i) xs
+
+-- k numbers from a on
+abbrev pub countFrom : ℕ → ℕ → List ℕ
+countFrom a zero = []
+countFrom a (suc k) = a ∷ countFrom (suc a) k
+
+-- Rust's `a..b`
+abbrev pub range : ℕ → ℕ → List ℕ
+range a b = countFrom a (b - a)

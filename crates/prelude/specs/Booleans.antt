@@ -14,6 +14,14 @@ pub by-test : {A : Type 0} (P : A → Type 0) (b : Bool) {x y : A} → (T b → 
 by-test P true f g = f tt
 by-test P false f g = g tt
 
+-- what a branch gives, where its test is the flag that a call returned
+module _ {A : Type 0} where
+  pub cond-yes : (b : Bool) (x y : A) {flag : Bool} {r : A} → flag ≡ b → flag ≡ true → r ≡ x → r ≡ cond b x y
+  cond-yes b x y p t q = rw (← p, t) q
+
+  pub cond-no : (b : Bool) (x y : A) {flag : Bool} {r : A} → flag ≡ b → flag ≡ false → r ≡ y → r ≡ cond b x y
+  cond-no b x y p t q = rw (← p, t) q
+
 -- ---- the parts of a test that passes
 pub both : (a b : Bool) → (a && b) ≡ true → (a ≡ true) × (b ≡ true)
 both a b = and-eq-true-iff a b .0

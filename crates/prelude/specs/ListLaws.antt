@@ -6,8 +6,8 @@ use Prim.Native.Nat.{ℕ, zero, suc, _<_, _≤_, zero-le, suc-le-suc}
 use native.Mathlib.Nat.{le-suc, le-trans}
 use native.Mathlib.Omega.{arith}
 use lib.ListN.{length, take, getD}
-use Rattle.float.proofs.Booleans.{either}
-use Rattle.layout.specs.Lists.{mapFirst, retain}
+use Rattle.prelude.specs.Booleans.{either}
+use Rattle.prelude.specs.Lists.{mapFirst, retain}
 
 module _ {A B : Type 0} (f : A → B) where
   -- one element more, if a test holds

@@ -3,7 +3,7 @@ use mathlib.Core.Path.{_≡_, refl, sym}
 use mathlib.Core.Bool.{Bool, true, false}
 use Prim.Native.Nat.{ℕ}
 use native.Mathlib.Omega.{arith}
-use Rattle.geometry.specs.Answer.{Answer, accepted, refused, must, andThen}
+use Rattle.prelude.specs.Answer.{Answer, accepted, refused, must, andThen}
 
 pub never : {A : Type 0} {x : A} {n : ℕ} → accepted x ≡ refused n → ⊥
 never e = let z : _≡_ {A = ℕ} 0 1 = cc in omega arith

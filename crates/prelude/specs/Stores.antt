@@ -7,7 +7,7 @@ use native.Mathlib.Numerals.{add-one}
 use native.Mathlib.Omega.{arith}
 use lib.ListN.{length, take, drop, getD, set}
 use lib.Seq.{take-suc, take-suc-set, take-append-le, take-append-add, length-take-le, sets, sets-eq, set-at, append-snoc, drop-cons}
-use Rattle.layout.specs.Elements.{replaceFirst}
+use Rattle.prelude.specs.Lists.{replaceFirst}
 
 -- one more behind the first n
 pub put-more : {A : Type 0} (out : List A) (n : ℕ) (v : A) {xs xs' : List A} → n < length out → take n out ≡ xs → xs' ≡ xs ++ (v ∷ []) → take (n + 1) (set out n v) ≡ xs'

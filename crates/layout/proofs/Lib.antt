@@ -1,3 +1,0 @@
-pub mod Loops
-pub mod Stores
-pub mod Filters
