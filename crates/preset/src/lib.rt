@@ -2,11 +2,9 @@
 ghost use mathlib.Core.Path.{_≡_};
 ghost use mathlib.Core.Bool.{true};
 ghost use Prim.Native.Nat.{_≤_};
-ghost use lib.ListN.{take};
 ghost use Rattle.layout.specs.Layout.{cutoutList};
 ghost use Rattle.settings.specs.Settings.{acceptedOf};
-ghost use Rattle.chosen.specs.ChosenLabels.{OfMode};
-ghost use Rattle.preset.specs.Preset.{settledOf, isMaximumOf, plainOf, rowAllowedOf, laidOutOf, layoutInOf, layoutWithCutoutsOf, viewportLayoutOf, settingsLayoutOf, settingsViewportOf};
+ghost use Rattle.preset.specs.Preset.{isMaximumOf, plainOf, rowAllowedOf, laidOutOf, layoutInOf, layoutWithCutoutsOf, viewportLayoutOf, settingsLayoutOf, settingsViewportOf};
 use band::aspect;
 use chosen::area;
 use chosen::arrangement;
@@ -22,26 +20,6 @@ use settings::Fit;
 use settings::Preset;
 use settings::Settings;
 use toolbar::anchor_toolbar;
-
-// The elements where they stay: the saved ones at their places, all clear of cutouts, the toolbar anchored.
-fn settled(
-    arrangement: Layout,
-    w: f32,
-    h: f32,
-    picture: Rect,
-    cutouts: Cutouts,
-    saved: [Rect; 32],
-    n: usize,
-    analog: bool,
-    psp: bool,
-) -> Layout
-    requires { ⌜ (cutouts .count ≤ 16) × ((n ≤ 32) × OfMode analog psp arrangement) ⌝ }
-    ensures { λ r. ⌜ r ≡ settledOf arrangement w h picture (cutoutList cutouts) (take n saved) ⌝ }
-{
-    let layout = with_saved(arrangement, w, h, saved, n);
-    let clear = avoid_cutouts(layout, w, h, cutouts);
-    anchor_toolbar(clear, w, h, max(-picture.y, 0.0), 0.0, cutouts)
-}
 
 fn is_maximum(fit: Fit) -> bool
     ensures { λ r. ⌜ r ≡ isMaximumOf fit ⌝ }
@@ -77,13 +55,14 @@ fn laid_out(p: Preset, w: f32, h: f32, cutouts: Cutouts, picture: Rect) -> Layou
     ensures { λ r. ⌜ r ≡ laidOutOf p w h (cutoutList cutouts) picture ⌝ }
 {
     let psp = p.psp;
-    let sticks = p.analog | psp;
     let maximum = is_maximum(p.picture_fit());
     let plain = plain(p);
     let area = area(maximum, w, h, cutouts, picture);
     let layout = arrangement(maximum, plain, psp, p.analog, w, h, cutouts, picture, area);
     let saved = p.elements;
-    let elements = settled(layout, w, h, picture, cutouts, saved, p.count, sticks, psp);
+    let restored = with_saved(layout, w, h, saved, p.count);
+    let clear = avoid_cutouts(restored, w, h, cutouts);
+    let elements = anchor_toolbar(clear, w, h, max(-picture.y, 0.0), 0.0, cutouts);
     let shape = aspect(psp);
     let overlap = p.overlap | maximum;
     let placed = place_game_in_aspect(elements, area, overlap, p.scale, p.offset, shape);

@@ -1,45 +1,51 @@
+use Rattle.layout.specs.declared.Layout.{Layout}
 use Rattle.layout.specs.Layout.{cutoutList}
+use Rattle.search.specs.Search.{placeGameInAspectOf}
+use Rattle.settings.specs.declared.Preset.{Preset}
+use Rattle.toolbar.specs.Toolbar.{anchorToolbarOf}
 use Rattle.chosen.proofs.Keys.{same-area}
-use Rattle.chosen.specs.ChosenLabels.{Few, few, place-mode, arrangement-mode}
-use Rattle.preset.specs.PresetLabels.{settled-mode}
-use Rattle.preset.specs.Preset.{hasSticks, laidOutOf}
+use Rattle.chosen.specs.ChosenLabels.{OfMode, few, avoid-mode, arrangement-mode}
+use Rattle.preset.specs.PresetLabels.{saved-mode}
+use Rattle.preset.specs.Preset.{settledOf, hasSticks, laidOutOf}
 use borrow.Author.Needs.{needs}
 use Rattle.preset.proofs.laid_out.Statement.{statement}
 use Rattle.preset.proofs.laid_out.Tie as tie
 
-settled-requires : tie.Need-settled-requires
-settled-requires c κs = let pre = c .before .before .before .before .before .before .before .pre in (pre .1, (pre .0, rw (c .before .arrangement .ensures) (arrangement-mode _ _ _ _ _ _ _ _ _)))
+abbrev Mode : Preset → Layout → Type 0
+Mode p l = OfMode (hasSticks p) (p .psp) l
 
-place-game-in-aspect-requires : tie.Need-place-game-in-aspect-requires
-place-game-in-aspect-requires c κs =
-    let s = c .before .before in
-    let p = s .before .before .before .before .before .before .before .before .args .p in
-    let n : Few (s .settled .result) = rw (s .settled .ensures, s .before .before .arrangement .ensures) (few (hasSticks p) (p .psp) _ (settled-mode _ _ _ _ (hasSticks p) (p .psp) _ (arrangement-mode _ _ _ _ _ _ _ _ _) _)) in
-    (n .count, n .stickcount)
+arranged : (c : tie.After-saved) → Mode (c .before .before .before .before .before .before .args .p) (c .before .arrangement .result)
+arranged c = rw (c .before .arrangement .ensures) (arrangement-mode _ _ _ _ _ _ _ _ _)
 
-fit-landscape-controls-requires : tie.Need-fit-landscape-controls-requires
-fit-landscape-controls-requires c κs =
-    let s = c .before .before .before .before .before in
-    let p = s .before .before .before .before .before .before .before .before .args .p in
-    let m = place-mode (hasSticks p) (p .psp) _ (settled-mode _ _ _ _ (hasSticks p) (p .psp) _ (arrangement-mode _ _ _ _ _ _ _ _ _) _) _ _ _ _ _ in
-    let n : Few (c .before .before .place-game-in-aspect .result) = rw (c .before .before .place-game-in-aspect .ensures, s .settled .ensures, s .before .before .arrangement .ensures) (few (hasSticks p) (p .psp) _ m) in
-    (n .count, n .stickcount)
+restored : (c : tie.After-with-saved) → Mode (c .before .before .before .before .before .before .before .args .p) (c .with-saved .result)
+restored c = let p = c .before .before .before .before .before .before .before .args .p in rw (c .with-saved .ensures) (saved-mode (hasSticks p) (p .psp) _ (arranged (c .before)) _ _ _)
+
+cleared : (c : tie.After-max) → Mode (c .before .before .before .before .before .before .before .before .before .before .args .p) (c .before .before .avoid-cutouts .result)
+cleared c = let p = c .before .before .before .before .before .before .before .before .before .before .args .p in rw (c .before .before .avoid-cutouts .ensures) (avoid-mode (hasSticks p) (p .psp) _ (restored (c .before .before .before)) _ _ _)
+
+anchored : (c : tie.After-struct-known2) → Mode (c .before .before .before .before .before .before .before .before .before .before .before .before .before .args .p) (c .before .before .anchor-toolbar .result)
+unfolding anchorToolbarOf
+anchored c = rw (c .before .before .anchor-toolbar .ensures) (cleared (c .before .before .before))
+
+placed : (c : tie.After-place-game-in-aspect) → Mode (c .before .before .before .before .before .before .before .before .before .before .before .before .before .before .args .p) (c .place-game-in-aspect .result)
+unfolding placeGameInAspectOf
+placed c = rw (c .place-game-in-aspect .ensures) (anchored (c .before))
 
 returns : tie.Need-returns
-unfolding laidOutOf
+unfolding laidOutOf settledOf
 returns c =
-    let s = c .before .before .before .before .before .before .before .before .before .before in
-    let a = s .before .before .before .before .args in
+    let s = c .before .before .before .before .before .before .before .before .before .before .before .before .before .before in
+    let a = s .before .before .before .args in
     let area = same-area (a .w) (a .h) (cutoutList (a .cutouts)) (a .picture) (a .p .psp) (a .p .analog) (s .before .is-maximum .result) in
-    rw (← s .plain .ensures, ← s .before .before .picture-fit .ensures, ← s .before .is-maximum .ensures, area, ← c .before .before .before .before .before .before .before .before .before .area .ensures, ← c .before .before .before .before .before .before .before .before .arrangement .ensures, ← c .before .before .before .before .before .before .settled .ensures, ← c .before .before .before .before .before .aspect .ensures, ← c .before .before .before .place-game-in-aspect .ensures, ← c .before .before .row-allowed .ensures, c .before .if1 .taken) (c .fit-landscape-controls .ensures)
+    rw (← s .plain .ensures, ← s .before .before .picture-fit .ensures, ← s .before .is-maximum .ensures, area, ← c .before .before .before .before .before .before .before .before .before .before .before .before .before .area .ensures, ← c .before .before .before .before .before .before .before .before .before .before .before .before .arrangement .ensures, ← c .before .before .before .before .before .before .before .before .before .before .with-saved .ensures, ← c .before .before .before .before .before .before .before .before .before .avoid-cutouts .ensures, ← c .before .before .before .before .before .before .before .max .ensures, ← c .before .before .before .before .before .before .anchor-toolbar .ensures, ← c .before .before .before .before .before .aspect .ensures, ← c .before .before .before .place-game-in-aspect .ensures, ← c .before .before .row-allowed .ensures, c .before .if1 .taken) (c .fit-landscape-controls .ensures)
 
 returns-2 : tie.Need-returns-2
-unfolding laidOutOf
+unfolding laidOutOf settledOf
 returns-2 c =
-    let s = c .before .before .before .before .before .before .before .before .before in
-    let a = s .before .before .before .before .args in
+    let s = c .before .before .before .before .before .before .before .before .before .before .before .before .before in
+    let a = s .before .before .before .args in
     let area = same-area (a .w) (a .h) (cutoutList (a .cutouts)) (a .picture) (a .p .psp) (a .p .analog) (s .before .is-maximum .result) in
-    rw (← s .plain .ensures, ← s .before .before .picture-fit .ensures, ← s .before .is-maximum .ensures, area, ← c .before .before .before .before .before .before .before .before .area .ensures, ← c .before .before .before .before .before .before .before .arrangement .ensures, ← c .before .before .before .before .before .settled .ensures, ← c .before .before .before .before .aspect .ensures, ← c .before .before .place-game-in-aspect .ensures, ← c .before .row-allowed .ensures, c .if1 .left)
+    rw (← s .plain .ensures, ← s .before .before .picture-fit .ensures, ← s .before .is-maximum .ensures, area, ← c .before .before .before .before .before .before .before .before .before .before .before .before .area .ensures, ← c .before .before .before .before .before .before .before .before .before .before .before .arrangement .ensures, ← c .before .before .before .before .before .before .before .before .before .with-saved .ensures, ← c .before .before .before .before .before .before .before .before .avoid-cutouts .ensures, ← c .before .before .before .before .before .before .max .ensures, ← c .before .before .before .before .before .anchor-toolbar .ensures, ← c .before .before .before .before .aspect .ensures, ← c .before .before .place-game-in-aspect .ensures, ← c .before .row-allowed .ensures, c .if1 .left)
 
 pub laid-out-spec : {M : Type 1} → statement M
 laid-out-spec =
@@ -50,10 +56,13 @@ laid-out-spec =
     (λ c κs. search needs)
     (λ c κs. search needs)
     (λ c κs. search needs)
-    settled-requires
+    (λ c κs. let s = c .before .before .before .before .before .before in let p = s .args .p in let n = few (hasSticks p) (p .psp) (c .before .arrangement .result) (arranged c) in (s .pre .0, (n .count, n .stickcount)))
+    (λ c κs. let s = c .before .before .before .before .before .before .before in let p = s .args .p in let n = few (hasSticks p) (p .psp) (c .with-saved .result) (restored c) in ((n .count, n .stickcount), (s .pre .1, n .faces)))
     (λ c κs. search needs)
-    place-game-in-aspect-requires
-    (λ c κs. c .before .before .before .before .before .before .before .before .before .before .before .pre)
-    fit-landscape-controls-requires
+    (λ c κs. let s = c .before .before .before .before .before .before .before .before .before .before in let p = s .args .p in let n = few (hasSticks p) (p .psp) (c .before .before .avoid-cutouts .result) (cleared c) in (s .pre .1, n .count, n .stickcount))
+    (λ c κs. search needs)
+    (λ c κs. let p = c .before .before .before .before .before .before .before .before .before .before .before .before .before .args .p in let n = few (hasSticks p) (p .psp) (c .before .before .anchor-toolbar .result) (anchored c) in (n .count, n .stickcount))
+    (λ c κs. c .before .before .before .before .before .before .before .before .before .before .before .before .before .before .pre)
+    (λ c κs. let p = c .before .before .before .before .before .before .before .before .before .before .before .before .before .before .before .before .args .p in let n = few (hasSticks p) (p .psp) (c .before .before .place-game-in-aspect .result) (placed (c .before .before)) in (n .count, n .stickcount))
     returns
     returns-2)
