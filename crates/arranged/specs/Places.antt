@@ -54,7 +54,7 @@ atOf p R3 = p .r3
 abbrev pub control : Rect → Label → Control
 control bounds label = record { bounds = bounds; label = label }
 
--- a layout without elements
+-- a layout whose rectangles are all empty, without controls and sticks
 abbrev pub blankOf : Layout
 blankOf =
     record {

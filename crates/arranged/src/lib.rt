@@ -29,7 +29,7 @@ const NO_CONTROL: Control = Control {
     label: Label::Tri,
 };
 
-// A layout without elements, where a caller has none to give.
+// A layout whose rectangles are all empty, without controls and sticks, where a caller has none to give.
 pub const BLANK: Layout = Layout {
     game: EMPTY,
     dpad: EMPTY,

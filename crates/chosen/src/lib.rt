@@ -16,7 +16,6 @@ use camera_rails::analog_camera_rails;
 use cutouts::avoid_cutouts;
 use defaults::analog_default;
 use defaults::default_in;
-use defaults::psp;
 use float::abs;
 use float::max;
 use float::min;
@@ -141,6 +140,7 @@ fn band_or_rails(
 }
 
 fn first(
+// The layout at first, with the toolbar in its row above a Maximum picture.
     psp: bool,
     analog: bool,
     maximum: bool,

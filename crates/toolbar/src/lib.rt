@@ -1,4 +1,4 @@
-// The toolbar's four keys: playback and speed at the left, mute and pause at the right.
+// `anchor_toolbar` of input.rs: the toolbar's four keys, playback and speed at the left, mute and pause at the right.
 ghost use mathlib.Core.Path.{_≡_};
 ghost use mathlib.Core.List.{_++_};
 ghost use Prim.Native.Nat.{_≤_};
@@ -13,7 +13,7 @@ use layout::Layout;
 
 pub const TOOLBAR_HEIGHT: f32 = 18.0;
 
-// What the toolbar must not overlap: the first `count` of the array.
+// What the toolbar must not overlap: the first `count` of the array, at most 16 cutouts and 15 controller elements.
 struct Obstacles {
     at: [Rect; 31],
     count: usize,
