@@ -14,7 +14,7 @@ use Rattle.layout.specs.declared.Layout.{Layout}
 use Rattle.layout.specs.Layout.{withDpad}
 use Rattle.layout.specs.Psp.{pspInputsOf}
 use Rattle.search.specs.Search.{centred, placeGameInAspectOf}
-use Rattle.toolbar.specs.Toolbar.{toolbarHeight, anchorToolbarOf, reusableTop}
+use Rattle.toolbar.specs.Toolbar.{toolbarHeight, anchorToolbarOf, reusableTopOf}
 use Rattle.arranged.specs.declared.Places.{Places}
 use Rattle.arranged.specs.Places.{capOf, placeFacesOf, control, controllerOf, placedOf}
 use Rattle.arranged.specs.Arranged.{arrangedOf, bottom}
@@ -155,7 +155,7 @@ withInputsOf l psp = cond psp (pspInputsOf l) l
 unfoldable pub controllerBandOf : Float → Float → Bool → Bool → Rect → Option Layout
 controllerBandOf w h analog psp picture =
     let room = findRoomOf w h analog psp picture in
-    let anchored = anchorToolbarOf (bandedOf w h analog (room .deep) (measureBandOf w h analog room)) w h (reusableTop picture) k0 [] in
+    let anchored = anchorToolbarOf (bandedOf w h analog (room .deep) (measureBandOf w h analog room)) w h (reusableTopOf picture) k0 [] in
     cond (lt w k800 || (lt h k600 || lt (h ⊗ k1·35) w)) none
     (cond (lt (room .face) k122) none
     (some (placeGameInAspectOf (withInputsOf anchored psp) picture false k1 centred (aspectOf psp))))

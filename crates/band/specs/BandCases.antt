@@ -7,7 +7,7 @@ use Rattle.float.specs.Float.{_⊗_, k0, k1, k1·35, k122, k600, k800}
 use Rattle.geometry.specs.declared.Rect.{Rect}
 use Rattle.layout.specs.declared.Layout.{Layout}
 use Rattle.search.specs.Search.{centred, placeGameInAspectOf}
-use Rattle.toolbar.specs.Toolbar.{anchorToolbarOf, reusableTop}
+use Rattle.toolbar.specs.Toolbar.{anchorToolbarOf, reusableTopOf}
 use Rattle.arranged.specs.Found.{Given, given, guard}
 use Rattle.band.specs.declared.Room.{Room}
 use Rattle.band.specs.Band.{aspectOf, findRoomOf, measureBandOf, bandedOf, withInputsOf, controllerBandOf}
@@ -20,7 +20,7 @@ module _ (w h : Float) (analog psp : Bool) (picture : Rect) where
   bandLayout = bandedOf w h analog (bandRoom .deep) (measureBandOf w h analog bandRoom)
 
   abbrev pub bandAnchored : Layout
-  bandAnchored = anchorToolbarOf bandLayout w h (reusableTop picture) k0 []
+  bandAnchored = anchorToolbarOf bandLayout w h (reusableTopOf picture) k0 []
 
   abbrev made : Layout
   made = placeGameInAspectOf (withInputsOf bandAnchored psp) picture false k1 centred (aspectOf psp)

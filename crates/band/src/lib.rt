@@ -12,7 +12,6 @@ use arranged::controller;
 use arranged::no_layout;
 use arranged::place_faces;
 use float::clamp;
-use float::max;
 use float::min;
 use float::pick;
 use geometry::EMPTY;
@@ -211,7 +210,7 @@ pub fn controller_band(w: f32, h: f32, analog: bool, psp: bool, picture: Rect) -
     }
     let band = measure_band(w, h, analog, room);
     let controls = band_controls(analog, room.deep, band);
-    let reusable_top = max(-picture.y, 0.0);
+    let reusable_top = toolbar::reusable_top(picture);
     let anchored = toolbar::anchor_toolbar(controls, w, h, reusable_top, 0.0, NO_CUTOUTS);
     let layout = search::place_game_in_aspect(
         with_inputs(anchored, psp),

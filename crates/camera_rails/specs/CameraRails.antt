@@ -11,7 +11,7 @@ use Rattle.geometry.specs.Rect.{newOf}
 use Rattle.layout.specs.declared.Layout.{Layout}
 use Rattle.layout.specs.Layout.{withDpad, withSticks, elementsOf}
 use Rattle.search.specs.Search.{centred, placeGameInAspectOf}
-use Rattle.toolbar.specs.Toolbar.{anchorToolbarOf, reusableTop}
+use Rattle.toolbar.specs.Toolbar.{anchorToolbarOf, reusableTopOf}
 use Rattle.arranged.specs.declared.Places.{Places}
 use Rattle.arranged.specs.Places.{capOf, placeFacesOf, placedOf}
 use Rattle.band.specs.Band.{aspectOf, withInputsOf}
@@ -77,7 +77,7 @@ cameraRailedOf w h rail face =
 -- with the inputs of a psp, and the toolbar in its place
 unfoldable pub anchoredRailsOf : Float → Float → Rect → List Rect → Bool → Float → Float → Layout
 anchoredRailsOf w h picture cutouts psp rail face =
-    anchorToolbarOf (withInputsOf (cameraRailedOf w h rail face) psp) w h (reusableTop picture) k0 cutouts
+    anchorToolbarOf (withInputsOf (cameraRailedOf w h rail face) psp) w h (reusableTopOf picture) k0 cutouts
 
 -- None, where the rails have no room or an element overlaps a cutout, one without an area too.
 unfoldable pub analogCameraRailsOf : Float → Float → Rect → List Rect → Bool → Option Layout

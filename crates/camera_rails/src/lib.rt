@@ -16,7 +16,6 @@ use band::aspect;
 use band::with_inputs;
 use cutouts::avoid_cutouts;
 use defaults::analog_default;
-use float::max;
 use float::min;
 use float::pick;
 use geometry::Rect;
@@ -26,6 +25,7 @@ use layout::Layout;
 use search::CENTRED;
 use search::place_game_in_aspect;
 use toolbar::anchor_toolbar;
+use toolbar::reusable_top;
 
 const TOP: f32 = 32.0; // Below the compact toolbar and a gap.
 
@@ -143,7 +143,7 @@ fn anchored_rails(
     ensures { λ r. ⌜ (r ≡ anchoredRailsOf w h picture (cutoutList cutouts) psp rail face) × (r .count ≤ 12) × (r .stickcount ≤ 2) ⌝ }
 {
     let layout = with_inputs(camera_railed(w, h, rail, face), psp);
-    anchor_toolbar(layout, w, h, max(-picture.y, 0.0), 0.0, cutouts)
+    anchor_toolbar(layout, w, h, reusable_top(picture), 0.0, cutouts)
 }
 
 pub fn analog_camera_rails(

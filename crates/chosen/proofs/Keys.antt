@@ -6,7 +6,7 @@ use lib.Ieee.{Float, lt, ofBits}
 use Rattle.float.specs.Float.{k0}
 use Rattle.geometry.specs.declared.Rect.{Rect}
 use Rattle.layout.specs.declared.Layout.{Layout}
-use Rattle.toolbar.specs.Toolbar.{avoidedOf, anchorToolbarOf, reusableTop}
+use Rattle.toolbar.specs.Toolbar.{avoidedOf, anchorToolbarOf, reusableTopOf}
 use Rattle.arranged.specs.Places.{blankOf}
 use Rattle.chosen.specs.Chosen.{startOf, belowToolbarOf, firstOf, areaOf}
 
@@ -15,7 +15,7 @@ module _ (w h : Float) (cutouts : List Rect) (picture : Rect) where
   unfolding belowToolbarOf anchorToolbarOf avoidedOf lt ofBits
   same-below l m top = refl
 
-  pub same-area : (psp analog maximum : Bool) → areaOf maximum (firstOf psp analog maximum w h cutouts picture) picture ≡ areaOf maximum (anchorToolbarOf blankOf w h (reusableTop picture) k0 cutouts) picture
+  pub same-area : (psp analog maximum : Bool) → areaOf maximum (firstOf psp analog maximum w h cutouts picture) picture ≡ areaOf maximum (anchorToolbarOf blankOf w h (reusableTopOf picture) k0 cutouts) picture
   unfolding areaOf firstOf
-  same-area psp analog true = same-below (startOf psp analog w h cutouts picture) blankOf (reusableTop picture)
+  same-area psp analog true = same-below (startOf psp analog w h cutouts picture) blankOf (reusableTopOf picture)
   same-area psp analog false = refl

@@ -11,7 +11,7 @@ use Rattle.geometry.specs.Rect.{newOf}
 use Rattle.layout.specs.declared.Layout.{Layout}
 use Rattle.layout.specs.Layout.{anyRect}
 use Rattle.search.specs.Search.{centred, bottomOf, clearPictureAspectOf, placeGameInAspectOf}
-use Rattle.toolbar.specs.Toolbar.{anchorToolbarOf, reusableTop}
+use Rattle.toolbar.specs.Toolbar.{anchorToolbarOf, reusableTopOf}
 use Rattle.band.specs.Band.{aspectOf, controllerBandOf}
 use Rattle.defaults.specs.Defaults.{defaultInOf, analogDefaultOf, pspOf}
 use Rattle.cutouts.specs.Cutouts.{avoidCutoutsOf}
@@ -81,7 +81,7 @@ bandOrRailsOf layout w h picture cutouts analog psp =
 unfoldable pub firstOf : Bool → Bool → Bool → Float → Float → List Rect → Rect → Layout
 firstOf psp analog maximum w h cutouts picture =
     let start = startOf psp analog w h cutouts picture in
-    cond maximum (anchorToolbarOf start w h (reusableTop picture) k0 cutouts) start
+    cond maximum (anchorToolbarOf start w h (reusableTopOf picture) k0 cutouts) start
 
 -- the area that the game gets
 unfoldable pub areaOf : Bool → Layout → Rect → Rect

@@ -15,7 +15,7 @@ use Rattle.layout.specs.Actions.{actionElementsOf}
 use Rattle.layout.specs.Labels.{Formed}
 use Rattle.search.specs.declared.Offset.{Offset}
 use Rattle.search.specs.Search.{centred, placeGameInAspectOf}
-use Rattle.toolbar.specs.Toolbar.{anchorToolbarOf, reusableTop}
+use Rattle.toolbar.specs.Toolbar.{anchorToolbarOf, reusableTopOf}
 use Rattle.band.specs.Band.{aspectOf}
 use Rattle.band.specs.BandLabels.{bandLabels, bandSticks, band-faces, band-counts, band-formed}
 use Rattle.defaults.specs.DefaultLabels.{default-formed, analog-formed, psp-formed}
@@ -78,7 +78,7 @@ module _ (w h : Float) (cutouts : List Rect) (picture : Rect) (psp analog maximu
   first-mode =
       let start = startOf psp analog w h cutouts picture in
       let f = start-mode w h cutouts picture psp analog in
-      either (OfMode (analog || psp) psp) maximum (anchor-mode (analog || psp) psp start f w h (reusableTop picture) k0 cutouts) f
+      either (OfMode (analog || psp) psp) maximum (anchor-mode (analog || psp) psp start f w h (reusableTopOf picture) k0 cutouts) f
 
   pub arrangement-mode : (area : Rect) (plain : Bool) → OfMode (analog || psp) psp (arrangementOf maximum plain (firstOf psp analog maximum w h cutouts picture) w h area cutouts (analog || psp) psp)
   unfolding arrangementOf

@@ -4,7 +4,7 @@ ghost use mathlib.Core.Bool.{true, _||_};
 ghost use Prim.Native.Nat.{_≤_};
 ghost use Rattle.float.specs.Float.{k0};
 ghost use Rattle.layout.specs.Layout.{cutoutList};
-ghost use Rattle.toolbar.specs.Toolbar.{anchorToolbarOf, reusableTop};
+ghost use Rattle.toolbar.specs.Toolbar.{anchorToolbarOf, reusableTopOf};
 ghost use Rattle.arranged.specs.Places.{blankOf};
 ghost use Rattle.band.specs.Band.{controllerBandOf};
 ghost use Rattle.chosen.specs.Chosen.{startOf, belowToolbarOf, largestOf, foundOr, aroundOf, railsWinOf, tryRailsOf, bandOrRailsOf, firstOf, areaOf, arrangementOf};
@@ -28,6 +28,7 @@ use search::CENTRED;
 use search::clear_picture_aspect;
 use search::place_game_in_aspect;
 use toolbar::anchor_toolbar;
+use toolbar::reusable_top;
 
 fn start(psp: bool, analog: bool, w: f32, h: f32, cutouts: Cutouts, picture: Rect) -> Layout
     requires { ⌜ cutouts .count ≤ 16 ⌝ }
@@ -139,8 +140,8 @@ fn band_or_rails(
     banded
 }
 
-fn first(
 // The layout at first, with the toolbar in its row above a Maximum picture.
+fn first(
     psp: bool,
     analog: bool,
     maximum: bool,
@@ -154,7 +155,7 @@ fn first(
 {
     let layout = start(psp, analog, w, h, cutouts, picture);
     if maximum {
-        return anchor_toolbar(layout, w, h, max(-picture.y, 0.0), 0.0, cutouts);
+        return anchor_toolbar(layout, w, h, reusable_top(picture), 0.0, cutouts);
     }
     layout
 }
@@ -162,10 +163,10 @@ fn first(
 // The area that the game gets. The toolbar's keys lie the same over every layout.
 pub fn area(maximum: bool, w: f32, h: f32, cutouts: Cutouts, picture: Rect) -> Rect
     requires { ⌜ cutouts .count ≤ 16 ⌝ }
-    ensures { λ r. ⌜ r ≡ areaOf maximum (anchorToolbarOf blankOf w h (reusableTop picture) k0 (cutoutList cutouts)) picture ⌝ }
+    ensures { λ r. ⌜ r ≡ areaOf maximum (anchorToolbarOf blankOf w h (reusableTopOf picture) k0 (cutoutList cutouts)) picture ⌝ }
 {
     if maximum {
-        let bar = anchor_toolbar(BLANK, w, h, max(-picture.y, 0.0), 0.0, cutouts);
+        let bar = anchor_toolbar(BLANK, w, h, reusable_top(picture), 0.0, cutouts);
         return below_toolbar(bar, picture);
     }
     picture

@@ -15,7 +15,7 @@ use Rattle.settings.specs.declared.Preset.{Preset}
 use Rattle.settings.specs.declared.Settings.{Settings}
 use Rattle.settings.specs.Settings.{savedList, untouchedOf, pictureFitOf}
 use Rattle.saved.specs.Saved.{isEmpty, withSavedOf}
-use Rattle.toolbar.specs.Toolbar.{anchorToolbarOf, reusableTop}
+use Rattle.toolbar.specs.Toolbar.{anchorToolbarOf, reusableTopOf}
 use Rattle.band.specs.Band.{aspectOf}
 use Rattle.cutouts.specs.Cutouts.{avoidCutoutsOf}
 use Rattle.landscape.specs.Landscape.{fitLandscapeControlsOf}
@@ -25,7 +25,7 @@ use Rattle.chosen.specs.Chosen.{firstOf, areaOf, arrangementOf}
 unfoldable pub settledOf : Layout → Float → Float → Rect → List Rect → List Rect → Layout
 settledOf arrangement w h picture cutouts saved =
     let restored = withSavedOf arrangement w h saved in
-    anchorToolbarOf (avoidCutoutsOf restored w h cutouts) w h (reusableTop picture) k0 cutouts
+    anchorToolbarOf (avoidCutoutsOf restored w h cutouts) w h (reusableTopOf picture) k0 cutouts
 
 -- `picture_fit() == PictureFit::Maximum`, where a fit is never unset
 abbrev pub isMaximumOf : Fit → Bool

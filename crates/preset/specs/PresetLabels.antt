@@ -14,7 +14,7 @@ use Rattle.settings.specs.declared.Settings.{Settings}
 use Rattle.settings.specs.Settings.{savedList}
 use Rattle.saved.specs.Saved.{isEmpty, withSavedOf}
 use Rattle.saved.specs.SavedLaws.{length-restored}
-use Rattle.toolbar.specs.Toolbar.{anchorToolbarOf, reusableTop}
+use Rattle.toolbar.specs.Toolbar.{anchorToolbarOf, reusableTopOf}
 use Rattle.band.specs.Band.{aspectOf}
 use Rattle.band.specs.BandLabels.{bandLabels, bandSticks}
 use Rattle.cutouts.specs.Cutouts.{avoidCutoutsOf}
@@ -33,7 +33,7 @@ module _ (w h : Float) (cutouts : List Rect) (picture : Rect) where
   settled-mode analog psp l f saved =
       let restored = withSavedOf l w h saved in
       let g = avoid-mode analog psp restored (saved-mode analog psp l f w h saved) w h cutouts in
-      anchor-mode analog psp (avoidCutoutsOf restored w h cutouts) g w h (reusableTop picture) k0 cutouts
+      anchor-mode analog psp (avoidCutoutsOf restored w h cutouts) g w h (reusableTopOf picture) k0 cutouts
 
 module _ (p : Preset) (w h : Float) (cutouts : List Rect) (picture : Rect) where
   pub arranged-mode : OfMode (hasSticks p) (p .psp) (arrangementFor p w h cutouts picture)

@@ -20,6 +20,7 @@ use settings::Fit;
 use settings::Preset;
 use settings::Settings;
 use toolbar::anchor_toolbar;
+use toolbar::reusable_top;
 
 fn is_maximum(fit: Fit) -> bool
     ensures { λ r. ⌜ r ≡ isMaximumOf fit ⌝ }
@@ -62,7 +63,7 @@ fn laid_out(p: Preset, w: f32, h: f32, cutouts: Cutouts, picture: Rect) -> Layou
     let saved = p.elements;
     let restored = with_saved(layout, w, h, saved, p.count);
     let clear = avoid_cutouts(restored, w, h, cutouts);
-    let elements = anchor_toolbar(clear, w, h, max(-picture.y, 0.0), 0.0, cutouts);
+    let elements = anchor_toolbar(clear, w, h, reusable_top(picture), 0.0, cutouts);
     let shape = aspect(psp);
     let overlap = p.overlap | maximum;
     let placed = place_game_in_aspect(elements, area, overlap, p.scale, p.offset, shape);

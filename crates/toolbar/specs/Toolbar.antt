@@ -86,6 +86,6 @@ anchorToolbarOf l w h reusableTop coveredTop cutouts =
     (newOf (b .x) (b .y) size height)
     (newOf (b .x ⊕ size ⊕ gap) (b .y) size height)
 
--- what a picture that begins above the screen has there
-abbrev pub reusableTop : Rect → Float
-reusableTop picture = maxOf (neg (picture .y)) k0
+-- how far a picture reaches above the screen
+abbrev pub reusableTopOf : Rect → Float
+reusableTopOf picture = maxOf (neg (picture .y)) k0

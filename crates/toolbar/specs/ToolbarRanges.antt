@@ -26,7 +26,7 @@ use Rattle.numerics.specs.Products.{product-most}
 use Rattle.numerics.specs.Literals.{lit, i0·01, i1·4, f0·01, f0·055, f2, f3, f4}
 use Rattle.search.specs.Bounded.{Every, Bounded}
 use Rattle.search.proofs.Layouts.{bounds-in}
-use Rattle.toolbar.specs.Toolbar.{candidateOf, roomOf, belowOf, moved, pass, pairOf, avoidedOf, anchorToolbarOf, reusableTop}
+use Rattle.toolbar.specs.Toolbar.{candidateOf, roomOf, belowOf, moved, pass, pairOf, avoidedOf, anchorToolbarOf, reusableTopOf}
 
 -- what is found holds
 module _ {A B : Type 0} (C : B → Type 0) (D : A → Type 0) (p : A → Bool) (hit : A → B) (none : B) (found : (x : A) → D x → T (p x) → C (hit x)) (otherwise : C none) where
@@ -124,5 +124,5 @@ pub anchored-in : {C D : Rect → Type 0} (l : Layout) {w h reusable : Float} (c
     → Every C D l → Every C (Key margin) (anchorToolbarOf l w h reusable k0 cutouts)
 anchored-in l cutouts W H R O L = anchor-in l cutouts W H R (in-more (minus 8192) (at 8192) (lit 0) tt tt) (rw uncovered O) L
 
-pub reusable-in : {picture : Rect} → Area picture → In (reusableTop picture) (at 0) (at 8192)
+pub reusable-in : {picture : Rect} → Area picture → In (reusableTopOf picture) (at 0) (at 8192)
 reusable-in A = max-in (neg-in (most-in (A .y) tt) tt) (lit 0)

@@ -4,7 +4,7 @@ ghost use mathlib.Core.List.{_++_};
 ghost use Prim.Native.Nat.{_≤_};
 ghost use lib.ListN.{take};
 ghost use Rattle.layout.specs.Layout.{cutoutList, elementList};
-ghost use Rattle.toolbar.specs.Toolbar.{obstacleList, avoidedOf, BarsOf, candidateOf, roomOf, belowOf, pairOf, anchorToolbarOf};
+ghost use Rattle.toolbar.specs.Toolbar.{obstacleList, avoidedOf, BarsOf, candidateOf, roomOf, belowOf, pairOf, anchorToolbarOf, reusableTopOf};
 use geometry::EMPTY;
 use geometry::Rect;
 use layout::Cutouts;
@@ -204,4 +204,11 @@ pub fn anchor_toolbar(
     anchored.mute = Rect::new(b.x, b.y, size, height);
     anchored.pause = Rect::new(b.x + size + gap, b.y, size, height);
     anchored
+}
+
+// How far a picture reaches above the screen.
+pub fn reusable_top(picture: Rect) -> f32
+    ensures { λ r. ⌜ r ≡ reusableTopOf picture ⌝ }
+{
+    float::max(-picture.y, 0.0)
 }

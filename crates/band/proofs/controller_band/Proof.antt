@@ -14,7 +14,7 @@ returns-2 c =
 
 with-inputs-requires : tie.Need-with-inputs-requires
 with-inputs-requires c κs =
-    let b = c .before .before .before .band-controls in
+    let b = c .before .before .band-controls in
     let k : Counted (c .anchor-toolbar .result) = rw (c .anchor-toolbar .ensures) (anchor-counts (b .result) _ _ _ _ _ (b .ensures .1, b .ensures .2)) in
     k
 
@@ -22,7 +22,7 @@ returns-3 : tie.Need-returns-3
 unfolding controllerBandOf
 returns-3 c =
     let i = c .before .before in
-    let p = i .before .before .before .before in
+    let p = i .before .before .before in
     let t = p .before .before in
     let a = t .before .before .before .before .args in
     let k : Counted (c .place-game-in-aspect .result) = rw (c .place-game-in-aspect .ensures) (game-counts (i .with-inputs .result) _ _ _ _ _ (i .with-inputs .ensures .1, i .with-inputs .ensures .2)) in (
@@ -31,8 +31,8 @@ returns-3 c =
         ← t .before .before .find-room .ensures,
         t .if2 .left,
         ← p .before .measure-band .ensures,
-        ← i .before .before .max .ensures,
-        band-anew (a .w) (a .h) (a .analog) (t .before .before .find-room .result .deep) (p .before .measure-band .result) (a .psp) (i .before .before .max .result) (a .picture),
+        ← i .before .before .reusable-top .ensures,
+        band-anew (a .w) (a .h) (a .analog) (t .before .before .find-room .result .deep) (p .before .measure-band .result) (a .psp) (i .before .before .reusable-top .result) (a .picture),
         ← p .band-controls .ensures .0,
         ← i .before .anchor-toolbar .ensures,
         ← i .with-inputs .ensures .0,

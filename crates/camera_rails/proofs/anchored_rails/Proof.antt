@@ -7,10 +7,10 @@ use Rattle.camera_rails.proofs.anchored_rails.Tie as tie
 returns : tie.Need-returns
 unfolding anchoredRailsOf
 returns c =
-    let p = c .before .before .before in
+    let p = c .before .before in
     let i = p .with-inputs in
     let k : Counted (c .anchor-toolbar .result) = rw (c .anchor-toolbar .ensures) (anchor-counts (i .result) _ _ _ _ _ (i .ensures .1, i .ensures .2)) in
-    (rw (← p .before .camera-railed .ensures .0, ← i .ensures .0, ← c .before .max .ensures, ← c .anchor-toolbar .ensures), k .0, k .1)
+    (rw (← p .before .camera-railed .ensures .0, ← i .ensures .0, ← c .before .reusable-top .ensures, ← c .anchor-toolbar .ensures), k .0, k .1)
 
 pub anchored-rails-spec : {M : Type 1} → statement M
 anchored-rails-spec =

@@ -12,5 +12,5 @@ area-spec =
     (λ c κs. search needs)
     (λ c κs. (search needs, omega arith, omega arith))
     (λ c κs. search needs)
-    (λ c. rw (← c .before .before .max .ensures, ← c .before .anchor-toolbar .ensures, c .before .before .before .before .if1 .taken) (c .below-toolbar .ensures))
+    (λ c. rw (← c .before .before .reusable-top .ensures, ← c .before .anchor-toolbar .ensures, c .before .before .before .if1 .taken) (c .below-toolbar .ensures))
     (λ c. rw (c .if1 .left)))
