@@ -15,7 +15,7 @@ use Rattle.arranged.specs.declared.Wells.{Wells}
 use Rattle.arranged.specs.declared.Dock.{Dock}
 use Rattle.arranged.specs.declared.Rails.{Rails}
 use Rattle.arranged.specs.declared.Places.{Places}
-use Rattle.arranged.specs.Places.{capOf, placeFacesOf, controllerOf, placedOf}
+use Rattle.arranged.specs.Places.{placeFacesOf, wellFacesOf, controllerOf, placedOf}
 
 -- with the toolbar at its place
 abbrev pub anchoredOf : Layout → Float → Float → Layout
@@ -89,16 +89,12 @@ bottom = k4
 
 unfoldable pub measureRailsOf : Float → Float → Float → Rails
 measureRailsOf w h cluster =
-    let size = capOf cluster in
     let mainY = h ⊖ bottom ⊖ cluster in
     let shoulder = minOf ((cluster ⊖ k8) ⊘ k2) k64 in
     record {
       w = w;
       mainy = mainY;
-      size = size;
-      offset = (cluster ⊖ size) ⊘ k2;
-      fx = w ⊖ k16 ⊖ cluster ⊘ k2;
-      fy = mainY ⊕ cluster ⊘ k2;
+      faces = wellFacesOf (w ⊖ k16 ⊖ cluster ⊘ k2) (mainY ⊕ cluster ⊘ k2) cluster;
       shoulder = shoulder;
       shoulderx = k16 ⊕ cluster ⊖ k2 ⊗ shoulder ⊖ k8;
       shouldery = mainY ⊖ k112;
@@ -109,7 +105,7 @@ measureRailsOf w h cluster =
 unfoldable pub railPlacesOf : Rails → Places
 railPlacesOf r =
     record {
-      faces = placeFacesOf (r .fx) (r .fy) (r .offset) (r .offset) (r .size);
+      faces = r .faces;
       l1 = newOf (r .shoulderx) (r .shouldery) (r .shoulder) k48;
       l2 = newOf (r .shoulderx ⊕ r .shoulder ⊕ k8) (r .shouldery) (r .shoulder) k48;
       r2 = newOf (r .w ⊖ r .shoulderx ⊖ k2 ⊗ r .shoulder ⊖ k8) (r .shouldery) (r .shoulder) k48;

@@ -23,7 +23,7 @@ use Rattle.arranged.specs.declared.Wells.{Wells}
 use Rattle.arranged.specs.declared.Dock.{Dock}
 use Rattle.arranged.specs.declared.Rails.{Rails}
 use Rattle.arranged.specs.Arranged.{finishedOf, sizeWellsOf, placeDockOf, dockPlacesOf, dockedOf, arrangedOf, measureRailsOf, railPlacesOf, railedOf, requestedOf, narrowOf, clusterOf, sideRailsOf}
-use Rattle.arranged.specs.PlaceRanges.{Coordinate, coordinate, cap-in, step-in, faces-in, PlacesIn, empty-in, controller-in, controls-placed}
+use Rattle.arranged.specs.PlaceRanges.{Coordinate, coordinate, step-in, FacesIn, faces-in, well-faces-in, PlacesIn, empty-in, controller-in, controls-placed}
 
 pub finished-in : {C D : Rect → Type 0} (l : Layout) {w h : Float} → In w (at 0) (at 8192) → In h (at 0) (at 8192) → Every C D l → Every C (Key margin) (finishedOf l w h)
 unfolding finishedOf
@@ -105,10 +105,7 @@ arranged-in {w} {h} compact W H =
 record RailsIn (r : Rails) : Type 0 where
   pub w : In (r .w) (at 0) (at 8192)
   pub mainy : Coordinate (r .mainy)
-  pub size : In (r .size) (at 48) (at 84)
-  pub offset : In (r .offset) (at 0) (at 128)
-  pub fx : Coordinate (r .fx)
-  pub fy : Coordinate (r .fy)
+  pub faces : FacesIn (r .faces)
   pub shoulder : In (r .shoulder) (at 56) (at 64)
   pub shoulderx : In (r .shoulderx) (at 0) (at 128)
   pub shouldery : Coordinate (r .shouldery)
@@ -118,7 +115,6 @@ record RailsIn (r : Rails) : Type 0 where
 rails-in : {w h cluster : Float} → In w (at 0) (at 8192) → In h (at 0) (at 8192) → In cluster (at 122) (at 200) → RailsIn (measureRailsOf w h cluster)
 unfolding measureRailsOf
 rails-in W H cluster =
-    let size = cap-in cluster in
     let half = div-in cluster f2 tt in
     let mainY = sub-in (sub-in H (lit 4) tt) cluster tt in
     let shoulder = in-more (at 56) (at 64) (min-in (div-in (sub-in cluster (lit 8) tt) f2 tt) (lit 64)) tt tt in
@@ -126,10 +122,7 @@ rails-in W H cluster =
     record {
       w = W;
       mainy = coordinate mainY tt;
-      size = size;
-      offset = step-in (div-in (sub-in cluster size tt) f2 tt) tt tt;
-      fx = coordinate (sub-in (sub-in W (lit 16) tt) half tt) tt;
-      fy = coordinate (add-in mainY half tt) tt;
+      faces = well-faces-in (coordinate (sub-in (sub-in W (lit 16) tt) half tt) tt) (coordinate (add-in mainY half tt) tt) cluster;
       shoulder = shoulder;
       shoulderx = in-more (at 0) (at 128) (sub-in (sub-in inner (times-in f2 shoulder tt) tt) (lit 8) tt) tt tt;
       shouldery = coordinate (sub-in mainY (lit 112) tt) tt;
@@ -142,7 +135,7 @@ unfolding railPlacesOf
 rail-places-in R =
     let outer = sub-in (R .w) (R .shoulderx) tt in
     record {
-      faces = faces-in (R .fx) (R .fy) (R .offset) (R .offset) (R .size);
+      faces = R .faces;
       l1 = placed-in (R .shoulderx) (R .shouldery) (R .shoulder) (lit 48) tt;
       l2 = placed-in (add-in (add-in (R .shoulderx) (R .shoulder) tt) (lit 8) tt) (R .shouldery) (R .shoulder) (lit 48) tt;
       r2 = placed-in (sub-in (sub-in outer (times-in f2 (R .shoulder) tt) tt) (lit 8) tt) (R .shouldery) (R .shoulder) (lit 48) tt;

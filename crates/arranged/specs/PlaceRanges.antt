@@ -1,4 +1,4 @@
--- Places in range: the cap of a well, the faces about a centre, and a layout whose controls are put at such places.
+-- Places in range: the faces about a centre, and a layout whose controls are put at such places.
 use mathlib.Core.Bool.{_&&_}
 use mathlib.Core.List.{List}
 use Prim.Native.Nat.{ℕ}
@@ -19,7 +19,7 @@ use Rattle.search.specs.Bounded.{Every}
 use Rattle.search.proofs.Changes.{each-mapFirst, controls-in}
 use Rattle.arranged.specs.declared.Faces.{Faces}
 use Rattle.arranged.specs.declared.Places.{Places}
-use Rattle.arranged.specs.Places.{capOf, placeFacesOf, atOf, controllerOf, moved, placedOf}
+use Rattle.arranged.specs.Places.{placeFacesOf, wellFacesOf, atOf, controllerOf, moved, placedOf}
 
 -- a coordinate on the screen or a little off it
 abbrev pub Coordinate : Float → Type 0
@@ -27,9 +27,6 @@ Coordinate x = In x (minus 512) (at 8448)
 
 pub coordinate : {x : Float} {a b : ℕ} → In x a b → T (leb (minus 512) a && leb b (at 8448)) → Coordinate x
 coordinate {a = a} {b = b} i t = in-more (minus 512) (at 8448) i (and-l (leb (minus 512) a) (leb b (at 8448)) t) (and-r (leb (minus 512) a) (leb b (at 8448)) t)
-
-pub cap-in : {well : Float} → In well (at 122) (at 200) → In (capOf well) (at 48) (at 84)
-cap-in i = in-more (at 48) (at 84) (div-in (sub-in i i4√2 tt) f1√2 tt) tt tt
 
 -- ---- faces
 pub record FacesIn (f : Faces) : Type 0 where
@@ -54,6 +51,13 @@ faces-in fx fy across down cap =
       x = placed-in x (sub-in (add-in fy down tt) half tt) cap cap tt;
       sq = placed-in (sub-in (sub-in fx across tt) half tt) y cap cap tt;
     }
+
+pub well-faces-in : {fx fy well : Float} → Coordinate fx → Coordinate fy → In well (at 122) (at 200) → FacesIn (wellFacesOf fx fy well)
+unfolding wellFacesOf
+well-faces-in fx fy well =
+    let cap = in-more (at 48) (at 84) (div-in (sub-in well i4√2 tt) f1√2 tt) tt tt in
+    let step = step-in (div-in (sub-in well cap tt) f2 tt) tt tt in
+    faces-in fx fy step step cap
 
 -- ---- places
 pub record PlacesIn (p : Places) : Type 0 where

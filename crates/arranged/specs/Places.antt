@@ -37,6 +37,13 @@ placeFacesOf fx fy across down cap =
       sq = newOf (fx ⊖ across ⊖ cap ⊘ k2) (fy ⊖ cap ⊘ k2) cap cap;
     }
 
+-- those about the centre of a square well
+unfoldable pub wellFacesOf : Float → Float → Float → Faces
+wellFacesOf fx fy well =
+    let cap = capOf well in
+    let step = (well ⊖ cap) ⊘ k2 in
+    placeFacesOf fx fy step step cap
+
 unfoldable pub atOf : Places → Label → Rect
 atOf p Tri = p .faces .tri
 atOf p O = p .faces .o

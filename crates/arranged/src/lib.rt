@@ -4,7 +4,7 @@ ghost use mathlib.Core.Option.{none};
 ghost use Prim.Native.Nat.{_≤_};
 ghost use Rattle.prelude.specs.Lists.{mapFirst};
 ghost use Rattle.layout.specs.Layout.{cutoutList};
-ghost use Rattle.arranged.specs.Places.{maybe, capOf, placeFacesOf, atOf, controlAtOf, controlsAtOf, controllerOf, moved, placedOf};
+ghost use Rattle.arranged.specs.Places.{maybe, capOf, placeFacesOf, wellFacesOf, atOf, controlAtOf, controlsAtOf, controllerOf, moved, placedOf};
 ghost use Rattle.arranged.specs.Arranged.{anchoredOf, finishedOf, sizeWellsOf, placeDockOf, dockPlacesOf, dockedOf, arrangedOf, measureRailsOf, railPlacesOf, requestedOf, narrowOf, clusterOf, sideRailsOf};
 ghost use Rattle.arranged.specs.Controls.{railControlsOf, sideControlsOf};
 use float::SQRT_2;
@@ -74,7 +74,7 @@ pub fn cap(well: f32) -> f32
     (well - 4.0 * SQRT_2) / (1.0 + SQRT_2)
 }
 
-pub fn place_faces(fx: f32, fy: f32, across: f32, down: f32, cap: f32) -> Faces
+fn place_faces(fx: f32, fy: f32, across: f32, down: f32, cap: f32) -> Faces
     ensures { λ r. ⌜ r ≡ placeFacesOf fx fy across down cap ⌝ }
 {
     let half = cap / 2.0;
@@ -84,6 +84,15 @@ pub fn place_faces(fx: f32, fy: f32, across: f32, down: f32, cap: f32) -> Faces
         x: Rect::new(fx - half, fy + down - half, cap, cap),
         sq: Rect::new(fx - across - half, fy - half, cap, cap),
     }
+}
+
+// The four face caps about the centre of a square well.
+pub fn well_faces(fx: f32, fy: f32, well: f32) -> Faces
+    ensures { λ r. ⌜ r ≡ wellFacesOf fx fy well ⌝ }
+{
+    let cap = cap(well);
+    let step = (well - cap) / 2.0;
+    place_faces(fx, fy, step, step, cap)
 }
 
 // A place for each label.
@@ -328,10 +337,7 @@ pub fn arranged(w: f32, h: f32, compact: bool) -> Layout
 struct Rails {
     w: f32,
     mainy: f32,
-    size: f32,
-    offset: f32,
-    fx: f32,
-    fy: f32,
+    faces: Faces,
     shoulder: f32,
     shoulderx: f32,
     shouldery: f32,
@@ -342,16 +348,13 @@ struct Rails {
 fn measure_rails(w: f32, h: f32, cluster: f32) -> Rails
     ensures { λ r. ⌜ r ≡ measureRailsOf w h cluster ⌝ }
 {
-    let size = cap(cluster);
     let main_y = h - BOTTOM - cluster;
+    let faces = well_faces(w - 16.0 - cluster / 2.0, main_y + cluster / 2.0, cluster);
     let shoulder = min((cluster - 8.0) / 2.0, 64.0);
     Rails {
         w,
         mainy: main_y,
-        size,
-        offset: (cluster - size) / 2.0,
-        fx: w - 16.0 - cluster / 2.0,
-        fy: main_y + cluster / 2.0,
+        faces,
         shoulder,
         shoulderx: 16.0 + cluster - 2.0 * shoulder - 8.0,
         shouldery: main_y - 112.0,
@@ -363,7 +366,7 @@ fn measure_rails(w: f32, h: f32, cluster: f32) -> Rails
 fn rail_places(r: Rails) -> Places
     ensures { λ p. ⌜ p ≡ railPlacesOf r ⌝ }
 {
-    let faces = place_faces(r.fx, r.fy, r.offset, r.offset, r.size);
+    let faces = r.faces;
     let l2 = r.shoulderx + r.shoulder + 8.0;
     let r2 = r.w - r.shoulderx - 2.0 * r.shoulder - 8.0;
     let r1 = r.w - r.shoulderx - r.shoulder;

@@ -16,7 +16,7 @@ use Rattle.layout.specs.Psp.{pspInputsOf}
 use Rattle.search.specs.Search.{centred, placeGameInAspectOf}
 use Rattle.toolbar.specs.Toolbar.{toolbarHeight, anchorToolbarOf, reusableTopOf}
 use Rattle.arranged.specs.declared.Places.{Places}
-use Rattle.arranged.specs.Places.{capOf, placeFacesOf, control, controllerOf, placedOf}
+use Rattle.arranged.specs.Places.{wellFacesOf, control, controllerOf, placedOf}
 use Rattle.arranged.specs.Arranged.{arrangedOf, bottom}
 use Rattle.band.specs.declared.Room.{Room}
 use Rattle.band.specs.declared.Band.{Band}
@@ -43,8 +43,6 @@ measureBandOf w h analog room =
     let digitalGap = clampOf (room .available ⊖ face ⊖ k48) k8 k16 in
     let mainY = cond (room .deep) (h ⊖ bottom ⊖ k48 ⊖ digitalGap ⊖ face) (h ⊖ bottom ⊖ face) in
     let digitalX = cond analog (room .outer ⊕ stick ⊕ k8) (room .outer) in
-    let cap = capOf face in
-    let step = (face ⊖ cap) ⊘ k2 in
     record {
       w = w;
       h = h;
@@ -53,7 +51,7 @@ measureBandOf w h analog room =
       stick = stick;
       digitalx = digitalX;
       mainy = mainY;
-      faces = placeFacesOf (w ⊖ digitalX ⊖ face ⊘ k2) (mainY ⊕ face ⊘ k2) step step cap;
+      faces = wellFacesOf (w ⊖ digitalX ⊖ face ⊘ k2) (mainY ⊕ face ⊘ k2) face;
     }
 
 -- without sticks: shoulders beside the wells, square system keys

@@ -23,7 +23,7 @@ use Rattle.search.specs.Search.{centred}
 use Rattle.toolbar.specs.ToolbarRanges.{anchored-in, reusable-in}
 use Rattle.arranged.specs.Places.{control}
 use Rattle.arranged.specs.Found.{Given}
-use Rattle.arranged.specs.PlaceRanges.{Coordinate, coordinate, cap-in, step-in, FacesIn, faces-in, PlacesIn, empty-in, controls-placed}
+use Rattle.arranged.specs.PlaceRanges.{Coordinate, coordinate, FacesIn, well-faces-in, PlacesIn, empty-in, controls-placed}
 use Rattle.arranged.specs.ArrangedRanges.{arranged-in}
 use Rattle.band.specs.declared.Room.{Room}
 use Rattle.band.specs.declared.Band.{Band}
@@ -64,9 +64,7 @@ measured-in analog {room} W H R face =
     let low = sub-in H (lit 4) tt in
     let y = cond-in (room .deep) (sub-in (sub-in (sub-in low (lit 48) tt) gap tt) face tt) (sub-in low face tt) in
     let x = in-more (at 0) (at 256) (cond-in analog (add-in (add-in (R .outer) stick tt) (lit 8) tt) (R .outer)) tt tt in
-    let cap = cap-in (in-more (at 122) (at 200) face tt tt) in
     let half = div-in face f2 tt in
-    let step = step-in (div-in (sub-in face cap tt) f2 tt) tt tt in
     record {
       w = W;
       h = H;
@@ -75,7 +73,7 @@ measured-in analog {room} W H R face =
       stick = stick;
       digitalx = x;
       mainy = coordinate y tt;
-      faces = faces-in (coordinate (sub-in (sub-in W x tt) half tt) tt) (coordinate (add-in y half tt) tt) step step cap;
+      faces = well-faces-in (coordinate (sub-in (sub-in W x tt) half tt) tt) (coordinate (add-in y half tt) tt) (in-more (at 122) (at 200) face tt tt);
     }
 
 -- ---- the places of the controls

@@ -7,10 +7,9 @@ use arranged::BOTTOM;
 use arranged::Faces;
 use arranged::MaybeLayout;
 use arranged::Places;
-use arranged::cap;
 use arranged::controller;
 use arranged::no_layout;
-use arranged::place_faces;
+use arranged::well_faces;
 use float::clamp;
 use float::min;
 use float::pick;
@@ -74,11 +73,7 @@ fn measure_band(w: f32, h: f32, analog: bool, room: Room) -> Band
         h - BOTTOM - face,
     );
     let digital_x = pick(analog, room.outer + stick + 8.0, room.outer);
-    let cap = cap(face);
-    let step = (face - cap) / 2.0;
-    let fx = w - digital_x - face / 2.0;
-    let fy = main_y + face / 2.0;
-    let faces = place_faces(fx, fy, step, step, cap);
+    let faces = well_faces(w - digital_x - face / 2.0, main_y + face / 2.0, face);
     Band {
         w,
         h,

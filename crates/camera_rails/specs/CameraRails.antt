@@ -13,7 +13,7 @@ use Rattle.layout.specs.Layout.{withDpad, withSticks, elementsOf}
 use Rattle.search.specs.Search.{centred, placeGameInAspectOf}
 use Rattle.toolbar.specs.Toolbar.{anchorToolbarOf, reusableTopOf}
 use Rattle.arranged.specs.declared.Places.{Places}
-use Rattle.arranged.specs.Places.{capOf, placeFacesOf, placedOf}
+use Rattle.arranged.specs.Places.{wellFacesOf, placedOf}
 use Rattle.band.specs.Band.{aspectOf, withInputsOf}
 use Rattle.defaults.specs.Defaults.{analogDefaultOf}
 use Rattle.cutouts.specs.Cutouts.{hitsOf, avoidCutoutsOf}
@@ -51,12 +51,10 @@ sizeFaceOf w h rail cutouts =
 unfoldable pub cameraPlacesOf : Float → Float → Float → Places
 cameraPlacesOf w rail face =
     let auxiliaryY = top ⊕ face ⊕ k8 in
-    let cap = capOf face in
-    let step = (face ⊖ cap) ⊘ k2 in
     let inner = rail ⊖ k48 in
     let right = w ⊖ inner ⊖ k48 in
     record {
-      faces = placeFacesOf (w ⊖ outer ⊖ face ⊘ k2) (top ⊕ face ⊘ k2) step step cap;
+      faces = wellFacesOf (w ⊖ outer ⊖ face ⊘ k2) (top ⊕ face ⊘ k2) face;
       l1 = newOf inner (auxiliaryY ⊕ k52) k48 k48;
       l2 = newOf inner auxiliaryY k48 k48;
       r2 = newOf right auxiliaryY k48 k48;

@@ -25,7 +25,7 @@ use Rattle.search.proofs.Changes.{shrunk-bounded, anchored-shrunk, dpad-in, sti
 use Rattle.search.specs.Search.{centred}
 use Rattle.toolbar.specs.ToolbarRanges.{anchored-in, reusable-in}
 use Rattle.arranged.specs.Found.{Given}
-use Rattle.arranged.specs.PlaceRanges.{coordinate, cap-in, step-in, faces-in, PlacesIn, controls-placed}
+use Rattle.arranged.specs.PlaceRanges.{coordinate, well-faces-in, PlacesIn, controls-placed}
 use Rattle.band.specs.Band.{aspectOf}
 use Rattle.defaults.specs.DefaultRanges.{analog-in}
 use Rattle.cutouts.specs.Cutouts.{avoidCutoutsOf}
@@ -84,8 +84,6 @@ camera-places-in : {w rail face : Float} → In w (at 1) (at 8192) → RailIn w 
 unfolding cameraPlacesOf
 camera-places-in W R face =
     let y = add-in (add-in (lit 32) face tt) (lit 8) tt in
-    let cap = cap-in (in-more (at 122) (at 200) face tt tt) in
-    let step = step-in (div-in (sub-in face cap tt) f2 tt) tt tt in
     let half = div-in face f2 tt in
     let left = sub-in (R .width) (lit 48) tt in
     let right = sub-in (R .right) (lit 48) tt in
@@ -93,7 +91,7 @@ camera-places-in W R face =
     let y2 = add-in y (lit 104) tt in
     let y3 = add-in y (lit 156) tt in
     record {
-      faces = faces-in (coordinate (sub-in (sub-in W (lit 4) tt) half tt) tt) (coordinate (add-in (lit 32) half tt) tt) step step cap;
+      faces = well-faces-in (coordinate (sub-in (sub-in W (lit 4) tt) half tt) tt) (coordinate (add-in (lit 32) half tt) tt) (in-more (at 122) (at 200) face tt tt);
       l1 = placed-in left y1 (lit 48) (lit 48) tt;
       l2 = placed-in left y (lit 48) (lit 48) tt;
       r2 = placed-in right y (lit 48) (lit 48) tt;

@@ -8,10 +8,9 @@ ghost use Rattle.cutouts.specs.Cutouts.{hitsOf};
 ghost use Rattle.camera_rails.specs.CameraRails.{measureRailOf, inRailOf, cameraTopOf, sizeFaceOf, cameraPlacesOf, cameraRailedOf, anchoredRailsOf, analogCameraRailsOf};
 use arranged::MaybeLayout;
 use arranged::Places;
-use arranged::cap;
 use arranged::no_layout;
-use arranged::place_faces;
 use arranged::placed;
+use arranged::well_faces;
 use band::aspect;
 use band::with_inputs;
 use cutouts::avoid_cutouts;
@@ -81,11 +80,7 @@ fn camera_places(w: f32, rail: f32, face: f32) -> Places
     ensures { λ r. ⌜ r ≡ cameraPlacesOf w rail face ⌝ }
 {
     let auxiliary_y = TOP + face + 8.0;
-    let cap = cap(face);
-    let step = (face - cap) / 2.0;
-    let fx = w - OUTER - face / 2.0;
-    let fy = TOP + face / 2.0;
-    let faces = place_faces(fx, fy, step, step, cap);
+    let faces = well_faces(w - OUTER - face / 2.0, TOP + face / 2.0, face);
     let inner = rail - 48.0;
     let right = w - inner - 48.0;
     Places {

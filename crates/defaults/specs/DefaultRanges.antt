@@ -22,7 +22,7 @@ use Rattle.search.specs.Bounded.{Arranged, Shrunk}
 use Rattle.search.proofs.Layouts.{place-bounded}
 use Rattle.search.proofs.Changes.{arranged-shrunk, anchored-shrunk, dpad-in, psp-in, map-elements-in}
 use Rattle.search.specs.Search.{centred}
-use Rattle.arranged.specs.PlaceRanges.{Coordinate, coordinate, cap-in, step-in, FacesIn, faces-in, PlacesIn, controls-placed}
+use Rattle.arranged.specs.PlaceRanges.{Coordinate, coordinate, FacesIn, well-faces-in, PlacesIn, controls-placed}
 use Rattle.arranged.specs.ArrangedRanges.{finished-in, arranged-in, side-rails-in}
 use Rattle.band.specs.BandRanges.{with-analog-in, band-in}
 use Rattle.defaults.specs.declared.Size.{Size}
@@ -84,8 +84,6 @@ unfolding measureHalvesOf
 halves-in {s = s} W H S =
     let mainY = sub-in (sub-in H (S .bottom) tt) (S .stick) tt in
     let faceY = sub-in (sub-in mainY (lit 8) tt) (S .face) tt in
-    let cap = cap-in (in-more (at 122) (at 200) (S .face) tt tt) in
-    let step = step-in (div-in (sub-in (S .face) cap tt) f2 tt) tt tt in
     let inner = add-in (add-in (lit 16) (S .column) tt) (lit 8) tt in
     let above = sub-in faceY (lit 56) tt in
     record {
@@ -96,7 +94,7 @@ halves-in {s = s} W H S =
       digitalx = coordinate (add-in (lit 16) (div-in (sub-in (S .column) (S .face) tt) f2 tt) tt) tt;
       mainy = coordinate mainY tt;
       facey = coordinate faceY tt;
-      faces = faces-in (coordinate (sub-in (sub-in W (lit 16) tt) (div-in (S .column) f2 tt) tt) tt) (coordinate (add-in faceY (div-in (S .face) f2 tt) tt) tt) step step cap;
+      faces = well-faces-in (coordinate (sub-in (sub-in W (lit 16) tt) (div-in (S .column) f2 tt) tt) tt) (coordinate (add-in faceY (div-in (S .face) f2 tt) tt) tt) (in-more (at 122) (at 200) (S .face) tt tt);
       x1 = in-more (at 0) (at 256) (cond-in (s .middle) inner (add-in (lit 16) (lit 0) tt)) tt tt;
       x2 = in-more (at 0) (at 256) (cond-in (s .middle) inner (add-in (lit 16) (add-in (S .shoulder) (lit 8) tt) tt)) tt tt;
       y1 = coordinate (cond-in (s .middle) (add-in faceY (lit 56) tt) above) tt;

@@ -13,7 +13,7 @@ use Rattle.layout.specs.Elements.{setElementsOf}
 use Rattle.layout.specs.Psp.{pspInputsOf}
 use Rattle.search.specs.Search.{centred, placeGameInOf}
 use Rattle.arranged.specs.declared.Places.{Places}
-use Rattle.arranged.specs.Places.{capOf, placeFacesOf, placedOf}
+use Rattle.arranged.specs.Places.{wellFacesOf, placedOf}
 use Rattle.arranged.specs.Arranged.{finishedOf, arrangedOf, sideRailsOf}
 use Rattle.band.specs.Band.{withAnalogOf, controllerBandOf}
 use Rattle.defaults.specs.declared.Size.{Size}
@@ -85,8 +85,6 @@ unfoldable pub measureHalvesOf : Float → Float → Sizes → Halves
 measureHalvesOf w h s =
     let mainY = h ⊖ s .bottom ⊖ s .stick in
     let faceY = mainY ⊖ k8 ⊖ s .face in
-    let cap = capOf (s .face) in
-    let step = (s .face ⊖ cap) ⊘ k2 in
     let inner = k16 ⊕ s .column ⊕ k8 in
     record {
       w = w;
@@ -96,7 +94,7 @@ measureHalvesOf w h s =
       digitalx = k16 ⊕ (s .column ⊖ s .face) ⊘ k2;
       mainy = mainY;
       facey = faceY;
-      faces = placeFacesOf (w ⊖ k16 ⊖ s .column ⊘ k2) (faceY ⊕ s .face ⊘ k2) step step cap;
+      faces = wellFacesOf (w ⊖ k16 ⊖ s .column ⊘ k2) (faceY ⊕ s .face ⊘ k2) (s .face);
       x1 = cond (s .middle) inner (k16 ⊕ k0);
       x2 = cond (s .middle) inner (k16 ⊕ (s .shoulder ⊕ k8));
       y1 = cond (s .middle) (faceY ⊕ k56) (faceY ⊖ k56);

@@ -8,12 +8,11 @@ ghost use Rattle.defaults.specs.Defaults.{widerOf, tryDockOf, trySideOf,
 use arranged::Faces;
 use arranged::Places;
 use arranged::anchored;
-use arranged::cap;
 use arranged::controller;
 use arranged::docked;
 use arranged::finished;
-use arranged::place_faces;
 use arranged::side_controls;
+use arranged::well_faces;
 use band::controller_band;
 use float::clamp;
 use float::max;
@@ -163,11 +162,7 @@ fn measure_halves(w: f32, h: f32, s: Sizes) -> Halves
 {
     let main_y = h - s.bottom - s.stick;
     let face_y = main_y - 8.0 - s.face;
-    let cap = cap(s.face);
-    let step = (s.face - cap) / 2.0;
-    let fx = w - 16.0 - s.column / 2.0;
-    let fy = face_y + s.face / 2.0;
-    let faces = place_faces(fx, fy, step, step, cap);
+    let faces = well_faces(w - 16.0 - s.column / 2.0, face_y + s.face / 2.0, s.face);
     let inner = 16.0 + s.column + 8.0;
     let x1 = pick(s.middle, inner, 16.0 + 0.0);
     let x2 = pick(s.middle, inner, 16.0 + (s.shoulder + 8.0));

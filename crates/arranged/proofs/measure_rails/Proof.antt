@@ -10,4 +10,4 @@ measure-rails-spec =
     (tie.spec
     (λ c κs. search needs)
     (λ c κs. search needs)
-    (λ c. rw (← c .before .cap .ensures, ← c .min .ensures)))
+    (λ c. rw (← c .before .well-faces .ensures, ← c .min .ensures)))

@@ -13,5 +13,4 @@ measure-band-spec =
     (λ c κs. search needs)
     (λ c κs. search needs)
     (λ c κs. search needs)
-    (λ c κs. search needs)
-    (λ c. rw (← c .before .before .before .before .before .before .before .pick .ensures, ← c .before .before .before .before .before .clamp .ensures, ← c .before .before .before .before .pick2 .ensures, ← c .before .before .pick3 .ensures, ← c .before .cap .ensures, ← c .place-faces .ensures)))
+    (λ c. rw (← c .before .before .before .before .before .before .pick .ensures, ← c .before .before .before .before .clamp .ensures, ← c .before .before .before .pick2 .ensures, ← c .before .pick3 .ensures, ← c .well-faces .ensures)))

@@ -17,5 +17,4 @@ camera-places-spec =
     (λ c κs. search needs)
     (λ c κs. search needs)
     (λ c κs. search needs)
-    (λ c κs. search needs)
-    (λ c. rw (← c .before .before .before .before .before .before .before .before .before .cap .ensures, ← c .before .before .before .before .before .before .before .before .place-faces .ensures, ← c .before .before .before .before .before .before .before .new .ensures, ← c .before .before .before .before .before .before .new2 .ensures, ← c .before .before .before .before .before .new3 .ensures, ← c .before .before .before .before .new4 .ensures) (rw (← c .before .before .before .new5 .ensures, ← c .before .before .new6 .ensures, ← c .before .new7 .ensures, ← c .new8 .ensures))))
+    (λ c. rw (← c .before .before .before .before .before .before .before .before .well-faces .ensures, ← c .before .before .before .before .before .before .before .new .ensures, ← c .before .before .before .before .before .before .new2 .ensures, ← c .before .before .before .before .before .new3 .ensures, ← c .before .before .before .before .new4 .ensures) (rw (← c .before .before .before .new5 .ensures, ← c .before .before .new6 .ensures, ← c .before .new7 .ensures, ← c .new8 .ensures))))

@@ -6,10 +6,8 @@ use Rattle.defaults.proofs.measure_halves.Tie as tie
 returns : tie.Need-returns
 unfolding measureHalvesOf
 returns c =
-    let p = c .before .before .before .before .before .before .before in
     rw (
-      ← p .before .before .before .before .cap .ensures,
-      ← p .place-faces .ensures,
+      ← c .before .before .before .before .before .before .before .well-faces .ensures,
       ← c .before .before .before .before .before .pick .ensures,
       ← c .before .before .before .pick2 .ensures,
       ← c .before .before .pick3 .ensures,
@@ -20,7 +18,6 @@ pub measure-halves-spec : {M : Type 1} → statement M
 measure-halves-spec =
     tie.close
     (tie.spec
-    (λ c κs. search needs)
     (λ c κs. search needs)
     (λ c κs. search needs)
     (λ c κs. search needs)
