@@ -27,14 +27,14 @@ finishedOf l w h = placeGameOf (anchoredOf l w h) w h false k1 centred
 
 -- ---- `arranged`: the controls in a dock of their own below the picture
 
--- the thumb wells: their width, the size of a face cap, their height
+-- the thumb wells: their width, the size of a face cap, their height, the width of a shoulder
 unfoldable pub sizeWellsOf : Float → Float → Bool → Wells
 sizeWellsOf w h compact =
     let cluster = minOf (clampOf (w ⊘ k2 ⊖ k20) k128 k224) (maxOf (h ⊖ k140) k128) in
     let size = clampOf (cluster ⊗ k0·4) k48 k84 in
     -- Triangle and Cross keep a gap in the compact dock too.
     let height = cond compact (maxOf (minOf cluster k200) (size ⊗ k2 ⊕ k16)) cluster in
-    record { cluster = cluster; size = size; height = height }
+    record { cluster = cluster; size = size; height = height; shoulder = (cluster ⊖ k8) ⊘ k2 }
 
 -- Where the centre line of the wells, the shoulders and the system keys lie: between the wells where the dock is
 -- compact, else above and below them. `select` and `start` are the x of the system keys below the wells.
@@ -43,26 +43,24 @@ placeDockOf true w h wells select start =
     let fy = h ⊖ k32 ⊖ wells .height ⊘ k2 in
     let top = fy ⊖ wells .height ⊘ k2 in
     let left = k16 ⊕ wells .cluster ⊕ k8 in
-    let right = w ⊖ k16 ⊖ wells .cluster ⊖ k8 ⊖ (wells .cluster ⊖ k8) ⊘ k2 in
+    let right = w ⊖ k16 ⊖ wells .cluster ⊖ k8 ⊖ wells .shoulder in
     record { fy = fy; l1 = left; l2 = left; r2 = right; r1 = right; y1 = top ⊕ k56; y2 = top ⊕ k0; select = left; start = right; row = h ⊖ k56 }
 placeDockOf false w h wells select start =
     let fy = h ⊖ k76 ⊖ wells .height ⊘ k2 in
     let top = fy ⊖ wells .height ⊘ k2 in
-    let shoulder = (wells .cluster ⊖ k8) ⊘ k2 in
-    record { fy = fy; l1 = k16; l2 = k24 ⊕ shoulder; r2 = w ⊖ k16 ⊖ wells .cluster; r1 = w ⊖ k16 ⊖ shoulder; y1 = top ⊖ k56; y2 = top ⊖ k56; select = select; start = start; row = h ⊖ k64 }
+    record { fy = fy; l1 = k16; l2 = k24 ⊕ wells .shoulder; r2 = w ⊖ k16 ⊖ wells .cluster; r1 = w ⊖ k16 ⊖ wells .shoulder; y1 = top ⊖ k56; y2 = top ⊖ k56; select = select; start = start; row = h ⊖ k64 }
 
 unfoldable pub dockPlacesOf : Float → Wells → Dock → Places
 dockPlacesOf w wells dock =
     let offset = (wells .cluster ⊖ wells .size) ⊘ k2 in
     let vertical = (wells .height ⊖ wells .size) ⊘ k2 in
     let fx = w ⊖ k16 ⊖ wells .cluster ⊘ k2 in
-    let shoulderWidth = (wells .cluster ⊖ k8) ⊘ k2 in
     record {
       faces = placeFacesOf fx (dock .fy) offset vertical (wells .size);
-      l1 = newOf (dock .l1) (dock .y1) shoulderWidth k48;
-      l2 = newOf (dock .l2) (dock .y2) shoulderWidth k48;
-      r2 = newOf (dock .r2) (dock .y2) shoulderWidth k48;
-      r1 = newOf (dock .r1) (dock .y1) shoulderWidth k48;
+      l1 = newOf (dock .l1) (dock .y1) (wells .shoulder) k48;
+      l2 = newOf (dock .l2) (dock .y2) (wells .shoulder) k48;
+      r2 = newOf (dock .r2) (dock .y2) (wells .shoulder) k48;
+      r1 = newOf (dock .r1) (dock .y1) (wells .shoulder) k48;
       select = newOf (dock .select) (dock .row) k96 k48;
       start = newOf (dock .start) (dock .row) k96 k48;
       l3 = emptyRect;

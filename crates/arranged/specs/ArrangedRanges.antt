@@ -34,13 +34,14 @@ record WellsIn (k : Wells) : Type 0 where
   pub cluster : In (k .cluster) (at 128) (at 224)
   pub size : In (k .size) (at 48) (at 84)
   pub height : In (k .height) (at 128) (at 224)
+  pub shoulder : In (k .shoulder) (at 56) (at 112)
 
 wells-in : {w h : Float} (compact : Bool) → In w (at 0) (at 8192) → In h (at 0) (at 8192) → WellsIn (sizeWellsOf w h compact)
 unfolding sizeWellsOf
 wells-in compact W H =
     let cluster = min-in (clamp-in (sub-in (div-in W f2 tt) (lit 20) tt) (lit 128) (lit 224)) (max-in (sub-in H (lit 140) tt) (lit 128)) in
     let size = clamp-in (mul-in cluster f0·4 tt) (lit 48) (lit 84) in
-    record { cluster = cluster; size = size; height = cond-in compact (max-in (min-in cluster (lit 200)) (add-in (mul-in size f2 tt) (lit 16) tt)) cluster }
+    record { cluster = cluster; size = size; height = cond-in compact (max-in (min-in cluster (lit 200)) (add-in (mul-in size f2 tt) (lit 16) tt)) cluster; shoulder = in-more (at 56) (at 112) (div-in (sub-in cluster (lit 8) tt) f2 tt) tt tt }
 
 record DockIn (d : Dock) : Type 0 where
   pub fy : Coordinate (d .fy)
@@ -62,28 +63,26 @@ dock-in true W H K select start =
     let fy = sub-in (sub-in H (lit 32) tt) half tt in
     let top = sub-in fy half tt in
     let left = coordinate (add-in (add-in (lit 16) (K .cluster) tt) (lit 8) tt) tt in
-    let right = coordinate (sub-in (sub-in (sub-in (sub-in W (lit 16) tt) (K .cluster) tt) (lit 8) tt) (div-in (sub-in (K .cluster) (lit 8) tt) f2 tt) tt) tt in
+    let right = coordinate (sub-in (sub-in (sub-in (sub-in W (lit 16) tt) (K .cluster) tt) (lit 8) tt) (K .shoulder) tt) tt in
     record { fy = coordinate fy tt; l1 = left; l2 = left; r2 = right; r1 = right; y1 = coordinate (add-in top (lit 56) tt) tt; y2 = coordinate (add-in top (lit 0) tt) tt; select = left; start = right; row = coordinate (sub-in H (lit 56) tt) tt }
 dock-in false W H K select start =
     let half = div-in (K .height) f2 tt in
     let fy = sub-in (sub-in H (lit 76) tt) half tt in
     let y = coordinate (sub-in (sub-in fy half tt) (lit 56) tt) tt in
-    let shoulder = div-in (sub-in (K .cluster) (lit 8) tt) f2 tt in
     let inner = sub-in W (lit 16) tt in
-    record { fy = coordinate fy tt; l1 = coordinate (lit 16) tt; l2 = coordinate (add-in (lit 24) shoulder tt) tt; r2 = coordinate (sub-in inner (K .cluster) tt) tt; r1 = coordinate (sub-in inner shoulder tt) tt; y1 = y; y2 = y; select = select; start = start; row = coordinate (sub-in H (lit 64) tt) tt }
+    record { fy = coordinate fy tt; l1 = coordinate (lit 16) tt; l2 = coordinate (add-in (lit 24) (K .shoulder) tt) tt; r2 = coordinate (sub-in inner (K .cluster) tt) tt; r1 = coordinate (sub-in inner (K .shoulder) tt) tt; y1 = y; y2 = y; select = select; start = start; row = coordinate (sub-in H (lit 64) tt) tt }
 
 dock-places-in : {w : Float} {wells : Wells} {dock : Dock} → In w (at 0) (at 8192) → WellsIn wells → DockIn dock → PlacesIn (dockPlacesOf w wells dock)
 unfolding dockPlacesOf
 dock-places-in W K D =
     let across = step-in (div-in (sub-in (K .cluster) (K .size) tt) f2 tt) tt tt in
     let down = step-in (div-in (sub-in (K .height) (K .size) tt) f2 tt) tt tt in
-    let shoulder = div-in (sub-in (K .cluster) (lit 8) tt) f2 tt in
     record {
       faces = faces-in (coordinate (sub-in (sub-in W (lit 16) tt) (div-in (K .cluster) f2 tt) tt) tt) (D .fy) across down (K .size);
-      l1 = placed-in (D .l1) (D .y1) shoulder (lit 48) tt;
-      l2 = placed-in (D .l2) (D .y2) shoulder (lit 48) tt;
-      r2 = placed-in (D .r2) (D .y2) shoulder (lit 48) tt;
-      r1 = placed-in (D .r1) (D .y1) shoulder (lit 48) tt;
+      l1 = placed-in (D .l1) (D .y1) (K .shoulder) (lit 48) tt;
+      l2 = placed-in (D .l2) (D .y2) (K .shoulder) (lit 48) tt;
+      r2 = placed-in (D .r2) (D .y2) (K .shoulder) (lit 48) tt;
+      r1 = placed-in (D .r1) (D .y1) (K .shoulder) (lit 48) tt;
       select = placed-in (D .select) (D .row) (lit 96) (lit 48) tt;
       start = placed-in (D .start) (D .row) (lit 96) (lit 48) tt;
       l3 = empty-in;

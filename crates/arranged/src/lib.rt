@@ -217,11 +217,12 @@ pub fn finished(l: Layout, w: f32, h: f32) -> Layout
     search::place_game(anchored(l, w, h), w, h, false, 1.0, CENTRED)
 }
 
-// The thumb wells: their width, the size of a face cap, their height.
+// The thumb wells: their width, the size of a face cap, their height, the width of a shoulder.
 struct Wells {
     cluster: f32,
     size: f32,
     height: f32,
+    shoulder: f32,
 }
 
 // Where the centre line of the wells, the shoulders and the system keys lie.
@@ -252,6 +253,7 @@ fn size_wells(w: f32, h: f32, compact: bool) -> Wells
         cluster,
         size,
         height,
+        shoulder: (cluster - 8.0) / 2.0,
     }
 }
 
@@ -262,7 +264,7 @@ fn place_dock(compact: bool, w: f32, h: f32, wells: Wells, select: f32, start: f
         let fy = h - 32.0 - wells.height / 2.0;
         let top = fy - wells.height / 2.0;
         let left = 16.0 + wells.cluster + 8.0;
-        let right = w - 16.0 - wells.cluster - 8.0 - (wells.cluster - 8.0) / 2.0;
+        let right = w - 16.0 - wells.cluster - 8.0 - wells.shoulder;
         Dock {
             fy,
             l1: left,
@@ -278,13 +280,12 @@ fn place_dock(compact: bool, w: f32, h: f32, wells: Wells, select: f32, start: f
     } else {
         let fy = h - 76.0 - wells.height / 2.0;
         let top = fy - wells.height / 2.0;
-        let shoulder = (wells.cluster - 8.0) / 2.0;
         Dock {
             fy,
             l1: 16.0,
-            l2: 24.0 + shoulder,
+            l2: 24.0 + wells.shoulder,
             r2: w - 16.0 - wells.cluster,
-            r1: w - 16.0 - shoulder,
+            r1: w - 16.0 - wells.shoulder,
             y1: top - 56.0,
             y2: top - 56.0,
             select,
@@ -301,13 +302,12 @@ fn dock_places(w: f32, wells: Wells, dock: Dock) -> Places
     let vertical = (wells.height - wells.size) / 2.0;
     let fx = w - 16.0 - wells.cluster / 2.0;
     let faces = place_faces(fx, dock.fy, offset, vertical, wells.size);
-    let shoulder_width = (wells.cluster - 8.0) / 2.0;
     Places {
         faces,
-        l1: Rect::new(dock.l1, dock.y1, shoulder_width, 48.0),
-        l2: Rect::new(dock.l2, dock.y2, shoulder_width, 48.0),
-        r2: Rect::new(dock.r2, dock.y2, shoulder_width, 48.0),
-        r1: Rect::new(dock.r1, dock.y1, shoulder_width, 48.0),
+        l1: Rect::new(dock.l1, dock.y1, wells.shoulder, 48.0),
+        l2: Rect::new(dock.l2, dock.y2, wells.shoulder, 48.0),
+        r2: Rect::new(dock.r2, dock.y2, wells.shoulder, 48.0),
+        r1: Rect::new(dock.r1, dock.y1, wells.shoulder, 48.0),
         select: Rect::new(dock.select, dock.row, 96.0, 48.0),
         start: Rect::new(dock.start, dock.row, 96.0, 48.0),
         l3: EMPTY,

@@ -15,4 +15,4 @@ dock-places-spec =
     (λ c κs. search needs)
     (λ c κs. search needs)
     (λ c κs. search needs)
-    (λ c. rw (← c .before .before .before .before .before .before .before .place-faces .ensures, ← c .before .before .before .before .before .new .ensures, ← c .before .before .before .before .new2 .ensures, ← c .before .before .before .new3 .ensures, ← c .before .before .new4 .ensures, ← c .before .new5 .ensures) (rw (← c .new6 .ensures))))
+    (λ c. rw (← c .before .before .before .before .before .before .place-faces .ensures, ← c .before .before .before .before .before .new .ensures, ← c .before .before .before .before .new2 .ensures, ← c .before .before .before .new3 .ensures, ← c .before .before .new4 .ensures, ← c .before .new5 .ensures) (rw (← c .new6 .ensures))))

@@ -8,4 +8,4 @@ place-dock-spec =
     tie.close
     (tie.spec
     (λ c. rw (c .before .before .before .before .before .if1 .taken))
-    (λ c. rw (c .before .before .before .before .if1 .left)))
+    (λ c. rw (c .before .before .before .before .before .if1 .left)))
