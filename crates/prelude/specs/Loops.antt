@@ -5,7 +5,7 @@ use mathlib.Core.List.{List, [], _∷_, _++_, map, foldl, foldl-append, append-n
 use Prim.Native.Nat.{ℕ, zero, suc, _+_, _-_, _<_, _≤_}
 use native.Mathlib.Numerals.{add-one}
 use native.Mathlib.Omega.{arith}
-use lib.ListN.{length, take, drop, getD, set, length-map, drop-of-length-le, List·getD-map}
+use lib.ListN.{length, take, drop, getD, set, length-map, length-set, drop-of-length-le, List·getD-map}
 use lib.Seq.{take-suc, drop-cons, getD-take, length-take-le}
 use borrow.Author.Needs.{length-unmapped}
 use Rattle.prelude.specs.Lists.{mapFirst, filterMap}
@@ -47,6 +47,19 @@ module _ {A B : Type 0} {f : List A → B} {l : List A} {n : ℕ} {k : B} {i : �
 
   pub runs-out : Rest f l n k i → n ≤ i → f [] ≡ k
   runs-out r h = rw (none-left l (length l) n i refl (r .size) h) at (r .left)
+
+-- ---- a loop that stores one element a turn: after i of n turns the array is f i, of length k
+pub record Done {A : Type 0} (f : ℕ → List A) (n k : ℕ) (out : List A) (i : ℕ) : Type 0 where
+  pub most : i ≤ n
+  pub size : length out ≡ k
+  pub is : out ≡ f i
+
+module _ {A : Type 0} {f : ℕ → List A} {n k : ℕ} {out : List A} {i : ℕ} where
+  pub does : (v : A) → Done f n k out i → i < n → set out i v ≡ f (i + 1) → Done f n k (set out i v) (i + 1)
+  does v r h e = record { most = omega arith; size = rw length-set (r .size); is = e }
+
+  pub all-done : Done f n k out i → n ≤ i → out ≡ f n
+  all-done r h = let e : n ≡ i = omega arith in rw e (r .is)
 
 -- ---- a loop that folds
 module _ {A B : Type 0} where
@@ -102,3 +115,7 @@ module _ {A : Type 0} (g : A → A) where
   -- one turn: out holds the list with i elements done, and v is g of its element at i
   pub mapFirst-step : (i : ℕ) (xs out : List A) (v d : A) → out ≡ mapFirst g i xs → v ≡ g (getD out i d) → set out i v ≡ mapFirst g (i + 1) xs
   mapFirst-step i xs out v d o e = rw (e, o, add-one) (mapFirst-suc i xs d)
+
+  -- such a turn keeps Done
+  pub changes : (xs : List A) (d : A) {out : List A} {n k i : ℕ} {v : A} → Done (λ j. mapFirst g j xs) n k out i → i < n → v ≡ g (getD out i d) → Done (λ j. mapFirst g j xs) n k (set out i v) (i + 1)
+  changes xs d {out} {i = i} {v} r h e = does v r h (mapFirst-step i xs out v d (r .is) e)

@@ -8,6 +8,7 @@ use native.Mathlib.Omega.{arith}
 use lib.ListN.{length, take, drop, getD, set}
 use lib.Seq.{take-suc, take-suc-set, take-append-le, take-append-add, length-take-le, sets, sets-eq, set-at, append-snoc, drop-cons}
 use Rattle.prelude.specs.Lists.{replaceFirst}
+use Rattle.prelude.specs.Loops.{Done, does}
 
 -- one more behind the first n
 pub put-more : {A : Type 0} (out : List A) (n : ℕ) (v : A) {xs xs' : List A} → n < length out → take n out ≡ xs → xs' ≡ xs ++ (v ∷ []) → take (n + 1) (set out n v) ≡ xs'
@@ -25,7 +26,7 @@ module _ {A : Type 0} where
   store out n j [] = out
   store out n j (v ∷ vs) = store (set out (n + j) v) n (suc j) vs
 
-  store-sets : (out : List A) (n j : ℕ) (vs : List A) → store out n j vs ≡ sets out (n + j) vs
+  pub store-sets : (out : List A) (n j : ℕ) (vs : List A) → store out n j vs ≡ sets out (n + j) vs
   store-sets out n j [] = refl
   store-sets out n j (v ∷ vs) = store-sets (set out (n + j) v) n (suc j) vs ∙ ap (λ (k : ℕ). sets (set out (n + j) v) k vs) (add-suc n j)
 
@@ -47,3 +48,8 @@ module _ {A : Type 0} where
   pub replaceFirst-next : (new old out : List A) (i : ℕ) (d : A) {v : A} → i < length new → i < length old → out ≡ replaceFirst i new old → v ≡ getD new i d → set out i v ≡ replaceFirst (i + 1) new old
   replaceFirst-next new old out i d h k p q =
       rw (p, q, add-one, take-suc new i d h, append-snoc, drop-cons old i d k) (set-at (take i new) (getD old i d) (drop (suc i) old) (getD new i d) i (length-take-le i new (omega arith)))
+
+  -- such a turn keeps Done
+  pub replaces : (new old : List A) (d : A) {out : List A} {n k i : ℕ} {v : A} → Done (λ j. replaceFirst j new old) n k out i → i < n → i < length new → i < length old → v ≡ getD new i d
+      → Done (λ j. replaceFirst j new old) n k (set out i v) (i + 1)
+  replaces new old d {out} {i = i} {v} r h a b e = does v r h (replaceFirst-next new old out i d a b (r .is) e)

@@ -1,32 +1,25 @@
 use borrow.Author.Needs.{needs}
-use mathlib.Core.Path.{ap, _≡_}
-use lib.ListN.{length, length-set, getD}
+use mathlib.Core.Path.{ap}
+use lib.ListN.{getD}
 use Rattle.prelude.specs.Lists.{mapFirst}
-use Rattle.prelude.specs.Loops.{sized, mapFirst-zero, mapFirst-step}
+use Rattle.prelude.specs.Loops.{sized, Done, all-done, mapFirst-zero, changes}
 use Rattle.layout.specs.Layout.{anyControl, withBounds}
 use Rattle.landscape.specs.Landscape.{inRow}
 use native.Mathlib.Omega.{arith}
-use Prim.Native.Nat.{_-_, _≤_}
+use Prim.Native.Nat.{_-_}
 use Rattle.landscape.proofs.row_controls.Statement.{statement}
 use Rattle.landscape.proofs.row_controls.Tie as tie
 
 abbrev Inv-loop : tie.InvT-loop
-Inv-loop count row dx dy out₀ i₀ out i = (i ≤ count) × (length out ≡ 12) × (out ≡ mapFirst (inRow row dx dy) i out₀)
+Inv-loop count row dx dy out₀ i₀ out i = Done (λ j. mapFirst (inRow row dx dy) j out₀) count 12 out i
 
 abbrev μ-loop : tie.MeasureT-loop
 μ-loop count row dx dy out₀ i₀ out i = count - i
 
 loop-again : tie.Need-loop-again Inv-loop μ-loop
 loop-again c =
-    let l = c .before .before .before in
-    let a = l .before .args in
-    let now = getD (l .loop .out) (l .loop .i) anyControl in
-    (omega arith, rw length-set (l .loop .inv .1), mapFirst-step (inRow (a .row) (a .dx) (a .dy)) (l .loop .i) (a .controls) (l .loop .out) _ anyControl (l .loop .inv .2) (ap (withBounds now) (c .place .ensures)))
-
-returns : tie.Need-returns Inv-loop μ-loop
-returns c =
-    let e : c .before .before .args .count ≡ c .before .loop .i = omega arith in
-    rw e (c .before .loop .inv .2)
+    let l = c .before .before .before .loop in
+    changes _ _ anyControl (l .inv) (omega arith) (ap (withBounds (getD (l .out) (l .i) anyControl)) (c .place .ensures))
 
 pub row-controls-spec : {M : Type 1} → statement M
 row-controls-spec =
@@ -34,7 +27,7 @@ row-controls-spec =
     (tie.spec
     Inv-loop
     μ-loop
-    (λ c. (omega arith, search sized, mapFirst-zero (inRow (c .args .row) (c .args .dx) (c .args .dy)) (c .args .controls)))
+    (λ c. search (sized, mapFirst-zero, arith))
     (λ c. omega arith)
     (λ c. omega arith)
     (λ c κs. search needs)
@@ -43,4 +36,4 @@ row-controls-spec =
     (λ c. omega arith)
     (λ c. omega arith)
     loop-again
-    returns)
+    (λ c. all-done (c .before .loop .inv) (c .loop-test .left)))
