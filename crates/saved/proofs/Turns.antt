@@ -1,11 +1,11 @@
 -- The loop over saved rectangles: after i turns the first i of them have been put in place.
-use mathlib.Core.Path.{_≡_, refl, ap, sym, _∙_}
-use mathlib.Core.List.{List, [], _∷_, _++_, map}
+use mathlib.Core.Path.{_≡_, refl, ap}
+use mathlib.Core.List.{List, [], _∷_, map}
 use Prim.Native.Nat.{ℕ, zero, suc, _+_, _<_, _≤_}
 use native.Mathlib.Numerals.{add-one}
 use native.Mathlib.Omega.{arith}
 use lib.Ieee.{Float}
-use lib.ListN.{length, take, drop, getD, set}
+use lib.ListN.{length, take, getD, set}
 use lib.Seq.{take-all, take-take}
 use Rattle.prelude.specs.Lists.{replaceFirst}
 use Rattle.prelude.specs.Loops.{take-map}
@@ -27,7 +27,7 @@ module _ (w h : Float) where
 
   -- past the last saved one nothing changes
   pub restored-past : (i : ℕ) (rs es out : List Rect) → length rs ≤ i → out ≡ restoredOf w h (take i rs) es → out ≡ restoredOf w h (take (i + 1) rs) es
-  restored-past i rs es out p e = e ∙ ap (λ (t : List Rect). restoredOf w h t es) (take-all i rs p ∙ sym (take-all (i + 1) rs (omega arith)))
+  restored-past i rs es out p e = rw (take-all (i + 1) rs (omega arith), ← take-all i rs p) e
 
   -- only as many as there are elements
   pub restored-front : (n : ℕ) (rs es : List Rect) → take n (restoredOf w h (take n rs) es) ≡ restoredOf w h rs (take n es)
@@ -38,6 +38,6 @@ module _ (w h : Float) where
   restored-front (suc n) (r ∷ rs) [] = refl
   restored-front (suc n) (r ∷ rs) (e ∷ es) = ap (λ (t : List Rect). restoreOf w h r e ∷ t) (restored-front n rs es)
 
--- as many of the changed elements as are counted
+-- `captured` returns as many of the changed elements as are counted
 pub mapped-front : (f : Rect → Rect) (n : ℕ) (at old : List Rect) → replaceFirst n (map f at) old ≡ replaceFirst n (map f (take n at)) old
-mapped-front f n at old = ap (λ (t : List Rect). t ++ drop n old) (take-map f n at ∙ sym (take-map f n (take n at) ∙ ap (map f) (take-take n n at (omega arith))))
+mapped-front f n at old = rw (take-map f n at, take-map f n (take n at), take-take n n at (omega arith))
