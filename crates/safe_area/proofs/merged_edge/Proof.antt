@@ -1,5 +1,5 @@
-use borrow.Author.Needs.{sfits-of, needs}
-use mir.Facts.{toZ-ofZ}
+use borrow.Author.Needs.{needs}
+use Rattle.prelude.specs.Signed.{kept, stored}
 use Rattle.safe_area.specs.Safe.{mergedEdgeOf}
 use mathlib.Core.Path.{_∙_}
 use Rattle.safe_area.proofs.merged_edge.Statement.{statement}
@@ -9,17 +9,13 @@ returns : tie.Need-returns
 unfolding mergedEdgeOf
 returns c =
     let m = c .before .before .max in
-    toZ-ofZ (sfits-of (c .max2 .ok))
-    ∙ (c .max2 .ensures
-    ∙ rw (toZ-ofZ (sfits-of (m .ok)), m .ensures, toZ-ofZ (sfits-of (c .before .before .before .before .max-arg .given)), toZ-ofZ (sfits-of (c .before .before .before .max-arg2 .given)), c .before .if1 .taken))
+    stored (c .max2 .ok) (c .max2 .ensures ∙ rw (stored (m .ok) (m .ensures), kept _ (c .before .before .before .before .max-arg .given), kept _ (c .before .before .before .max-arg2 .given), c .before .if1 .taken))
 
 returns-2 : tie.Need-returns-2
 unfolding mergedEdgeOf
 returns-2 c =
     let m = c .before .before .before .max in
-    toZ-ofZ (sfits-of (c .max3 .ok))
-    ∙ (c .max3 .ensures
-    ∙ rw (toZ-ofZ (sfits-of (m .ok)), m .ensures, toZ-ofZ (sfits-of (c .before .before .before .before .before .max-arg .given)), toZ-ofZ (sfits-of (c .before .before .before .before .max-arg2 .given)), toZ-ofZ (sfits-of (c .before .max-arg3 .given)), c .before .before .if1 .left))
+    stored (c .max3 .ok) (c .max3 .ensures ∙ rw (stored (m .ok) (m .ensures), kept _ (c .before .before .before .before .before .max-arg .given), kept _ (c .before .before .before .before .max-arg2 .given), kept _ (c .before .max-arg3 .given), c .before .before .if1 .left))
 
 pub merged-edge-spec : {M : Type 1} → statement M
 merged-edge-spec =

@@ -1,12 +1,12 @@
 use borrow.Author.Tests.{not-true, not-false}
-use borrow.Author.Needs.{sfits-of, needs}
+use borrow.Author.Needs.{needs}
 use native.Mathlib.Omega.{arith}
 use mathlib.Core.Path.{ap}
 use Prim.Native.Nat.{_-_}
 use lib.IntN.{pos}
 use lib.Seq.{take-length}
-use mir.Facts.{toZ-ofZ}
 use Rattle.prelude.specs.Loops.{Rest, stops, goes-on, runs-out}
+use Rattle.prelude.specs.Signed.{kept}
 use Rattle.safe_area.specs.Safe.{onScaleOf}
 use Rattle.safe_area.proofs.on_scale.Statement.{statement}
 use Rattle.safe_area.proofs.on_scale.Tie as tie
@@ -28,8 +28,8 @@ on-scale-spec =
     (λ c. omega arith)
     (λ c. omega arith)
     (λ c κs. search needs)
-    (λ c. stops (pos 0) (c .before .before .before .before .loop .inv) (c .before .before .before .loop-test .taken) (rw (← rw (toZ-ofZ (sfits-of (c .before .before .within-limits-arg .given))) at (c .before .within-limits .ensures), not-true (c .before .within-limits .result) (c .if1 .taken))))
+    (λ c. stops (pos 0) (c .before .before .before .before .loop .inv) (c .before .before .before .loop-test .taken) (rw (← rw (kept _ (c .before .before .within-limits-arg .given)) at (c .before .within-limits .ensures), not-true (c .before .within-limits .result) (c .if1 .taken))))
     (λ c. omega arith)
     (λ c. omega arith)
-    (λ c. goes-on (pos 0) (c .before .before .before .before .loop .inv) (c .before .before .before .loop-test .taken) (rw (← rw (toZ-ofZ (sfits-of (c .before .before .within-limits-arg .given))) at (c .before .within-limits .ensures), not-false (c .before .within-limits .result) (c .if1 .left))))
+    (λ c. goes-on (pos 0) (c .before .before .before .before .loop .inv) (c .before .before .before .loop-test .taken) (rw (← rw (kept _ (c .before .before .within-limits-arg .given)) at (c .before .within-limits .ensures), not-false (c .before .within-limits .result) (c .if1 .left))))
     (λ c. runs-out (c .before .loop .inv) (c .loop-test .left)))
