@@ -37,7 +37,7 @@ eqZ-back (negsuc a) (negsuc b) p q =
     eqb-as (2 ^ 32 - suc a) (2 ^ 32 - suc b) a b (λ e. omega (arith, p .sfits, q .sfits)) (λ e. rw e)
 
 -- ---- limits
-pub within-mag : (n : ℤ) → withinLimitsOf n ≡ true → mag n ≤ 8192
+within-mag : (n : ℤ) → withinLimitsOf n ≡ true → mag n ≤ 8192
 unfolding withinLimitsOf
 within-mag (pos n) h = leb-true n 8192 h
 within-mag (negsuc n) h = let k : n ≤ 8191 = leb-true n 8191 (rw and-true at h) in omega arith
@@ -51,7 +51,7 @@ within-at (x ∷ xs) (suc i) h = within-at xs i (both (withinLimitsOf x) (onScal
 mag-subℕ : (a b : ℕ) → mag (subℕ a b) ≤ a + b
 mag-subℕ a b = either (λ z. mag z ≤ a + b) (ltb a b) (omega arith) (omega arith)
 
-pub mag-sub : (a b : ℤ) → mag (a -ℤ b) ≤ mag a + mag b + 2
+mag-sub : (a b : ℤ) → mag (a -ℤ b) ≤ mag a + mag b + 2
 mag-sub (pos a) (pos zero) = omega arith
 mag-sub (pos a) (pos (suc b)) = omega (arith, mag-subℕ a (suc b))
 mag-sub (pos a) (negsuc b) = omega arith
