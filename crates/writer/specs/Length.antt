@@ -17,7 +17,7 @@ pub length-rect : (r : Rect) → length (rectBytes r) ≡ 16
 unfolding rectBytes numberBytes
 length-rect r = refl
 
-pub length-mask : (c : Control) → length (maskBytes c) ≡ 2
+length-mask : (c : Control) → length (maskBytes c) ≡ 2
 unfolding maskBytes shortBytes
 length-mask c = refl
 

@@ -1,46 +1,38 @@
-use mathlib.Core.Path.{refl, ap, _∙_, _≡_}
+use mathlib.Core.Path.{refl, _≡_}
 use lib.ListN.{length, take}
 use mathlib.Core.List.{flatMap}
-use Rattle.prelude.specs.Loops.{sized}
-use Rattle.writer.specs.Bytes.{maskBytes, stored}
-use Rattle.writer.specs.Length.{length-mask}
-use Rattle.writer.proofs.Stores.{no-items, next-item, length-stored}
+use Rattle.prelude.specs.Loops.{in-array, Rest, goes-on, runs-out}
+use Rattle.writer.specs.Bytes.{shortBytes, maskBytes, stored}
+use Rattle.writer.proofs.Stores.{then-on, length-stored}
 use Rattle.layout.specs.Layout.{anyControl}
 use borrow.Author.Needs.{needs}
+use native.Mathlib.Nat.{add-zero}
 use native.Mathlib.Omega.{arith}
-use Prim.Native.Nat.{_-_, _≤_}
+use Prim.Native.Nat.{_+_, _*_, _-_}
 use Rattle.writer.proofs.put_masks.Statement.{statement}
 use Rattle.writer.proofs.put_masks.Tie as tie
 
 abbrev Inv-loop : tie.InvT-loop
-Inv-loop out₀ at n controls i₀ out i = (i ≤ n) × (length out ≡ length out₀) × (out ≡ stored out₀ at (flatMap maskBytes (take i controls)))
+Inv-loop out₀ at n controls i₀ out i = (length out ≡ length out₀) × Rest (λ l. stored out (at + 2 * i) (flatMap maskBytes l)) controls n (stored out₀ at (flatMap maskBytes (take n controls))) i
 
 abbrev μ-loop : tie.MeasureT-loop
 μ-loop out₀ at n controls i₀ out i = n - i
 
 loop-again : tie.Need-loop-again Inv-loop μ-loop
-unfolding maskBytes
+unfolding maskBytes shortBytes flatMap
 loop-again c =
-    let s = c .before .before .before .before .before .before .before .before .before in
     let l = c .before .before .before .before .before .before .before .loop in
-    let put = c .before .before .put-short in
-    let m : length (s .args .t3) ≡ 12 = search sized in
-    let e : length (put .last .0) ≡ length (l .out) = ap length (put .ensures) ∙ simp length-stored in
-    (omega arith, e ∙ l .inv .1, next-item maskBytes 2 length-mask _ _ (s .args .t3) (l .i) anyControl (omega arith) (l .inv .2) (rw (← c .before .before .before .mask .ensures) (put .ensures)))
-
-returns : tie.Need-returns Inv-loop μ-loop
-returns c =
-    let l = c .before .loop in
-    let e : c .before .before .before .args .n ≡ l .i = omega arith in
-    rw e (l .inv .2)
+    let put = c .before .before .put-short .ensures in
+    (rw (put, length-stored) (l .inv .0), goes-on anyControl (l .inv .1) (c .before .before .before .before .before .before .loop-test .taken) (then-on _ _ _ _ _ (rw (c .before .before .before .mask .ensures) at put) (omega arith)))
 
 pub put-masks-spec : {M : Type 1} → statement M
+unfolding flatMap stored
 put-masks-spec =
     tie.close
     (tie.spec
     Inv-loop
     μ-loop
-    (λ c. (omega arith, refl, no-items maskBytes _ _))
+    (λ c. (refl, rw add-zero (search (in-array, arith))))
     (λ c. omega arith)
     (λ c. omega arith)
     (λ c. omega arith)
@@ -52,4 +44,4 @@ put-masks-spec =
     (λ c. omega arith)
     loop-again
     (λ c. search needs)
-    returns)
+    (λ c. runs-out (c .before .loop .inv .1) (c .loop-test .left)))

@@ -1,8 +1,9 @@
 use denote.Ref.{now}
 use Prim.Native.Nat.{_/_, _%_}
+use mathlib.Core.List.{[], _∷_}
 use lib.ListN.{length-set}
 use Rattle.writer.specs.Bytes.{numberBytes}
-use Rattle.writer.proofs.Stores.{stores4}
+use Rattle.writer.proofs.Stores.{stored-run}
 use native.Mathlib.Omega.{arith}
 use borrow.Author.Needs.{needs}
 use Rattle.writer.proofs.put_number.Statement.{statement}
@@ -13,7 +14,7 @@ unfolding numberBytes
 returns c =
     let a = c .before .before .args in
     let n = c .pattern .result in
-    rw (← c .pattern .ensures) (stores4 (now (a .out)) (a .at) (n / 16777216) (n / 65536 % 256) (n / 256 % 256) (n % 256))
+    rw (← c .pattern .ensures) (stored-run (now (a .out)) (a .at) (n / 16777216) (n / 65536 % 256 ∷ n / 256 % 256 ∷ n % 256 ∷ []))
 
 pub put-number-spec : {M : Type 1} → statement M
 put-number-spec =

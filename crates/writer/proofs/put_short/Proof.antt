@@ -1,8 +1,9 @@
 use denote.Ref.{now}
 use Prim.Native.Nat.{_/_, _%_}
+use mathlib.Core.List.{[], _∷_}
 use lib.ListN.{length-set}
 use Rattle.writer.specs.Bytes.{shortBytes}
-use Rattle.writer.proofs.Stores.{stores2}
+use Rattle.writer.proofs.Stores.{stored-run}
 use native.Mathlib.Omega.{arith}
 use borrow.Author.Needs.{needs}
 use Rattle.writer.proofs.put_short.Statement.{statement}
@@ -19,4 +20,4 @@ put-short-spec =
     (λ c. search needs)
     (λ c. simp length-set (omega arith))
     (λ c. search needs)
-    (λ c. let a = c .args in stores2 (now (a .out)) (a .at) (a .n / 256) (a .n % 256)))
+    (λ c. let a = c .args in stored-run (now (a .out)) (a .at) (a .n / 256) (a .n % 256 ∷ [])))
