@@ -118,7 +118,7 @@ high-fields s (suc x) t h k a = elim (eq-or-lt-of-le k) [
       too-large ((0x80_0000 + t) * 2 ^ x) eps (0x80_0000 * 2 ^ 149) eps-pos large b (rw (m .1) at (most-magnitude a))
 ]
 
-pub exponent-small : (n : ℕ) → AtMost (ofBits binary32 n) most → n % 0x8000_0000 / 0x80_0000 < 150
+exponent-small : (n : ℕ) → AtMost (ofBits binary32 n) most → n % 0x8000_0000 / 0x80_0000 < 150
 exponent-small n a =
     lt-of-not-le (λ (g : 150 ≤ n % 0x8000_0000 / 0x80_0000). high-fields (leb 0x8000_0000 n) (n % 0x8000_0000 / 0x80_0000) (n % 0x80_0000) g (omega arith) (rw (ofBits-is binary32 n) at a))
 
