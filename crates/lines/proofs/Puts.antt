@@ -1,14 +1,12 @@
 -- Texts put one after the other, and what they leave of the array.
-use mathlib.Core.Path.{_≡_, refl, ap, ap₂, _∙_}
+use mathlib.Core.Path.{_≡_, refl, ap, ap₂, sym, _∙_}
 use mathlib.Core.List.{List, [], _∷_, _++_}
-use Prim.Native.Nat.{ℕ, suc, _+_, _/_, _%_, _<_, _≤_}
+use Prim.Native.Nat.{ℕ, _+_, _/_, _%_, _<_, _≤_}
 use native.Mathlib.Nat.{add-zero}
-use native.Mathlib.Numerals.{add-one}
 use native.Mathlib.Omega.{arith}
-use lib.ListN.{length, take, getD, set, length-append}
-use lib.Seq.{take-suc, take-length}
+use lib.ListN.{length, set, length-append}
 use Rattle.writer.specs.Bytes.{stored}
-use Rattle.writer.proofs.Stores.{then, length-stored}
+use Rattle.writer.proofs.Stores.{then-on, length-stored}
 use Rattle.lines.specs.Line.{putOf, digitsOf}
 use Rattle.lines.specs.LineLaws.{digits-few, digits-more}
 
@@ -20,13 +18,6 @@ pub one : (l : List ℕ) (at b : ℕ) → (set l at b, at + 1) ≡ putOf l at (b
 unfolding putOf stored
 one l at b = refl
 
--- a text, and a text from where it ended
-pub after : (l us vs : List ℕ) (at : ℕ) {m n : List ℕ} {i j : ℕ} → (m, i) ≡ putOf l at us → (n, j) ≡ putOf m i vs → (n, j) ≡ putOf l at (us ++ vs)
-unfolding putOf
-after l us vs at p q =
-    q ∙ ap (λ (s : List ℕ × ℕ). putOf (s .0) (s .1) vs) p
-    ∙ ap₂ (λ (b : List ℕ) (e : ℕ). (b, e)) (then l at (at + length us) us vs refl refl refl) (omega (arith, length-append us vs))
-
 -- where a text ends, and that the array keeps its length: both are rules for `omega`
 pub ends : (l t : List ℕ) (at : ℕ) {m : List ℕ} {i : ℕ} → (m, i) ≡ putOf l at t → i ≡ at + length t
 unfolding putOf
@@ -36,18 +27,19 @@ pub same : (l t : List ℕ) (at : ℕ) {m : List ℕ} {i : ℕ} → (m, i) ≡ p
 unfolding putOf
 same l t at p = ap (λ (s : List ℕ × ℕ). length (s .0)) p ∙ length-stored l at t
 
+-- a text, and a text from where it ended
+pub onward : (l us vs : List ℕ) (at : ℕ) {m : List ℕ} {i : ℕ} → (m, i) ≡ putOf l at us → putOf l at (us ++ vs) ≡ putOf m i vs
+unfolding putOf
+onward l us vs at p =
+    let e = ends l us at p in
+    ap₂ (λ (b : List ℕ) (k : ℕ). (b, k)) (then-on l at _ us vs (ap (λ (s : List ℕ × ℕ). s .0) p) (sym e)) (omega (arith, length-append us vs))
+
+pub after : (l us vs : List ℕ) (at : ℕ) {m n : List ℕ} {i j : ℕ} → (m, i) ≡ putOf l at us → (n, j) ≡ putOf m i vs → (n, j) ≡ putOf l at (us ++ vs)
+after l us vs at p q = q ∙ sym (onward l us vs at p)
+
 -- ---- digits
 pub digit : (l : List ℕ) (at n : ℕ) → n < 10 → (set l at (48 + n), at + 1) ≡ putOf l at (digitsOf n)
 digit l at n h = rw (digits-few n h) (one l at (48 + n))
 
 pub digit-after : (l : List ℕ) (at n : ℕ) {m : List ℕ} {i : ℕ} → 10 ≤ n → (m, i) ≡ putOf l at (digitsOf (n / 10)) → (set m i (48 + n % 10), i + 1) ≡ putOf l at (digitsOf n)
 digit-after l at n {m} {i} h p = rw (digits-more n h) (after _ _ _ _ p (one m i (48 + n % 10)))
-
--- ---- a text byte by byte
-pub text-next : (l t : List ℕ) (at i : ℕ) {m : List ℕ} → i < length t → (m, at + i) ≡ putOf l at (take i t) → (set m (at + i) (getD t i 0), at + (i + 1)) ≡ putOf l at (take (i + 1) t)
-text-next l t at i {m} h p =
-    let e : at + suc i ≡ at + i + 1 = omega arith in
-    rw (add-one i, e, take-suc t i 0 h) (after _ _ _ _ p (one m (at + i) (getD t i 0)))
-
-pub text-whole : (l t : List ℕ) (at i : ℕ) {m : List ℕ} → length t ≤ i → i ≤ length t → (m, at + i) ≡ putOf l at (take i t) → (m, at + length t) ≡ putOf l at t
-text-whole l t at i h k p = let e : i ≡ length t = omega arith in rw (e, take-length t) at p
