@@ -1,71 +1,37 @@
--- The lines of a layout, put in parts: the controls one by one, the toolbar's keys, the sticks, and the sheet whole.
-use mathlib.Core.Path.{_≡_, refl, sym, ap, ap₂, _∙_}
-use mathlib.Core.List.{List, [], _∷_, _++_, map, flatMap, zipWith, map-append, append-nil, append-assoc}
-use Prim.Native.Nat.{ℕ, zero, suc, _+_, _-_, _<_, _≤_, zero-le}
-use native.Mathlib.Numerals.{add-one}
+-- The text of a layout in parts: the controls, the toolbar's keys, the sticks, and the sheet whole.
+use mathlib.Core.Path.{_≡_, refl, sym, ap, _∙_}
+use mathlib.Core.List.{List, [], _∷_, _++_, map, flatMap, zipWith, append-nil, append-assoc}
+use Prim.Native.Nat.{ℕ, zero, suc, _+_, _-_, _<_, _≤_}
+use native.Mathlib.Nat.{zero-add}
 use native.Mathlib.Omega.{arith}
 use lib.ListN.{length, take, drop, getD, length-append, length-replicate, replicate-append-replicate}
-use lib.Seq.{take-suc, sets-eq, drop-at}
+use lib.Seq.{drop-at}
 use Rattle.geometry.specs.declared.Rect.{Rect}
 use Rattle.layout.specs.declared.Control.{Control}
 use Rattle.layout.specs.declared.Layout.{Layout}
-use Rattle.layout.specs.Layout.{anyRect, anyControl, controlList, stickList}
+use Rattle.layout.specs.Layout.{anyRect}
 use Rattle.search.specs.Bounded.{Bounded, BoundedGame}
-use Rattle.writer.specs.Bytes.{stored}
+use Rattle.writer.proofs.Stores.{stored-all}
 use Rattle.lines.specs.Line.{Line, lineOf, lineText, headText, putOf}
 use Rattle.sheet.specs.Sheet.{controlLine, toolbarLines, stickLines, linesOf, linesText, film, refusal, sheetText, refusedText, layoutSheetOf, refusedSheetOf, gameName, dpadName, pauseName, playName, speedName, muteName, leftName, rightName, zeros, pageOf}
 use Rattle.sheet.specs.SheetLaws.{film-fits, refused-fits, line-count, lines-fit, sheet-fits}
-use Rattle.lines.proofs.Puts.{after}
 
 lines-append : (xs ys : List Line) → linesText (xs ++ ys) ≡ linesText xs ++ linesText ys
 unfolding flatMap
 lines-append [] ys = refl
 lines-append (x ∷ xs) ys = rw (lines-append xs ys) (sym (append-assoc (lineText x) (linesText xs) (linesText ys)))
 
-line-alone : (x : Line) → linesText (x ∷ []) ≡ lineText x
-unfolding flatMap
-line-alone x = append-nil (lineText x)
-
 -- ---- controls
 abbrev pub controlText : ℕ → List Control → List ℕ
 controlText n cs = linesText (map controlLine (take n cs))
-
-control-more : (cs : List Control) (i : ℕ) → i < length cs → controlText (i + 1) cs ≡ controlText i cs ++ lineText (controlLine (getD cs i anyControl))
-control-more cs i h =
-    let c = getD cs i anyControl in
-    ap (λ (t : List Control). linesText (map controlLine t)) (ap (λ (k : ℕ). take k cs) (add-one i) ∙ take-suc cs i anyControl h)
-    ∙ ap linesText (map-append controlLine (take i cs) (c ∷ []))
-    ∙ lines-append (map controlLine (take i cs)) (controlLine c ∷ [])
-    ∙ ap (λ (t : List ℕ). controlText i cs ++ t) (line-alone (controlLine c))
-
-pub control-next : (l : List ℕ) (at : ℕ) (cs : List Control) (k : ℕ) {m q : List ℕ} {i j : ℕ} → k < length cs → (m, i) ≡ putOf l at (controlText k cs)
-    → (q, j) ≡ putOf m i (lineText (controlLine (getD cs k anyControl))) → (q, j) ≡ putOf l at (controlText (k + 1) cs)
-control-next l at cs k h p q = rw (control-more cs k h) (after _ _ _ _ p q)
-
-fewer : (cs : List Control) (i n : ℕ) → i ≤ n → length (controlText i cs) ≤ length (controlText n cs)
-unfolding flatMap
-fewer cs zero n h = zero-le
-fewer cs (suc i) zero h = absurd (let z : ⊥ = omega arith in z)
-fewer [] (suc i) (suc n) h = zero-le
-fewer (c ∷ cs) (suc i) (suc n) h = simp length-append (omega (arith, fewer cs i n (omega arith)))
-
--- the room that a line takes of that for all
-pub control-room : (cs : List Control) (i n : ℕ) → i < n → n ≤ length cs → length (controlText i cs) + length (lineText (controlLine (getD cs i anyControl))) ≤ length (controlText n cs)
-control-room cs i n h k =
-    let e = ap length (control-more cs i (omega arith)) ∙ length-append (controlText i cs) (lineText (controlLine (getD cs i anyControl))) in
-    omega (arith, fewer cs (i + 1) n (omega arith))
 
 -- ---- the toolbar
 pub toolbar-text : (l : Layout) → linesText (toolbarLines l) ≡ lineText (lineOf pauseName (l .pause)) ++ (lineText (lineOf playName (l .playback)) ++ (lineText (lineOf speedName (l .speed)) ++ lineText (lineOf muteName (l .mute))))
 unfolding toolbarLines flatMap
 toolbar-text l = rw append-nil
 
-pub length-toolbar : (l : Layout)
-    → length (linesText (toolbarLines l)) ≡ length (lineText (lineOf pauseName (l .pause))) + (length (lineText (lineOf playName (l .playback))) + (length (lineText (lineOf speedName (l .speed))) + length (lineText (lineOf muteName (l .mute)))))
-length-toolbar l = ap length (toolbar-text l) ∙ simp length-append
-
 -- ---- the sticks
-abbrev pub stickText : ℕ → List Rect → List ℕ
+abbrev stickText : ℕ → List Rect → List ℕ
 stickText n ss = linesText (stickLines (take n ss))
 
 pub no-stick : (ss : List Rect) (n : ℕ) → n < 1 → stickText n ss ≡ []
@@ -93,8 +59,7 @@ first-room (a ∷ ss) (suc n) k h = simp length-append (omega arith)
 lines-text : (l : Layout) → linesText (linesOf l)
     ≡ lineText (lineOf gameName (l .game)) ++ (lineText (lineOf dpadName (l .dpad)) ++ (controlText (l .count) (l .controls) ++ (linesText (toolbarLines l) ++ stickText (l .stickcount) (l .sticks))))
 unfolding linesOf flatMap
-lines-text l =
-    rw (lines-append (map controlLine (controlList l)) (toolbarLines l ++ stickLines (stickList l)), lines-append (toolbarLines l) (stickLines (stickList l)))
+lines-text l = rw (lines-append, lines-append)
 
 drop-zeros : (n k : ℕ) → n ≤ k → drop n (zeros k) ≡ zeros (k - n)
 drop-zeros n k h =
@@ -104,12 +69,10 @@ drop-zeros n k h =
 
 -- a text that was put at the start of 1,024 zeros
 page-is : (t : List ℕ) {out : List ℕ} {len : ℕ} → (out, len) ≡ putOf (zeros 1024) 0 t → length t ≤ 1024 → record { bytes = out; len = len } ≡ pageOf t
-unfolding putOf stored
+unfolding putOf
 page-is t p h =
-    let z : 0 + length t ≡ length t = omega arith in
     let k : length (zeros 1024) ≡ 1024 = length-replicate {A = ℕ} 1024 0 in
-    let e = sets-eq t (zeros 1024) 0 (omega arith) ∙ ap (λ (n : ℕ). t ++ drop n (zeros 1024)) z ∙ ap (λ (s : List ℕ). t ++ s) (drop-zeros (length t) 1024 h) in
-    ap (λ (s : List ℕ × ℕ). record { bytes = s .0; len = s .1 }) p ∙ ap₂ (λ (b : List ℕ) (n : ℕ). record { bytes = b; len = n }) e z
+    ap (λ (s : List ℕ × ℕ). record { bytes = s .0; len = s .1 }) p ∙ rw (stored-all (zeros 1024) t (omega arith), drop-zeros (length t) 1024 h, zero-add)
 
 pub refused-is : {out : List ℕ} {len : ℕ} (n : ℕ) → n ≤ 8 → (out, len) ≡ putOf (zeros 1024) 0 (headText refusal n) → record { bytes = out; len = len } ≡ refusedSheetOf n
 unfolding refusedSheetOf refusedText
@@ -118,11 +81,7 @@ refused-is n h p = page-is _ p (omega (arith, refused-fits n h))
 module _ (l : Layout) (twelve : l .count ≤ 12) (two : l .stickcount ≤ 2) (b : Bounded l) (g : BoundedGame (l .game)) where
   pub sheet-room : length (headText film (l .count + l .stickcount + 6)) + (length (lineText (lineOf gameName (l .game))) + (length (lineText (lineOf dpadName (l .dpad)))
       + (length (controlText (l .count) (l .controls)) + (length (linesText (toolbarLines l)) + length (stickText (l .stickcount) (l .sticks)))))) ≤ 1024
-  sheet-room =
-      let e : length (lineText (lineOf gameName (l .game))) + (length (lineText (lineOf dpadName (l .dpad)))
-      + (length (controlText (l .count) (l .controls)) + (length (linesText (toolbarLines l)) + length (stickText (l .stickcount) (l .sticks))))) ≡ length (linesText (linesOf l)) =
-      sym (ap length (lines-text l) ∙ simp length-append) in
-      omega (arith, film-fits (l .count + l .stickcount + 6) (omega arith), lines-fit l twelve two b g)
+  sheet-room = omega (arith, simp length-append at (ap length (lines-text l)), film-fits (l .count + l .stickcount + 6) (omega arith), lines-fit l twelve two b g)
 
   pub sheet-is : {out : List ℕ} {len : ℕ} → l .count ≤ length (l .controls) → l .stickcount ≤ length (l .sticks)
       → (out, len) ≡ putOf (zeros 1024) 0 (headText film (l .count + l .stickcount + 6) ++ (lineText (lineOf gameName (l .game)) ++ (lineText (lineOf dpadName (l .dpad)) ++ (controlText (l .count) (l .controls) ++ (linesText (toolbarLines l) ++ stickText (l .stickcount) (l .sticks))))))
