@@ -6,7 +6,7 @@ use Rattle.written.proofs.Owned.{layout-owned}
 use Rattle.order.specs.Orders.{orderLayout, layoutOf, layoutOutputOf}
 use Rattle.preset.specs.PresetLabels.{settings-few}
 use Rattle.reader.specs.Readings.{read-refused, read-accepted}
-use Rattle.order.proofs.Steps.{layout-accepted}
+use Rattle.order.specs.OrderLaws.{order-widest}
 use Rattle.order.proofs.layout.Statement.{statement}
 use Rattle.order.proofs.layout.Tie as tie
 
@@ -22,11 +22,12 @@ write-requires c κs =
     rw (c .before .settings-layout .ensures) (n .count, n .stickcount)
 
 returns-2 : tie.Need-returns-2
+unfolding layoutOf layoutOutputOf orderLayout
 returns-2 c =
     let e = read-accepted _ (c .before .before .before .before .before .before .before .read-order .ensures) (c .before .before .before .before .before .if1 .left) in
     let l = c .before .before .before .before .settings-layout in
     let w = c .before .before .write .ensures in
-    layout-accepted _ e (l .ensures) (layout-owned _ _ (l .ok)) _ (w .0) (w .1)
+    rw (w .0, w .1, l .ensures) (rw e, (rw e, order-widest _ e (rw (← l .ensures) (layout-owned _ _ (l .ok))) _))
 
 pub layout-spec : {M : Type 1} → statement M
 layout-spec =
