@@ -1,5 +1,4 @@
-use mathlib.Core.Path.{refl}
-use Rattle.prelude.specs.Signed.{stored}
+use Rattle.prelude.specs.Signed.{kept}
 use Rattle.thumb_layout.specs.Interface.{fourOf}
 use borrow.Author.Needs.{needs}
 use Rattle.thumb_layout.proofs.four.Statement.{statement}
@@ -9,10 +8,10 @@ returns : tie.Need-returns
 unfolding fourOf
 returns c =
     rw (
-      stored (c .before .before .before .t5 .given) refl,
-      stored (c .before .before .t9 .given) refl,
-      stored (c .before .t13 .given) refl,
-      stored (c .t17 .given) refl,
+      kept _ (c .before .before .before .t5 .given),
+      kept _ (c .before .before .t9 .given),
+      kept _ (c .before .t13 .given),
+      kept _ (c .t17 .given),
     )
 
 pub four-spec : {M : Type 1} → statement M

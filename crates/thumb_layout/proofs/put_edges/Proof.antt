@@ -1,5 +1,4 @@
-use mir.Syntax.{w32}
-use mir.Facts.{toZ-ofZ}
+use Rattle.prelude.specs.Signed.{kept}
 use Rattle.thumb_layout.proofs.Steps.{no-room, four-stored}
 use lib.ListN.{length-set}
 use native.Mathlib.Omega.{arith}
@@ -11,12 +10,7 @@ returns-2 : tie.Need-returns-2
 returns-2 c =
     let s = c .before .before .before .before .before in
     let e = s .args .e in
-    rw (
-      toZ-ofZ {w = w32} {z = e .left} (search needs),
-      toZ-ofZ {w = w32} {z = e .top} (search needs),
-      toZ-ofZ {w = w32} {z = e .right} (search needs),
-      toZ-ofZ {w = w32} {z = e .bottom} (search needs),
-    )
+    rw (kept (e .left) (search needs), kept (e .top) (search needs), kept (e .right) (search needs), kept (e .bottom) (search needs))
     (four-stored (e .left) (e .top) (e .right) (e .bottom) (s .args .edges .now) (c .before .before .before .before .if1 .left))
 
 pub put-edges-spec : {M : Type 1} → statement M

@@ -1,5 +1,4 @@
-use mathlib.Core.Path.{refl}
-use Rattle.prelude.specs.Signed.{stored}
+use Rattle.prelude.specs.Signed.{kept}
 use Rattle.thumb_layout.specs.Interface.{twoOf}
 use borrow.Author.Needs.{needs}
 use Rattle.thumb_layout.proofs.two.Statement.{statement}
@@ -15,4 +14,4 @@ two-spec =
     (λ c. search needs)
     (λ c. search needs)
     (λ c. search needs)
-    (λ c. rw (stored (c .before .t5 .given) refl, stored (c .t9 .given) refl)))
+    (λ c. rw (kept _ (c .before .t5 .given), kept _ (c .t9 .given))))
