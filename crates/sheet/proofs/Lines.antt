@@ -2,10 +2,10 @@
 use mathlib.Core.Path.{_≡_, refl, sym, ap, _∙_}
 use mathlib.Core.List.{List, [], _∷_, _++_, map, flatMap, zipWith, append-nil, append-assoc}
 use Prim.Native.Nat.{ℕ, zero, suc, _+_, _-_, _<_, _≤_}
-use native.Mathlib.Nat.{zero-add}
+use native.Mathlib.Nat.{zero-add, sub-zero, suc-sub-suc}
 use native.Mathlib.Omega.{arith}
-use lib.ListN.{length, take, drop, getD, length-append, length-replicate, replicate-append-replicate}
-use lib.Seq.{drop-at}
+use lib.ListN.{length, take, drop, getD, length-append, length-replicate}
+use Rattle.prelude.specs.Stores.{two}
 use Rattle.geometry.specs.declared.Rect.{Rect}
 use Rattle.layout.specs.declared.Control.{Control}
 use Rattle.layout.specs.declared.Layout.{Layout}
@@ -40,20 +40,16 @@ no-stick ss n h = let e : n ≡ 0 = omega arith in rw e
 
 pub one-stick : (ss : List Rect) (n : ℕ) → length ss ≡ 2 → 1 ≤ n → n < 2 → stickText n ss ≡ lineText (lineOf leftName (getD ss 0 anyRect))
 unfolding stickLines zipWith flatMap
-one-stick [] n k h g = absurd (let z : ⊥ = omega arith in z)
-one-stick (a ∷ ss) n k h g = let e : n ≡ 1 = omega arith in rw (e, append-nil)
+one-stick ss n k h g = let e : n ≡ 1 = omega arith in rw (e, ← two ss anyRect k, append-nil)
 
 pub two-sticks : (ss : List Rect) (n : ℕ) → length ss ≡ 2 → 2 ≤ n → n ≤ 2 → stickText n ss ≡ lineText (lineOf leftName (getD ss 0 anyRect)) ++ lineText (lineOf rightName (getD ss 1 anyRect))
 unfolding stickLines zipWith flatMap
-two-sticks [] n k h g = absurd (let z : ⊥ = omega arith in z)
-two-sticks (a ∷ []) n k h g = absurd (let z : ⊥ = omega arith in z)
-two-sticks (a ∷ b ∷ ss) n k h g = let e : n ≡ 2 = omega arith in rw (e, append-nil)
+two-sticks ss n k h g = let e : n ≡ 2 = omega arith in rw (e, ← two ss anyRect k, append-nil)
 
 pub first-room : (ss : List Rect) (n : ℕ) → length ss ≡ 2 → 1 ≤ n → length (lineText (lineOf leftName (getD ss 0 anyRect))) ≤ length (stickText n ss)
 unfolding stickLines zipWith flatMap
-first-room [] n k h = absurd (let z : ⊥ = omega arith in z)
-first-room (a ∷ ss) zero k h = absurd (let z : ⊥ = omega arith in z)
-first-room (a ∷ ss) (suc n) k h = simp length-append (omega arith)
+first-room ss zero k h = absurd (let z : ⊥ = omega arith in z)
+first-room ss (suc n) k h = rw (← two ss anyRect k) (simp length-append (omega arith))
 
 -- ---- the sheet
 lines-text : (l : Layout) → linesText (linesOf l)
@@ -62,10 +58,9 @@ unfolding linesOf flatMap
 lines-text l = rw (lines-append, lines-append)
 
 drop-zeros : (n k : ℕ) → n ≤ k → drop n (zeros k) ≡ zeros (k - n)
-drop-zeros n k h =
-    let e : n + (k - n) ≡ k = omega arith in
-    let f : zeros k ≡ zeros n ++ zeros (k - n) = ap zeros (sym e) ∙ sym (replicate-append-replicate n (k - n) 0) in
-    rw f (drop-at (zeros n) (zeros (k - n)) n (length-replicate n 0))
+drop-zeros zero k h = rw sub-zero
+drop-zeros (suc n) zero h = absurd (let z : ⊥ = omega arith in z)
+drop-zeros (suc n) (suc k) h = rw suc-sub-suc (drop-zeros n k (omega arith))
 
 -- a text that was put at the start of 1,024 zeros
 page-is : (t : List ℕ) {out : List ℕ} {len : ℕ} → (out, len) ≡ putOf (zeros 1024) 0 t → length t ≤ 1024 → record { bytes = out; len = len } ≡ pageOf t
