@@ -1,19 +1,19 @@
 -- Runs of stores, one after the other, and what they leave of the output.
-use mathlib.Core.Path.{_≡_, refl, ap, sym, _∙_}
+use mathlib.Core.Path.{_≡_, ap, sym, _∙_}
 use mathlib.Core.List.{List, [], _∷_, _++_, flatMap, append-assoc}
 use Prim.Native.Nat.{ℕ, suc, _+_, _*_, _<_, _≤_}
 use native.Mathlib.Nat.{zero-add}
 use native.Mathlib.Numerals.{add-one}
 use native.Mathlib.Omega.{arith}
 use borrow.Author.Tests.{le-leb, lt-leb}
-use lib.ListN.{length, set, drop, length-append}
+use lib.ListN.{length, set, drop}
 use lib.Seq.{sets-eq, length-sets}
 use Rattle.prelude.specs.Answer.{accepted, refused}
 use Rattle.prelude.specs.Stores.{store, store-sets}
 use Rattle.geometry.specs.declared.Rect.{Rect}
 use Rattle.layout.specs.declared.Layout.{Layout}
 use Rattle.layout.specs.Layout.{elementsOf, controlList, elementCountOf}
-use Rattle.writer.specs.Bytes.{stored, numberBytes, rectBytes, maskBytes, headBytes, layoutBytes, writeLayoutOf, outputOf}
+use Rattle.writer.specs.Bytes.{stored, rectBytes, maskBytes, headBytes, layoutBytes, writeLayoutOf, outputOf}
 use Rattle.writer.specs.Length.{length-rect, length-head, length-rects, length-masks, length-layout, lengthFor}
 
 -- stores at i, i + 1 and so on
@@ -33,17 +33,6 @@ then-on l i j (u ∷ us) vs p e = then-on (set l i u) (suc i) j us vs p (omega a
 
 pub then : (l : List ℕ) (i j : ℕ) (us vs : List ℕ) {m n : List ℕ} → m ≡ stored l i us → n ≡ stored m j vs → i + length us ≡ j → n ≡ stored l i (us ++ vs)
 then l i j us vs p q e = q ∙ sym (then-on l i j us vs p e)
-
--- a rectangle's four numbers
-pub rect-run : (l : List ℕ) (at : ℕ) (r : Rect) {a b c d : List ℕ} → a ≡ stored l at (numberBytes (r .x)) → b ≡ stored a (at + 4) (numberBytes (r .y))
-    → c ≡ stored b (at + 8) (numberBytes (r .w)) → d ≡ stored c (at + 12) (numberBytes (r .h)) → d ≡ stored l at (rectBytes r)
-unfolding rectBytes numberBytes
-rect-run l at r p q s t =
-    let x = numberBytes (r .x) in
-    let y = numberBytes (r .y) in
-    let w = numberBytes (r .w) in
-    let h = numberBytes (r .h) in
-    then l at (at + 12) ((x ++ y) ++ w) h (then l at (at + 8) (x ++ y) w (then l at (at + 4) x y p q refl) s refl) t refl
 
 -- what a run from the start leaves
 pub stored-all : (l vs : List ℕ) → length vs ≤ length l → stored l 0 vs ≡ vs ++ drop (length vs) l
@@ -74,20 +63,10 @@ module _ (l : Layout) (cs : l .count ≤ length (l .controls)) (ss : l .stickcou
       → f ≡ stored out 0 (layoutBytes l)
   unfolding layoutBytes
   layout-run {n} {rs} k q p₁ p₂ p₃ p₄ p₅ p₆ =
-      let h₁ = headBytes 1 16 in
-      let g = rectBytes (l .game) in
-      let h₂ = headBytes 2 n in
-      let es = flatMap rectBytes rs in
-      let h₃ = headBytes 3 (2 * l .count) in
-      let ms = flatMap maskBytes (controlList l) in
       let u₁ = length-head 1 16 in
       let u₂ = length-rect (l .game) in
       let u₃ = length-head 2 n in
-      let u₄ : length es ≡ n = rw (q, k) (length-rects l cs ss) in
+      let u₄ : length (flatMap rectBytes rs) ≡ n = rw (q, k) (length-rects l cs ss) in
       let u₅ = length-head 3 (2 * l .count) in
-      let t₂ = then out 0 3 h₁ g p₁ p₂ (omega arith) in
-      let t₃ = then out 0 19 (h₁ ++ g) h₂ t₂ p₃ (simp length-append (omega arith)) in
-      let t₄ = then out 0 22 ((h₁ ++ g) ++ h₂) es t₃ p₄ (simp length-append (omega arith)) in
-      let t₅ = then out 0 (22 + n) (((h₁ ++ g) ++ h₂) ++ es) h₃ t₄ p₅ (simp length-append (omega arith)) in
-      let t₆ = then out 0 (25 + n) ((((h₁ ++ g) ++ h₂) ++ es) ++ h₃) ms t₅ p₆ (simp length-append (omega arith)) in
-      t₆ ∙ ap (stored out 0) (rw (u₂, length-rects l cs ss, length-masks l cs ss, ← k, ← q) (simp append-assoc))
+      then _ _ _ _ _ p₁ (then _ _ _ _ _ p₂ (then _ _ _ _ _ p₃ (then _ _ _ _ _ p₄ (then _ _ _ _ _ p₅ p₆ (omega arith)) (omega arith)) (omega arith)) (omega arith)) (omega arith)
+      ∙ ap (stored out 0) (rw (u₂, length-rects l cs ss, length-masks l cs ss, ← k, ← q) (simp append-assoc))
