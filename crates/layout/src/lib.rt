@@ -306,7 +306,7 @@ impl Layout {
         at[n + 6] = sticks[1];
         Elements {
             at,
-            count: n + 5 + self.stickcount,
+            count: self.element_count(),
         }
     }
 

@@ -1,3 +1,4 @@
+use borrow.Author.Needs.{needs}
 use native.Mathlib.Omega.{arith}
 use mathlib.Core.Path.{_≡_, refl, ap, _∙_}
 use Prim.Native.Nat.{_+_, _-_, _≤_, suc}
@@ -32,9 +33,9 @@ returns c =
     let e : l .loop .i ≡ s .count = omega arith in
     let k : length (s .sticks) ≡ 2 = rw length-map at (start .good .0 .1 .1 .1 .1 .1 .1 .1 .1 .1 .1 .0 .1 .0 .1) in
     let two = two (s .sticks) anyRect k in (
-      stored (l .loop .at) (s .dpad ∷ boundsOf s) (s .pause ∷ s .playback ∷ s .speed ∷ s .mute ∷ getD (s .sticks) 0 anyRect ∷ getD (s .sticks) 1 anyRect ∷ []) (s .count) 1 (suc (suc (suc (suc (s .stickcount))))) (elementCountOf s) (rw e at (l .loop .inv .2)) (omega arith) (omega arith) (omega arith)
-          ∙ ap (λ (t : List Rect). s .dpad ∷ (boundsOf s ++ (s .pause ∷ s .playback ∷ s .speed ∷ s .mute ∷ take (s .stickcount) t))) two,
-      refl,
+      rw (c .element-count .ensures) (stored (l .loop .at) (s .dpad ∷ boundsOf s) (s .pause ∷ s .playback ∷ s .speed ∷ s .mute ∷ getD (s .sticks) 0 anyRect ∷ getD (s .sticks) 1 anyRect ∷ []) (s .count) 1 (suc (suc (suc (suc (s .stickcount))))) (elementCountOf s) (rw e at (l .loop .inv .2)) (omega arith) (omega arith) (omega arith)
+          ∙ ap (λ (t : List Rect). s .dpad ∷ (boundsOf s ++ (s .pause ∷ s .playback ∷ s .speed ∷ s .mute ∷ take (s .stickcount) t))) two),
+      c .element-count .ensures,
     )
 
 pub elements-spec : {M : Type 1} → statement M
@@ -72,6 +73,5 @@ elements-spec =
     (λ c. omega arith)
     (λ c. omega arith)
     (λ c. omega arith)
-    (λ c. omega arith)
-    (λ c. omega arith)
+    (λ c κs. search needs)
     returns)
