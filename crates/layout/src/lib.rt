@@ -367,7 +367,7 @@ impl Layout {
             let c = controls[i];
             let label = c.label;
             if label.is_face() {
-                bounds = add(found, bounds, c.bounds);
+                bounds = joined(found, bounds, c.bounds);
                 found = true;
             }
         }
@@ -419,7 +419,7 @@ fn join(a: Rect, b: Rect) -> Rect
 }
 
 // The box around what was found and one more.
-fn add(found: bool, bounds: Rect, next: Rect) -> Rect
+fn joined(found: bool, bounds: Rect, next: Rect) -> Rect
     ensures { λ r. ⌜ r ≡ cond found (joinOf bounds next) next ⌝ }
 {
     if found {

@@ -1,9 +1,9 @@
 use borrow.Author.Needs.{needs}
-use Rattle.layout.proofs.add.Statement.{statement}
-use Rattle.layout.proofs.add.Tie as tie
+use Rattle.layout.proofs.joined.Statement.{statement}
+use Rattle.layout.proofs.joined.Tie as tie
 
-pub add-spec : {M : Type 1} → statement M
-add-spec =
+pub joined-spec : {M : Type 1} → statement M
+joined-spec =
     tie.close
     (tie.spec
     (λ c κs. search needs)
