@@ -123,56 +123,26 @@ impl Label {
         ensures { λ r. ⌜ (take (r .length) (r .bytes) ≡ nameOf self) × (r .length ≤ 6) ⌝ }
     {
         match self {
-            Label::Tri => Name {
-                bytes: [b'T', b'R', b'I', 0, 0, 0],
-                length: 3,
-            },
-            Label::O => Name {
-                bytes: [b'O', 0, 0, 0, 0, 0],
-                length: 1,
-            },
-            Label::X => Name {
-                bytes: [b'X', 0, 0, 0, 0, 0],
-                length: 1,
-            },
-            Label::Sq => Name {
-                bytes: [b'S', b'Q', 0, 0, 0, 0],
-                length: 2,
-            },
-            Label::L1 => Name {
-                bytes: [b'L', b'1', 0, 0, 0, 0],
-                length: 2,
-            },
-            Label::L2 => Name {
-                bytes: [b'L', b'2', 0, 0, 0, 0],
-                length: 2,
-            },
-            Label::R2 => Name {
-                bytes: [b'R', b'2', 0, 0, 0, 0],
-                length: 2,
-            },
-            Label::R1 => Name {
-                bytes: [b'R', b'1', 0, 0, 0, 0],
-                length: 2,
-            },
-            Label::Select => Name {
-                bytes: [b'S', b'E', b'L', b'E', b'C', b'T'],
-                length: 6,
-            },
-            Label::Start => Name {
-                bytes: [b'S', b'T', b'A', b'R', b'T', 0],
-                length: 5,
-            },
-            Label::L3 => Name {
-                bytes: [b'L', b'3', 0, 0, 0, 0],
-                length: 2,
-            },
-            Label::R3 => Name {
-                bytes: [b'R', b'3', 0, 0, 0, 0],
-                length: 2,
-            },
+            Label::Tri => named([b'T', b'R', b'I', 0, 0, 0], 3),
+            Label::O => named([b'O', 0, 0, 0, 0, 0], 1),
+            Label::X => named([b'X', 0, 0, 0, 0, 0], 1),
+            Label::Sq => named([b'S', b'Q', 0, 0, 0, 0], 2),
+            Label::L1 => named([b'L', b'1', 0, 0, 0, 0], 2),
+            Label::L2 => named([b'L', b'2', 0, 0, 0, 0], 2),
+            Label::R2 => named([b'R', b'2', 0, 0, 0, 0], 2),
+            Label::R1 => named([b'R', b'1', 0, 0, 0, 0], 2),
+            Label::Select => named([b'S', b'E', b'L', b'E', b'C', b'T'], 6),
+            Label::Start => named([b'S', b'T', b'A', b'R', b'T', 0], 5),
+            Label::L3 => named([b'L', b'3', 0, 0, 0, 0], 2),
+            Label::R3 => named([b'R', b'3', 0, 0, 0, 0], 2),
         }
     }
+}
+
+fn named(bytes: [u8; 6], length: usize) -> Name
+    ensures { λ r. ⌜ (take (r .length) (r .bytes) ≡ take length bytes) × (r .length ≡ length) ⌝ }
+{
+    Name { bytes, length }
 }
 
 impl Elements {
