@@ -19,11 +19,10 @@ use defaults::default_in;
 use float::abs;
 use float::max;
 use float::min;
-use geometry::EMPTY;
 use geometry::Rect;
 use layout::Cutouts;
-use layout::Elements;
 use layout::Layout;
+use layout::NO_ELEMENTS;
 use search::CENTRED;
 use search::clear_picture_aspect;
 use search::place_game_in_aspect;
@@ -66,11 +65,7 @@ fn below_toolbar(l: Layout, picture: Rect) -> Rect
 fn largest(area: Rect, aspect: f32) -> Rect
     ensures { λ r. ⌜ r ≡ largestOf area aspect ⌝ }
 {
-    let none = Elements {
-        at: [EMPTY; 19],
-        count: 0,
-    };
-    let fitted = clear_picture_aspect(area.w, area.h, none, aspect);
+    let fitted = clear_picture_aspect(area.w, area.h, NO_ELEMENTS, aspect);
     Rect::new(area.x + fitted.x, area.y + fitted.y, fitted.w, fitted.h)
 }
 

@@ -66,6 +66,11 @@ pub struct Cutouts {
     pub count: usize,
 }
 
+pub const NO_ELEMENTS: Elements = Elements {
+    at: [EMPTY; 19],
+    count: 0,
+};
+
 pub const NO_CUTOUTS: Cutouts = Cutouts {
     at: [EMPTY; 16],
     count: 0,

@@ -13,6 +13,7 @@ use geometry::EMPTY;
 use geometry::Rect;
 use layout::Elements;
 use layout::Layout;
+use layout::NO_ELEMENTS;
 
 // Where the game lies in the room that a smaller size factor leaves, from 0 to 1 across and down.
 pub struct Offset {
@@ -194,11 +195,7 @@ fn uncovered(l: Layout, overlap: bool) -> Elements
     ensures { λ r. ⌜ (elementList r ≡ cond overlap [] (elementsOf l)) × (r .count ≤ 19) ⌝ }
 {
     if overlap {
-        let dpad = l.dpad;
-        return Elements {
-            at: [dpad; 19],
-            count: 0,
-        };
+        return NO_ELEMENTS;
     }
     l.elements()
 }

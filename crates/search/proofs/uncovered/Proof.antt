@@ -8,6 +8,6 @@ pub uncovered-spec : {M : Type 1} → statement M
 uncovered-spec =
     tie.close
     (tie.spec
-    (λ c. (rw (c .before .if1 .taken), search needs))
+    (λ c. (rw (c .if1 .taken), search needs))
     (λ c κs. search needs)
     (λ c. (rw (c .before .if1 .left) (c .elements .ensures .0), omega arith)))
