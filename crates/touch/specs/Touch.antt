@@ -53,16 +53,19 @@ othersMaskOf x y controls = foldl (joinOf x y) 0 controls
 
 -- ---- the face buttons: one finger takes the nearest
 
+-- neither the picture nor the d-pad holds the touch
+unfoldable pub outsideOf : Layout → Float → Float → Bool
+outsideOf l x y = not (containsOf (l .game) x y) && not (containsOf (l .dpad) x y)
+
 -- The margin about a face button's box counts in unused control space only, so that it takes nothing from the picture, another control or the toolbar.
 unfoldable pub isFreeOf : Layout → Float → Float → Bool
 isFreeOf l x y =
-    not (containsOf (l .game) x y)
-    && (not (containsOf (l .dpad) x y)
+    outsideOf l x y
     && (not (containsOf (l .pause) x y)
     && (not (containsOf (l .playback) x y)
     && (not (containsOf (l .speed) x y)
     && (not (containsOf (l .mute) x y)
-    && not (anyOtherOf l x y))))))
+    && not (anyOtherOf l x y)))))
 
 -- the box with its margin
 unfoldable pub targetOf : Rect → Rect

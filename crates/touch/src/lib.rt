@@ -1,13 +1,12 @@
 // The buttons that a touch holds down.
 ghost use mathlib.Core.Path.{_≡_};
-ghost use mathlib.Core.Bool.{false, cond, not, _&&_};
+ghost use mathlib.Core.Bool.{false, cond, _&&_};
 ghost use Prim.Native.Nat.{_≤_};
 ghost use lib.Ieee.{lt, eq};
 ghost use Rattle.float.specs.MinMax.{absOf};
-ghost use Rattle.geometry.specs.Rect.{containsOf};
 ghost use Rattle.hypot.specs.Hypot.{hypotOf};
 ghost use Rattle.layout.specs.Label.{isFaceOf};
-ghost use Rattle.touch.specs.Touch.{axisBitOf, sectorOf, dpadMaskOf, otherHoldsOf, anyOtherOf, isFreeOf, joinOf, targetOf, reachedOf, distanceOf, nearerOf, maskNearOf};
+ghost use Rattle.touch.specs.Touch.{axisBitOf, sectorOf, dpadMaskOf, otherHoldsOf, anyOtherOf, outsideOf, isFreeOf, joinOf, targetOf, reachedOf, distanceOf, nearerOf, maskNearOf};
 use float::SQRT_2;
 use geometry::Rect;
 use layout::Control;
@@ -21,7 +20,7 @@ struct Face {
 }
 
 // The nearest face button so far if the touch lies in free space, where margins count, and if in space that is taken.
-struct Faces {
+struct NearestFaces {
     free: Face,
     taken: Face,
 }
@@ -103,17 +102,22 @@ fn any_other(l: Layout, x: f32, y: f32) -> bool
     false
 }
 
+// Neither the picture nor the d-pad holds the touch.
+fn outside(l: Layout, x: f32, y: f32) -> bool
+    ensures { λ r. ⌜ r ≡ outsideOf l x y ⌝ }
+{
+    !l.game.contains(x, y) && !l.dpad.contains(x, y)
+}
+
 // The touch lies in unused control space.
 fn is_free(l: Layout, x: f32, y: f32) -> bool
     requires { ⌜ l .count ≤ 12 ⌝ }
     ensures { λ r. ⌜ r ≡ isFreeOf l x y ⌝ }
 {
-    !l.game.contains(x, y)
-        && (!l.dpad.contains(x, y)
-            && (!l.pause.contains(x, y)
-                && (!l.playback.contains(x, y)
-                    && (!l.speed.contains(x, y)
-                        && (!l.mute.contains(x, y) && !any_other(l, x, y))))))
+    outside(l, x, y)
+        && (!l.pause.contains(x, y)
+            && (!l.playback.contains(x, y)
+                && (!l.speed.contains(x, y) && (!l.mute.contains(x, y) && !any_other(l, x, y)))))
 }
 
 // The box of a face button with its margin.
@@ -167,7 +171,14 @@ fn face_reached(c: Control, x: f32, y: f32, free: bool) -> bool
     label.is_face() && reached(c.bounds, x, y, free)
 }
 
-fn nearer(best: Faces, c: Control, x: f32, y: f32, outside: bool, previous: u16) -> Faces
+fn nearer(
+    best: NearestFaces,
+    c: Control,
+    x: f32,
+    y: f32,
+    outside: bool,
+    previous: u16,
+) -> NearestFaces
     ensures { λ r. ⌜ (r .free ≡ nearerOf x y outside previous (best .free) c) × (r .taken ≡ nearerOf x y false previous (best .taken) c) ⌝ }
 {
     if face_reached(c, x, y, outside) {
@@ -181,25 +192,18 @@ fn nearer(best: Faces, c: Control, x: f32, y: f32, outside: bool, previous: u16)
         let taken = best.taken;
         // Its box holds the touch, not only its margin.
         if inside {
-            return Faces {
+            return NearestFaces {
                 free,
                 taken: closer(taken, face),
             };
         }
-        return Faces { free, taken };
+        return NearestFaces { free, taken };
     }
     best
 }
 
-// Neither the picture nor the d-pad holds the touch. Free space lies outside both.
-fn outside(l: Layout, x: f32, y: f32) -> bool
-    ensures { λ r. ⌜ r ≡ (not (containsOf (l .game) x y) && not (containsOf (l .dpad) x y)) ⌝ }
-{
-    !l.game.contains(x, y) && !l.dpad.contains(x, y)
-}
-
 // Whether the touch lies in free space is asked only where it matters.
-fn face_mask(l: Layout, faces: Faces, x: f32, y: f32) -> u16
+fn face_mask(l: Layout, faces: NearestFaces, x: f32, y: f32) -> u16
     requires { ⌜ l .count ≤ 12 ⌝ }
     ensures { λ r. ⌜ r ≡ cond (isFreeOf l x y) (faces .free .mask) (faces .taken .mask) ⌝ }
 {
@@ -227,7 +231,7 @@ pub fn mask_near(l: Layout, x: f32, y: f32, previous: u16) -> u16
         closest: f32::from_bits(0x7f80_0000),
     };
     let mut others: u16 = 0;
-    let mut faces = Faces {
+    let mut faces = NearestFaces {
         free: none,
         taken: none,
     };

@@ -2,18 +2,16 @@
 use borrow.Author.Needs.{needs}
 use native.Mathlib.Omega.{arith}
 use mathlib.Core.Path.{_≡_, refl, ap, _∙_}
-use mathlib.Core.Bool.{Bool, true, false, cond, not, _&&_}
+use mathlib.Core.Bool.{Bool, true, false, cond}
 use Prim.Native.Nat.{_-_, _<_, _≤_}
 use lib.Bits.{bitOr}
-use lib.Ieee.{Float, nanBits}
+use lib.Ieee.{nanBits}
 use lib.ListN.{length, take, length-map}
 use Rattle.prelude.specs.Booleans.{both}
 use Rattle.prelude.specs.Loops.{fold-next}
-use Rattle.geometry.specs.Rect.{containsOf}
-use Rattle.layout.specs.declared.Layout.{Layout}
 use Rattle.layout.specs.Layout.{controlList}
 use Rattle.touch.specs.declared.Face.{Face}
-use Rattle.touch.specs.Touch.{othersMaskOf, isFreeOf, nearest, maskNearOf}
+use Rattle.touch.specs.Touch.{othersMaskOf, outsideOf, isFreeOf, nearest, maskNearOf}
 use Rattle.touch.proofs.mask_near.Statement.{statement}
 use Rattle.touch.proofs.mask_near.Tie as tie
 
@@ -36,28 +34,20 @@ loop-again c =
     let v = l .loop .inv in
     (omega arith, fold-next _ _ _ _ _ h (v .1) refl (c .before .join .ensures), fold-next _ _ _ _ _ h (v .2) refl (c .nearer .ensures .0), fold-next _ _ _ _ _ h (v .3) refl (c .nearer .ensures .1))
 
--- free space is outside the picture and the d-pad
-outside-of : (l : Layout) (x y : Float) → isFreeOf l x y ≡ true → (not (containsOf (l .game) x y) && not (containsOf (l .dpad) x y)) ≡ true
-unfolding isFreeOf
-outside-of l x y e =
-    let a = both (not (containsOf (l .game) x y)) _ e in
-    let b = both (not (containsOf (l .dpad) x y)) _ (a .1) in
-    rw (a .0, b .0)
-
 -- the nearest of each kind, for the kind of space that it is
 by-space : (free outside : Bool) (f : Bool → Face) {p q : Face} → (free ≡ true → outside ≡ true) → p ≡ f outside → q ≡ f false → cond free (p .mask) (q .mask) ≡ f free .mask
 by-space true outside f o e k = ap (λ (x : Face). x .mask) (e ∙ ap f (o refl))
 by-space false outside f o e k = ap (λ (x : Face). x .mask) k
 
 returns : tie.Need-returns Inv-loop μ-loop
-unfolding maskNearOf
+unfolding maskNearOf isFreeOf
 returns c =
     let l = c .before .before .before in
     let s = l .before .before .before .args in
     let e : l .loop .i ≡ s .l .count = omega arith in
     let v = rw e at (l .loop .inv) in
     let o = l .before .before .outside in
-    let f = by-space (isFreeOf (s .l) (s .x) (s .y)) (o .result) (λ b. nearest (s .x) (s .y) b (s .previous) (controlList (s .l))) (λ h. o .ensures ∙ outside-of (s .l) (s .x) (s .y) h) (v .2) (v .3) in
+    let f = by-space (isFreeOf (s .l) (s .x) (s .y)) (o .result) (λ b. nearest (s .x) (s .y) b (s .previous) (controlList (s .l))) (λ h. o .ensures ∙ both (outsideOf (s .l) (s .x) (s .y)) _ h .0) (v .2) (v .3) in
     rw (← c .before .dpad-mask .ensures, ← v .1) (ap (bitOr (bitOr (c .before .dpad-mask .result) (l .loop .others))) (c .face-mask .ensures ∙ f))
 
 pub mask-near-spec : {M : Type 1} → statement M
