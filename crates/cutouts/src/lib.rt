@@ -1,4 +1,4 @@
-// A camera hole is a local obstruction, not an unusable strip: elements that lie on one move off it.
+// `avoid_cutouts` of input.rs: a camera hole is a local obstruction, not an unusable strip, and elements that lie on one move off it.
 ghost use mathlib.Core.Path.{_≡_};
 ghost use mathlib.Core.Bool.{true};
 ghost use mathlib.Core.List.{[], _∷_};

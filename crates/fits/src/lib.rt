@@ -16,7 +16,7 @@ struct Input {
     face: bool,
 }
 
-// The first `count` of the array: the d-pad, the controls, the sticks.
+// The first `count` of the array: the d-pad, the controls, the sticks; at most 1, 12 and 2.
 struct InputList {
     at: [Input; 15],
     count: usize,

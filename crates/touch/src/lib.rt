@@ -1,4 +1,4 @@
-// The buttons that a touch holds down.
+// `mask_near` of input.rs: the buttons that a touch holds down.
 ghost use mathlib.Core.Path.{_≡_};
 ghost use mathlib.Core.Bool.{false, cond, _&&_};
 ghost use Prim.Native.Nat.{_≤_};
