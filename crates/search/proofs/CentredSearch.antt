@@ -1,14 +1,14 @@
 -- The centred search. No exact rectangle that is centred and misses the obstacles is wider than its result by more than 9 of 1/256; and its result meets none by more than 5.
 use mathlib.Core.Path.{_≡_}
 use mathlib.Core.Logic.{inl, inr}
-use mathlib.Core.List.{List, map, foldl}
+use mathlib.Core.List.{List, map}
 use mathlib.Core.Bool.{Bool, not}
 use Prim.Native.Nat.{ℕ, _+_, _-_, _*_, _/_, _≤_, _<_}
 use native.Mathlib.Omega.{arith}
 use lib.Dec.{T}
 use lib.Ieee.{Float, le}
 use Rattle.prelude.specs.Each.{Each}
-use Rattle.prelude.specs.EachLaws.{each-imp, each-both, each-unmap, fold-ind, fold-each}
+use Rattle.prelude.specs.EachLaws.{each-imp, each-both, each-unmap, fold-ind}
 use Rattle.float.specs.Float.{_⊕_, _⊖_, _⊗_, _⊘_, k0, k0·01, k2}
 use Rattle.float.specs.MinMax.{maxOf}
 use Rattle.geometry.specs.declared.Rect.{Rect}
@@ -18,10 +18,10 @@ use Rattle.numerics.specs.Rects.{maxSide, maxArea}
 use Rattle.numerics.specs.Bounds.{Muls, sub-law, sub-most, mul-law, mul-most, div-law, div-most, most-more, le-law, max-ind, max-law, max-most, zero-most, zero-parts}
 use Rattle.numerics.specs.Literals.{f2}
 use Rattle.search.specs.Search.{bottomOf, bottoms, withinOf, narrowOf, widthAt, tryAt, centeredOf}
-use Rattle.search.proofs.Shapes.{corner, way, width, left-end, Shape, times-most, over-most, falls, stays}
-use Rattle.search.proofs.Candidates.{Edge, Good, Under, within-low, within-high, zero-within, find-last}
-use Rattle.search.proofs.Widths.{Wide, first-most, first-wide, first-low, under-first, above-end, cut, Cuts, narrow-most, narrow-less, narrow-cuts, narrow-wide, Turn, turn, turn-ind}
-use Rattle.search.proofs.Clearance.{Obstacle, Misses, isLeft, isRight, isAbove, isBelow, Apart, left, right, narrow, flat, Found, none-found, bottoms-most, passed-below, thin-below, drop-most, drop-grows, drop-above}
+use Rattle.search.proofs.Shapes.{corner, way, width, left-end, Shape, times-most, stays}
+use Rattle.search.proofs.Candidates.{Edge, Good, Under, within-low, zero-within, find-last}
+use Rattle.search.proofs.Widths.{Wide, first-most, first-wide, Cuts, narrow-wide, Turn, turn, fold-turn, turn-ind}
+use Rattle.search.proofs.Clearance.{Obstacle, Misses, isLeft, isRight, isAbove, isBelow, Apart, left, right, narrow, flat, Found, none-found, pass-most, found-at, bottoms-most, passed-below, thin-below, drop-most, drop-grows, drop-above}
 
 -- the middle of the area, and the way from it to an obstacle
 abbrev mid : ℕ
@@ -85,13 +85,6 @@ module _ (d : ℕ) (D : 0 < d) {a : Float} {p q : ℕ} (S : Shape a p q) {w h : 
         let z = zero-parts d in
         (omega arith, omega arith, omega arith)
 
-    -- an exact rectangle that is centred and has the obstacle at its right, or at its left
-    beside-right : (X0 W : ℕ) → X0 + X0 + W + N d w ≡ P d w → X0 + W + N d (r .x) ≤ P d (r .x) + 0 + E d * 1 → Wide d W (beside r)
-    beside-right X0 W centred l = omega (arith, c-law, beside-law, gap-law, sub-law d (o .x) c-most tt)
-
-    beside-left : (X0 W : ℕ) → X0 + X0 + W + N d w ≡ P d w → P d (r .x) + P d (r .w) + 0 ≤ X0 + N d (r .x) + N d (r .w) + E d * 1 → Wide d W (beside r)
-    beside-left X0 W centred l = omega (arith, c-law, beside-law, gap-law, sub-law d c-most (o .x) tt, sub-law d (sub-most c-most (o .x) tt) (o .w) tt)
-
     module _ {y : Float} (ym : Edge y) where
       drop0-most : AtMost (maxOf (r .y ⊖ y) k0) way
       drop0-most = max-most (drop-most d D S o ym) (most-more zero-most way tt)
@@ -110,8 +103,8 @@ module _ (d : ℕ) (D : 0 < d) {a : Float} {p q : ℕ} (S : Shape a p q) {w h : 
           g = let k = max-law d (beside r) (over y r) (beside-most .whole) (over-width .whole) in (k .first, k .second)
 
           go : Misses d 1 X0 0 Y0 0 W H r → Wide d W (limit y r)
-          go (isLeft l) = omega (arith, beside-right X0 W centred l, g)
-          go (isRight l) = omega (arith, beside-left X0 W centred l, g)
+          go (isLeft l) = omega (arith, c-law, beside-law, gap-law, sub-law d (o .x) c-most tt, g)
+          go (isRight l) = omega (arith, c-law, beside-law, gap-law, sub-law d c-most (o .x) tt, sub-law d (sub-most c-most (o .x) tt) (o .w) tt, g)
           go (isAbove l) = omega (arith, drop-grows d D S o ym W H Y0 drop0-most (max-law d (r .y ⊖ y) k0 (drop-most d D S o ym .whole) (zero-most .whole) .first) shape good l, g)
           go (isBelow l) = omega (arith, thin-below d D S o W H Y0 hm ym shape tall low u l n, beside-law, gap-law, g)
 
@@ -157,31 +150,24 @@ module _ (d : ℕ) (D : 0 < d) {a : Float} {p q : ℕ} (S : Shape a p q) {w h : 
     abbrev widthOf : Float → Float
     widthOf y = widthAt w h os a y
 
-    limits : {y : Float} → Edge y → Each (λ r. AtMost (limit y r) width) os
-    limits {y} ym = each-imp Obstacle (λ r. AtMost (limit y r) width) (λ r o. limit-most o ym) os fair
-
-    lows : {y : Float} → Edge y → Each (λ r. AtMost (limit y r) width × (T (not (skip y r)) → Wide d 0 (limit y r))) os
-    lows {y} ym =
-        each-imp Obstacle (λ r. AtMost (limit y r) width × (T (not (skip y r)) → Wide d 0 (limit y r)))
-        (λ r o. (limit-most o ym, λ n. omega (arith, beside-law o, gap-law o, max-law d (beside r) (over y r) (beside-most o .whole) (over-width o ym .whole)))) os fair
-
     wide-room : AtMost w width
     wide-room = most-more wm width tt
 
     width-most : {y : Float} → Edge y → AtMost (widthOf y) width
     unfolding widthAt narrowOf
-    width-most {y} ym = narrow-most d (skip y) (limit y) os _ (first-most d S hm ym wide-room) (limits ym)
+    width-most {y} ym = pass-most d S hm ym wide-room (skip y) (limit y) os fair (λ r o. limit-most o ym)
 
-    tried : (best : Rect) (y : Float) → AtMost (best .w) width → Edge y → Turn d best (tryAt w h os a best y) (withinOf y h) (widthOf y)
+    -- the picture g is as wide as the one at y
+    abbrev Reaches : Float → Rect → Type 0
+    Reaches y g = T (withinOf y h) → Le d (widthOf y) (g .w)
+
+    tried : (best : Rect) (y : Float) → AtMost (best .w) width → Edge y → Turn d best (tryAt w h os a best y) (Reaches y)
     unfolding tryAt
     tried best y bm ym = turn d best ((w ⊖ widthOf y) ⊘ k2) y (widthOf y) a (withinOf y h) bm (width-most ym)
 
-    -- the result is as wide as any candidate
-    reached : Each (λ y. T (withinOf y h) → Le d (widthOf y) (centeredOf w h os a .w)) (bottoms os)
+    reached : Each (λ y. Reaches y (centeredOf w h os a)) (bottoms os)
     unfolding centeredOf
-    reached =
-        fold-each (λ g. AtMost (g .w) width) Edge (tryAt w h os a) (λ g y m e. tried g y m e .most) (λ g y. T (withinOf y h) → Le d (widthOf y) (g .w)) (λ g y m e. tried g y m e .reached)
-        (λ g x y m e k t. omega (arith, k t, tried g y m e .grown)) (bottoms os) emptyRect (most-more zero-most width tt) (bottoms-most os fair)
+    reached = fold-turn d (tryAt w h os a) Reaches tried (λ y g next l k t. omega (arith, k t)) (bottoms os) emptyRect (most-more zero-most width tt) (bottoms-most os fair) .reached
 
     pub centred-widest : (X0 Y0 W H : ℕ) → W * q ≡ H * p → X0 + X0 + W + N d w ≡ P d w → Y0 + H + N d h ≤ P d h → Each (Misses d 1 X0 0 Y0 0 W H) os → Wide d W (centeredOf w h os a .w)
     centred-widest X0 Y0 W H shape centred tall misses =
@@ -203,32 +189,12 @@ module _ (d : ℕ) (D : 0 < d) {a : Float} {p q : ℕ} (S : Shape a p q) {w h : 
     at-centre : (y : Float) → Edge y → T (withinOf y h) → Found d w h os (newOf ((w ⊖ widthOf y) ⊘ k2) y (widthOf y) (widthOf y ⊘ a))
     unfolding widthAt narrowOf
     at-centre y ym t =
-        let f = first-most d S hm ym wide-room in
-        let z = foldl (cut d (skip y) (limit y)) _ os in
-        let zm = narrow-most d (skip y) (limit y) os _ f (limits ym) in
-        let l = narrow-less d (skip y) (limit y) os _ f (limits ym) in
-        let k = narrow-cuts d (skip y) (limit y) os _ f (limits ym) in
+        let zm = width-most ym in
         let e = sub-law d wm zm tt in
         let x = div-law d (sub-most wm zm tt) f2 tt in
-        let zw : Le d z w = under-first d S hm ym wide-room z l (λ b c. b) (λ b. (let o = zero-parts d in omega (arith, le-law d k0 w (zero-most .whole) (wm .whole) w0))) in
-        let y0 = within-low d hm ym t in
         let o = zero-parts d in
-        let low : Wide d 0 z = narrow-wide d (skip y) (limit y) 0 os _ f (first-low d S hm ym wide-room) (lows ym) in
-        record {
-          inside = record {
-            xm = div-most (left-end - 1) (sub-most wm zm tt) f2 tt tt;
-            ym = ym;
-            wm = zm;
-            hm = over-most S zm;
-            wide = omega (arith, low);
-            high = falls S d zm (omega (arith, low));
-            fromleft = omega arith;
-            toright = omega arith;
-            fromtop = omega arith;
-            tobottom = above-end d S hm ym wide-room zm (within-high d hm ym t) l;
-          };
-          apart = each-imp _ _ (λ r c. by-cuts (c .0) ym zm (c .1)) os (each-both _ _ os fair k);
-        }
+        found-at d S hm ym wide-room (skip y) (limit y) os fair (λ r o. limit-most o ym) t (div-most (left-end - 1) (sub-most wm zm tt) f2 tt tt) (omega (arith, le-law d k0 w (zero-most .whole) (wm .whole) w0)) (λ b. (omega arith, omega arith))
+        (λ r o n. omega (arith, beside-law o, gap-law o, max-law d (beside r) (over y r) (beside-most o .whole) (over-width o ym .whole))) (λ r o c. by-cuts o ym zm c)
 
     pub centred-found : Found d w h os (centeredOf w h os a)
     unfolding centeredOf tryAt

@@ -1,23 +1,25 @@
 -- One obstacle against an exact rectangle, and against a picture that the search found; the parts that both searches share. Bounds in 256ths.
 use mathlib.Core.Path.{_≡_}
-use mathlib.Core.List.{List}
-use mathlib.Core.Bool.{not}
+use mathlib.Core.List.{List, _∷_, map, foldl}
+use mathlib.Core.Bool.{Bool, not}
 use Prim.Native.Nat.{ℕ, _+_, _*_, _≤_, _<_}
 use native.Mathlib.Omega.{arith}
 use lib.Dec.{T}
 use lib.Ieee.{Float, le}
 use Rattle.prelude.specs.Each.{Each}
-use Rattle.prelude.specs.EachLaws.{each-map, each-imp}
+use Rattle.prelude.specs.EachLaws.{each-map, each-imp, each-both}
 use Rattle.float.specs.Float.{_⊕_, _⊖_, _⊗_, _⊘_, k0, k0·01}
+use Rattle.float.specs.MinMax.{minOf, maxOf}
 use Rattle.geometry.specs.declared.Rect.{Rect}
 use Rattle.geometry.specs.Rect.{newOf, emptyRect}
 use Rattle.numerics.specs.Value.{AtMost, P, N, E, Le}
 use Rattle.numerics.specs.Rects.{maxSide, maxArea}
 use Rattle.numerics.specs.Bounds.{add-law, add-most, sub-law, sub-most, le-law, zero-most, zero-parts, most-more}
 use Rattle.numerics.specs.Literals.{hundredth-most, hundredth}
-use Rattle.search.specs.Search.{bottomOf, rightOf, bottoms, rights}
-use Rattle.search.proofs.Shapes.{corner, edge, way, width, left-end, Shape, grows, stays, thin}
-use Rattle.search.proofs.Candidates.{Edge, Good, Under, escape}
+use Rattle.search.specs.Search.{bottomOf, rightOf, bottoms, rights, withinOf}
+use Rattle.search.proofs.Shapes.{corner, edge, way, width, left-end, Shape, over-most, falls, grows, stays, thin}
+use Rattle.search.proofs.Candidates.{Edge, Good, Under, within-low, within-high, escape}
+use Rattle.search.proofs.Widths.{Wide, first-most, first-low, under-first, above-end, cut, Cuts, narrow-most, narrow-less, narrow-cuts, narrow-wide}
 
 -- an element in the area's frame
 pub record Obstacle (r : Rect) : Type 0 where
@@ -79,18 +81,57 @@ none-found d os w0 h0 e =
       apart = each-imp Obstacle (Apart d 5 emptyRect) (λ r f. narrow (omega arith)) os e;
     }
 
--- ---- the far edges
-pub bottom-most : {r : Rect} → Obstacle r → Edge (bottomOf r)
-bottom-most o = add-most (o .y) (o .h) tt
+-- ---- a place y of a search: the width z that the pass over the obstacles leaves of the room across and the height
+module _ (d : ℕ) {a : Float} {p q : ℕ} (S : Shape a p q) {h y room : Float} (hm : AtMost h maxArea) (ym : Edge y) (rm : AtMost room width)
+    (skip : Rect → Bool) (limit : Rect → Float) (os : List Rect) (fair : Each Obstacle os) (lm : (r : Rect) → Obstacle r → AtMost (limit r) width) where
+  abbrev z : Float
+  z = foldl (cut d skip limit) (maxOf (minOf room ((h ⊖ y) ⊗ a)) k0) os
 
-pub right-most : {r : Rect} → Obstacle r → Edge (rightOf r)
-right-most o = add-most (o .x) (o .w) tt
+  limits : Each (λ r. AtMost (limit r) width) os
+  limits = each-imp Obstacle (λ r. AtMost (limit r) width) lm os fair
+
+  pub pass-most : AtMost z width
+  pass-most = narrow-most d skip limit os _ (first-most d S hm ym rm) limits
+
+  pass-less : Le d z (maxOf (minOf room ((h ⊖ y) ⊗ a)) k0)
+  pass-less = narrow-less d skip limit os _ (first-most d S hm ym rm) limits
+
+  -- a picture at x, where the room is not below zero by more than 1: it lies in the area across if z is not above the room by more than that, and is apart from what limits it
+  pub found-at : {w x : Float} → T (withinOf y h) → AtMost x left-end → N d room ≤ P d room + E d
+      → (P d z + N d room ≤ P d room + N d z + E d → (N d x ≤ P d x + E d * 2) × (P d x + P d z + N d w ≤ P d w + N d x + N d z + E d * 5))
+      → ((r : Rect) → Obstacle r → T (not (skip r)) → Wide d 0 (limit r)) → ((r : Rect) → Obstacle r → Cuts d skip limit z r → Apart d 5 (newOf x y z (z ⊘ a)) r)
+      → Found d w h os (newOf x y z (z ⊘ a))
+  found-at t xm some across low apart =
+      let f = first-most d S hm ym rm in
+      let wide : Wide d 0 z = narrow-wide d skip limit 0 os _ f (first-low d S hm ym rm) (each-imp Obstacle (λ r. AtMost (limit r) width × (T (not (skip r)) → Wide d 0 (limit r))) (λ r o. (lm r o, low r o)) os fair) in
+      let y0 = within-low d hm ym t in
+      let o = zero-parts d in
+      let x = across (under-first d S hm ym rm z pass-less (λ b c. omega arith) (λ b. omega arith)) in
+      record {
+        inside = record {
+          xm = xm;
+          ym = ym;
+          wm = pass-most;
+          hm = over-most S pass-most;
+          wide = omega arith;
+          high = falls S d pass-most (omega arith);
+          fromleft = x .0;
+          toright = x .1;
+          fromtop = omega arith;
+          tobottom = above-end d S hm ym rm pass-most (within-high d hm ym t) pass-less;
+        };
+        apart = each-imp _ _ (λ r c. apart r (c .0) (c .1)) os (each-both _ _ os fair (narrow-cuts d skip limit os _ f limits));
+      }
+
+-- ---- the far edges
+edges-most : (f : Rect → Float) → ((r : Rect) → Obstacle r → Edge (f r)) → (os : List Rect) → Each Obstacle os → Each Edge (k0 ∷ map f os)
+edges-most f most os e = (most-more zero-most edge tt, each-map Edge f os (each-imp Obstacle (λ r. Edge (f r)) most os e))
 
 pub bottoms-most : (os : List Rect) → Each Obstacle os → Each Edge (bottoms os)
-bottoms-most os e = (most-more zero-most edge tt, each-map Edge bottomOf os (each-imp Obstacle (λ r. Edge (bottomOf r)) (λ r o. bottom-most o) os e))
+bottoms-most os e = edges-most bottomOf (λ r o. add-most (o .y) (o .h) tt) os e
 
 pub rights-most : (os : List Rect) → Each Obstacle os → Each Edge (rights os)
-rights-most os e = (most-more zero-most edge tt, each-map Edge rightOf os (each-imp Obstacle (λ r. Edge (rightOf r)) (λ r o. right-most o) os e))
+rights-most os e = edges-most rightOf (λ r o. add-most (o .x) (o .w) tt) os e
 
 -- on one axis: an obstacle from u on, s long, and a place y
 module _ (d : ℕ) {u s : Float} (um : AtMost u corner) (sm : AtMost s maxSide) where

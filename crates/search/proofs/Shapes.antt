@@ -72,17 +72,11 @@ stays-go g g' w w' r r' x x' e A B D c a b l =
     let z : (g + x') * A ≤ (x + g' + e * 2) * A = omega arith in
     le-of-mul-le-mul-right z D
 
-sinks-go : (g g' w w' e A B : ℕ) → 0 < A → w ≤ w' → g * A + w' * B ≤ g' * A + w * B + e * A → g ≤ g' + e
-sinks-go g g' w w' e A B D a l =
+falls-go : (g g' w w' e u A B : ℕ) → 0 < A → B ≤ A → w' ≤ w + u → g' * A + w * B ≤ g * A + w' * B + e * A → g' ≤ g + e + u
+falls-go g g' w w' e u A B D c a l =
     let k = mul-le-mul-right B a in
-    let z : g * A ≤ (g' + e) * A = omega arith in
-    le-of-mul-le-mul-right z D
-
-falls-go : (g g' w w' e A B : ℕ) → 0 < A → B ≤ A → w' ≤ w + e * 9 → g' * A + w * B ≤ g * A + w' * B + e * A → g' ≤ g + e * 10
-falls-go g g' w w' e A B D c a l =
-    let k = mul-le-mul-right B a in
-    let m = mul-le-mul-left (e * 9) c in
-    let z : g' * A ≤ (g + e * 10) * A = omega arith in
+    let m = mul-le-mul-left u c in
+    let z : g' * A ≤ (g + e + u) * A = omega arith in
     le-of-mul-le-mul-right z D
 
 module _ {a : Float} {p q : ℕ} (S : Shape a p q) where
@@ -118,7 +112,7 @@ module _ {a : Float} {p q : ℕ} (S : Shape a p q) where
       stays-go (P d (w ⊘ a)) (N d (w ⊘ a)) (P d w) (N d w) (P d (x ⊗ a)) (N d (x ⊗ a)) (P d x) (N d x) (E d) A B (S .is .above) (S .one) h (mul-law d f (S .is) mul-room .over) (div-law d g (S .is) div-room .over)
 
   pub sinks : (d : ℕ) {w : Float} → AtMost w width → P d w ≤ N d w → P d (w ⊘ a) ≤ N d (w ⊘ a) + E d
-  sinks d {w} g h = sinks-go (P d (w ⊘ a)) (N d (w ⊘ a)) (P d w) (N d w) (E d) A B (S .is .above) h (div-law d g (S .is) div-room .over)
+  sinks d {w} g h = omega (arith, falls-go (N d (w ⊘ a)) (P d (w ⊘ a)) (N d w) (P d w) (E d) 0 A B (S .is .above) (S .one) (omega arith) (div-law d g (S .is) div-room .over))
 
   pub falls : (d : ℕ) {w : Float} → AtMost w width → N d w ≤ P d w + E d * 9 → N d (w ⊘ a) ≤ P d (w ⊘ a) + E d * 10
-  falls d {w} g h = falls-go (P d (w ⊘ a)) (N d (w ⊘ a)) (P d w) (N d w) (E d) A B (S .is .above) (S .one) h (div-law d g (S .is) div-room .under)
+  falls d {w} g h = omega (arith, falls-go (P d (w ⊘ a)) (N d (w ⊘ a)) (P d w) (N d w) (E d) (E d * 9) A B (S .is .above) (S .one) h (div-law d g (S .is) div-room .under))

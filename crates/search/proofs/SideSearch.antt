@@ -9,7 +9,7 @@ use native.Mathlib.Omega.{arith}
 use lib.Dec.{T}
 use lib.Ieee.{Float, le}
 use Rattle.prelude.specs.Each.{Each}
-use Rattle.prelude.specs.EachLaws.{each-imp, each-both, each-unmap, fold-ind, fold-each}
+use Rattle.prelude.specs.EachLaws.{each-imp, each-both, each-unmap, fold-ind}
 use Rattle.prelude.specs.Booleans.{or-case, nor-l, nor-r}
 use Rattle.float.specs.Float.{_⊕_, _⊖_, _⊗_, _⊘_, k0, k0·01}
 use Rattle.float.specs.MinMax.{maxOf}
@@ -19,10 +19,10 @@ use Rattle.numerics.specs.Value.{AtMost, P, N, Le}
 use Rattle.numerics.specs.Rects.{maxArea}
 use Rattle.numerics.specs.Bounds.{sub-law, sub-most, most-more, le-law, max-ind, max-law, max-most, zero-most, zero-parts}
 use Rattle.search.specs.Search.{bottomOf, rightOf, bottoms, rights, withinOf, narrowSideOf, sideWidthAt, trySideAt, tryColumn, sideOf}
-use Rattle.search.proofs.Shapes.{width, left-end, Shape, times-most, over-most, falls}
+use Rattle.search.proofs.Shapes.{width, left-end, Shape, times-most}
 use Rattle.search.proofs.Candidates.{Edge, Good, Under, within-low, within-high, zero-within, find-last}
-use Rattle.search.proofs.Widths.{Wide, first-most, first-wide, first-low, under-first, above-end, Cuts, narrow-most, narrow-less, narrow-cuts, narrow-wide, Turn, turn, turn-ind}
-use Rattle.search.proofs.Clearance.{Obstacle, Misses, isLeft, isRight, isAbove, isBelow, Apart, left, narrow, Found, none-found, bottoms-most, rights-most, passed-below, passed-right, thin-below, thin-right, drop-most, drop-grows, drop-above}
+use Rattle.search.proofs.Widths.{Wide, first-most, first-wide, Cuts, narrow-wide, Turn, turn, fold-turn, turn-ind}
+use Rattle.search.proofs.Clearance.{Obstacle, Misses, isLeft, isRight, isAbove, isBelow, Apart, left, narrow, Found, none-found, pass-most, found-at, bottoms-most, rights-most, passed-below, passed-right, thin-below, thin-right, drop-most, drop-grows, drop-above}
 
 module _ (d : ℕ) (D : 0 < d) {a : Float} {p q : ℕ} (S : Shape a p q) {w h : Float} (wm : AtMost w maxArea) (hm : AtMost h maxArea) where
   abbrev limit : Float → Float → Rect → Float
@@ -79,56 +79,38 @@ module _ (d : ℕ) (D : 0 < d) {a : Float} {p q : ℕ} (S : Shape a p q) {w h : 
     abbrev widthOf : Float → Float → Float
     widthOf x y = sideWidthAt w h os a x y
 
-    abbrev best-most : Rect → Type 0
-    best-most g = AtMost (g .w) width
-
-    limits : {x y : Float} → Edge x → Edge y → Each (λ r. AtMost (limit x y r) width) os
-    limits {x} {y} xm ym = each-imp Obstacle (λ r. AtMost (limit x y r) width) (λ r o. limit-most o xm ym) os fair
-
-    lows : {x y : Float} → Edge x → Edge y → Each (λ r. AtMost (limit x y r) width × (T (not (skip x y r)) → Wide d 0 (limit x y r))) os
-    lows {x} {y} xm ym =
-        each-imp Obstacle (λ r. AtMost (limit x y r) width × (T (not (skip x y r)) → Wide d 0 (limit x y r))) (λ r o. (limit-most o xm ym, λ n. omega (arith, limit-law o xm ym))) os fair
-
     room-most : {x : Float} → Edge x → AtMost (w ⊖ x) width
     room-most xm = most-more (sub-most wm xm tt) width tt
 
     width-most : {x y : Float} → Edge x → Edge y → AtMost (widthOf x y) width
     unfolding sideWidthAt narrowSideOf
-    width-most {x} {y} xm ym = narrow-most d (skip x y) (limit x y) os _ (first-most d S hm ym (room-most xm)) (limits xm ym)
+    width-most {x} {y} xm ym = pass-most d S hm ym (room-most xm) (skip x y) (limit x y) os fair (λ r o. limit-most o xm ym)
 
-    tried : (x : Float) → Edge x → (g : Rect) (y : Float) → best-most g → Edge y → Turn d g (trySideAt w h os a x g y) (withinOf y h) (widthOf x y)
+    -- the picture g is as wide as the one at x and y, or as any at x
+    abbrev Reaches : Float → Float → Rect → Type 0
+    Reaches x y g = T (withinOf y h) → Le d (widthOf x y) (g .w)
+
+    abbrev Column : Float → Rect → Type 0
+    Column x g = T (withinOf x w) → Each (λ y. Reaches x y g) (bottoms os)
+
+    wider : (x y : Float) (g next : Rect) → Le d (g .w) (next .w) → Reaches x y g → Reaches x y next
+    wider x y g next l k t = omega (arith, k t)
+
+    tried : (x : Float) → Edge x → (g : Rect) (y : Float) → AtMost (g .w) width → Edge y → Turn d g (trySideAt w h os a x g y) (Reaches x y)
     unfolding trySideAt
     tried x xm g y m ym = turn d g x y (widthOf x y) a (withinOf y h) m (width-most xm ym)
 
-    -- a column is as wide as any candidate in it, and keeps what was wider
-    pub record Column (x : Float) (ok : Bool) (g next : Rect) : Type 0 where
-      pub most : best-most next
-      pub grown : Le d (g .w) (next .w)
-      pub reaches : T ok → Each (λ y. T (withinOf y h) → Le d (widthOf x y) (next .w)) (bottoms os)
-
-    column : (g : Rect) (x : Float) → best-most g → Edge x → Column x (withinOf x w) g (tryColumn w h os a g x)
+    column : (g : Rect) (x : Float) → AtMost (g .w) width → Edge x → Turn d g (tryColumn w h os a g x) (Column x)
     unfolding tryColumn
-    column g x m xm = go (withinOf x w)
+    column g x m xm = go (withinOf x w) (fold-turn d (trySideAt w h os a x) (Reaches x) (tried x xm) (wider x) (bottoms os) g m (bottoms-most os fair))
       where
-        both : best-most (foldl (trySideAt w h os a x) g (bottoms os)) × Le d (g .w) (foldl (trySideAt w h os a x) g (bottoms os) .w)
-        both =
-            fold-ind (λ b. best-most b × Le d (g .w) (b .w)) Edge (trySideAt w h os a x) (λ b y k e. (let t = tried x xm b y (k .0) e in (t .most, omega (arith, k .1, t .grown))))
-            (bottoms os) g (m, le-refl (P d (g .w) + N d (g .w))) (bottoms-most os fair)
+        go : {next : Rect} (ok : Bool) → Turn d g next (λ b. Each (λ y. Reaches x y b) (bottoms os)) → Turn d g (cond ok next g) (λ b. T ok → Each (λ y. Reaches x y b) (bottoms os))
+        go true k = record { most = k .most; grown = k .grown; reached = λ t. k .reached }
+        go false k = record { most = m; grown = le-refl (P d (g .w) + N d (g .w)); reached = λ t. absurd t }
 
-        all : Each (λ y. T (withinOf y h) → Le d (widthOf x y) (foldl (trySideAt w h os a x) g (bottoms os) .w)) (bottoms os)
-        all =
-            fold-each best-most Edge (trySideAt w h os a x) (λ b y k e. tried x xm b y k e .most) (λ b y. T (withinOf y h) → Le d (widthOf x y) (b .w)) (λ b y k e. tried x xm b y k e .reached)
-            (λ b z y k e l t. omega (arith, l t, tried x xm b y k e .grown)) (bottoms os) g m (bottoms-most os fair)
-
-        go : (ok : Bool) → Column x ok g (cond ok (foldl (trySideAt w h os a x) g (bottoms os)) g)
-        go true = record { most = both .0; grown = both .1; reaches = λ t. all }
-        go false = record { most = m; grown = le-refl (P d (g .w) + N d (g .w)); reaches = λ t. absurd t }
-
-    reached : Each (λ x. T (withinOf x w) → Each (λ y. T (withinOf y h) → Le d (widthOf x y) (sideOf w h os a .w)) (bottoms os)) (rights os)
+    reached : Each (λ x. Column x (sideOf w h os a)) (rights os)
     unfolding sideOf
-    reached =
-        fold-each best-most Edge (tryColumn w h os a) (λ g x m e. column g x m e .most) (λ g x. T (withinOf x w) → Each (λ y. T (withinOf y h) → Le d (widthOf x y) (g .w)) (bottoms os))
-        (λ g x m e. column g x m e .reaches) (λ g z x m e k t. each-imp _ _ (λ y l s. omega (arith, l s, column g x m e .grown)) (bottoms os) (k t)) (rights os) emptyRect (most-more zero-most width tt) (rights-most os fair)
+    reached = fold-turn d (tryColumn w h os a) Column column (λ x g next l k t. each-imp _ _ (λ y. wider x y g next l) (bottoms os) (k t)) (rights os) emptyRect (most-more zero-most width tt) (rights-most os fair) .reached
 
     pub side-widest : (X0 Y0 W H : ℕ) → W * q ≡ H * p → X0 + W + N d w ≤ P d w → Y0 + H + N d h ≤ P d h → Each (Misses d 1 X0 0 Y0 0 W H) os → Wide d W (sideOf w h os a .w)
     side-widest X0 Y0 W H shape broad tall misses =
@@ -152,30 +134,11 @@ module _ (d : ℕ) (D : 0 < d) {a : Float} {p q : ℕ} (S : Shape a p q) {w h : 
     at-side : (x y : Float) → Edge x → Edge y → T (withinOf x w) → T (withinOf y h) → Found d w h os (newOf x y (widthOf x y) (widthOf x y ⊘ a))
     unfolding sideWidthAt narrowSideOf
     at-side x y xm ym s t =
-        let f = first-most d S hm ym (room-most xm) in
-        let zm = narrow-most d (skip x y) (limit x y) os _ f (limits xm ym) in
-        let l = narrow-less d (skip x y) (limit x y) os _ f (limits xm ym) in
-        let k = narrow-cuts d (skip x y) (limit x y) os _ f (limits xm ym) in
         let e = sub-law d wm xm tt in
         let x0 = within-low d wm xm s in
-        let y0 = within-low d hm ym t in
         let o = zero-parts d in
-        let low = narrow-wide d (skip x y) (limit x y) 0 os _ f (first-low d S hm ym (room-most xm)) (lows xm ym) in
-        record {
-          inside = record {
-            xm = most-more xm left-end tt;
-            ym = ym;
-            wm = zm;
-            hm = over-most S zm;
-            wide = omega (arith, low);
-            high = falls S d zm (omega (arith, low));
-            fromleft = omega arith;
-            toright = under-first d S hm ym (room-most xm) _ l (λ b c. omega arith) (λ b. (let i = within-high d wm xm s in omega arith));
-            fromtop = omega arith;
-            tobottom = above-end d S hm ym (room-most xm) zm (within-high d hm ym t) l;
-          };
-          apart = each-imp _ _ (λ r c. by-cuts (c .0) xm ym zm (c .1)) os (each-both _ _ os fair k);
-        }
+        found-at d S hm ym (room-most xm) (skip x y) (limit x y) os fair (λ r o. limit-most o xm ym) t (most-more xm left-end tt) (omega (arith, within-high d wm xm s)) (λ b. (omega arith, omega arith))
+        (λ r o n. omega (arith, limit-law o xm ym)) (λ r o c. by-cuts o xm ym (width-most xm ym) c)
 
     pub side-found : Found d w h os (sideOf w h os a)
     unfolding sideOf tryColumn trySideAt

@@ -1,7 +1,7 @@
 -- What the two searches share: the first width at a place, the pass over the obstacles, and the choice of the wider picture. Bounds in 256ths.
 use mathlib.Core.Path.{_≡_}
 use mathlib.Core.Logic.{_⊎_, inl, inr}
-use mathlib.Core.List.{List, foldl}
+use mathlib.Core.List.{List, [], _∷_, foldl}
 use mathlib.Core.Bool.{Bool, true, false, not, _&&_, _||_, cond}
 use Prim.Native.Nat.{ℕ, _+_, _*_, _≤_}
 use native.Mathlib.Nat.{le-refl}
@@ -111,13 +111,14 @@ module _ (d : ℕ) (skip : Rect → Bool) (limit : Rect → Float) where
       one : (z : Float) (r : Rect) → AtMost z width × Wide d W z → Limited r × (T (not (skip r)) → Wide d W (limit r)) → Wide d W (cut z r)
       one z r f g = by-test (Wide d W) (skip r) (λ t. f .1) (λ t. min-ind d z (limit r) (f .0 .whole) (g .0 .whole) (Wide d W) (λ l. f .1) (λ l. g .1 t))
 
--- ---- the choice of the wider picture, at a place that is a candidate if ok
-pub record Turn (d : ℕ) (best next : Rect) (ok : Bool) (v : Float) : Type 0 where
+-- ---- the choice of the wider picture, after which R holds of it
+pub record Turn (d : ℕ) (best next : Rect) (R : Rect → Type 0) : Type 0 where
   pub most : AtMost (next .w) width
   pub grown : Le d (best .w) (next .w)
-  pub reached : T ok → Le d v (next .w)
+  pub reached : R next
 
-pub turn : (d : ℕ) (best : Rect) (x y v a : Float) (ok : Bool) → AtMost (best .w) width → AtMost v width → Turn d best (cond ok (betterOf best x y v a) best) ok v
+-- at a place that is a candidate if ok
+pub turn : (d : ℕ) (best : Rect) (x y v a : Float) (ok : Bool) → AtMost (best .w) width → AtMost v width → Turn d best (cond ok (betterOf best x y v a) best) (λ g. T ok → Le d v (g .w))
 unfolding betterOf
 turn d best x y v a ok bm vm = go ok (lt (best .w) v || (eq v (best .w) && lt y (best .y))) up down
   where
@@ -129,10 +130,19 @@ turn d best x y v a ok bm vm = go ok (lt (best .w) v || (eq v (best .w) && lt y 
     down : T (not (lt (best .w) v || (eq v (best .w) && lt y (best .y)))) → Le d v (best .w)
     down t = lt-not d (best .w) v (bm .whole) (vm .whole) (nor-l (lt (best .w) v) (eq v (best .w) && lt y (best .y)) t)
 
-    go : (ok b : Bool) → (T b → Le d (best .w) v) → (T (not b) → Le d v (best .w)) → Turn d best (cond ok (cond b (newOf x y v (v ⊘ a)) best) best) ok v
+    go : (ok b : Bool) → (T b → Le d (best .w) v) → (T (not b) → Le d v (best .w)) → Turn d best (cond ok (cond b (newOf x y v (v ⊘ a)) best) best) (λ g. T ok → Le d v (g .w))
     go true true u n = record { most = vm; grown = u tt; reached = λ t. le-refl (P d v + N d v) }
     go true false u n = record { most = bm; grown = le-refl (P d (best .w) + N d (best .w)); reached = λ t. n tt }
     go false b u n = record { most = bm; grown = le-refl (P d (best .w) + N d (best .w)); reached = λ t. absurd t }
+
+-- turn by turn: what a wider picture keeps holds in the end for each place
+pub fold-turn : (d : ℕ) (step : Rect → Float → Rect) (R : Float → Rect → Type 0) → ((g : Rect) (y : Float) → AtMost (g .w) width → Edge y → Turn d g (step g y) (R y))
+    → ((y : Float) (g next : Rect) → Le d (g .w) (next .w) → R y g → R y next) → (ys : List Float) (g : Rect) → AtMost (g .w) width → Each Edge ys → Turn d g (foldl step g ys) (λ next. Each (λ y. R y next) ys)
+fold-turn d step R turn keep [] g m e = record { most = m; grown = le-refl (P d (g .w) + N d (g .w)); reached = tt }
+fold-turn d step R turn keep (y ∷ ys) g m e =
+    let t = turn g y m (e .0) in
+    let k = fold-turn d step R turn keep ys (step g y) (t .most) (e .1) in
+    record { most = k .most; grown = omega (arith, t .grown, k .grown); reached = (keep y (step g y) (foldl step (step g y) ys) (k .grown) (t .reached), k .reached) }
 
 -- what holds of both pictures holds of the one chosen
 pub turn-ind : (C : Rect → Type 0) (best : Rect) (x y v a : Float) (ok : Bool) → C best → (T ok → C (newOf x y v (v ⊘ a))) → C (cond ok (betterOf best x y v a) best)
