@@ -166,18 +166,6 @@ module _ {b : Rect} (B : Area b) {a : Float} {p q : ℕ} (S : Shape a p q) (es :
     sides : T (leZ (o .x) (r .x)) × T (leZ (rightEdge r) (rightEdge o)) × T (leZ (o .y) (r .y)) × T (leZ (lowerEdge r) (lowerEdge o))
     sides = all-four (leZ (o .x) (r .x)) (leZ (rightEdge r) (rightEdge o)) (leZ (o .y) (r .y)) (leZ (lowerEdge r) (lowerEdge o)) (R .within)
 
-    in-left : above (o .x) + below (r .x) ≤ above (r .x) + below (o .x)
-    in-left = le-parts (o .x) (r .x) (sides .0)
-
-    in-right : above (rightEdge r) + below (rightEdge o) ≤ above (rightEdge o) + below (rightEdge r)
-    in-right = le-parts (rightEdge r) (rightEdge o) (sides .1)
-
-    in-top : above (o .y) + below (r .y) ≤ above (r .y) + below (o .y)
-    in-top = le-parts (o .y) (r .y) (sides .2)
-
-    in-bottom : above (lowerEdge r) + below (lowerEdge o) ≤ above (lowerEdge o) + below (lowerEdge r)
-    in-bottom = le-parts (lowerEdge r) (lowerEdge o) (sides .3)
-
     -- X0 and Y0 are the rival's corner in the area's frame
     module _ (X0 Y0 : ℕ) (ex : X0 + (below (r .x) + P d (b .x)) ≡ above (r .x) + N d (b .x)) (ey : Y0 + (below (r .y) + P d (b .y)) ≡ above (r .y) + N d (b .y)) where
       placing : (middle r ≡ middle o) ⊎ (value found ≡ pos 0) → (X0 + X0 + above (r .w) + N d (b .w) ≡ P d (b .w)) ⊎ T (not (lt k0 found))
@@ -193,15 +181,15 @@ module _ {b : Rect} (B : Area b) {a : Float} {p q : ℕ} (S : Shape a p q) (es :
           bound d (game .w) (r .w) (the-game B S es F offset ox oy d D .finite .w) w0
           (game-wide B S es F offset ox oy d D X0 Y0 (above (r .x)) (below (r .x)) (above (r .y)) (below (r .y)) (above (r .w)) (above (r .h))
           (omega arith) (omega arith) shape
-          (omega (arith, in-right, add-parts (r .x) (r .w), add-parts (o .x) (o .w), area, w0))
-          (omega (arith, in-bottom, add-parts (r .y) (r .h), add-parts (o .y) (o .h), area, h0))
+          (omega (arith, le-parts (rightEdge r) (rightEdge o) (sides .1), add-parts (r .x) (r .w), add-parts (o .x) (o .w), area, w0))
+          (omega (arith, le-parts (lowerEdge r) (lowerEdge o) (sides .3), add-parts (r .y) (r .h), add-parts (o .y) (o .h), area, h0))
           (each-imp _ _ (λ e k. (k .0, missed d r e (k .0) w0 h0 (k .1))) es (each-both _ _ es F (R .clear)))
           (placing (R .centred)))
 
     rival : T (leZ (r .w) ((value (game .w) +ℤ pos sixteenth) *ℤ pos d))
     rival =
         rival-at (above (r .x) + N d (b .x) - (below (r .x) + P d (b .x))) (above (r .y) + N d (b .y) - (below (r .y) + P d (b .y)))
-        (sub-add-cancel (omega (arith, in-left, area))) (sub-add-cancel (omega (arith, in-top, area)))
+        (sub-add-cancel (omega (arith, le-parts (o .x) (r .x) (sides .0), area))) (sub-add-cancel (omega (arith, le-parts (o .y) (r .y) (sides .2), area)))
 
   pub game-widest : Widest p q es b found game
   game-widest =
