@@ -20,7 +20,7 @@ use Rattle.numerics.specs.Literals.{f2}
 use Rattle.search.specs.Search.{bottomOf, bottoms, withinOf, narrowOf, widthAt, tryAt, centeredOf}
 use Rattle.search.proofs.Shapes.{corner, way, width, left-end, Shape, times-most, stays}
 use Rattle.search.proofs.Candidates.{Edge, Good, Under, within-low, zero-within, find-last}
-use Rattle.search.proofs.Widths.{Wide, first-most, first-wide, Cuts, narrow-wide, Turn, turn, fold-turn, turn-ind}
+use Rattle.search.proofs.Widths.{Wide, first-most, first-wide, Cuts, narrow-wide, turn, fold-turn, turn-ind}
 use Rattle.search.proofs.Clearance.{Obstacle, Misses, isLeft, isRight, isAbove, isBelow, Apart, left, right, narrow, flat, Found, none-found, pass-most, found-at, bottoms-most, passed-below, thin-below, drop-most, drop-grows, drop-above}
 
 -- the middle of the area, and the way from it to an obstacle
@@ -138,12 +138,9 @@ module _ (d : ℕ) (D : 0 < d) {a : Float} {p q : ℕ} (S : Shape a p q) {w h : 
             (λ k um (b : Le d z (k0 ⊗ a)). flat (omega (arith, stays S d um zm b)))
             drop0-most l
 
-        by-limit : Le d z (limit y r) → Apart d 5 box r
-        by-limit l = max-ind d (beside r) (over y r) (beside-most .whole) (over-width .whole) (λ u. (Le d z u → Apart d 5 box r)) (λ k b. by-beside b) (λ k b. by-over b) l
-
         by-cuts : Cuts d (skip y) (limit y) z r → Apart d 5 box r
         by-cuts (inl t) = passed-below d D S o z (z ⊘ a) ym t
-        by-cuts (inr l) = by-limit l
+        by-cuts (inr l) = max-ind d (beside r) (over y r) (beside-most .whole) (over-width .whole) (λ u. (Le d z u → Apart d 5 box r)) (λ k b. by-beside b) (λ k b. by-over b) l
 
   -- ---- the search
   module _ (w0 : T (le k0 w)) (h0 : T (le k0 h)) (os : List Rect) (fair : Each Obstacle os) where
@@ -161,13 +158,9 @@ module _ (d : ℕ) (D : 0 < d) {a : Float} {p q : ℕ} (S : Shape a p q) {w h : 
     abbrev Reaches : Float → Rect → Type 0
     Reaches y g = T (withinOf y h) → Le d (widthOf y) (g .w)
 
-    tried : (best : Rect) (y : Float) → AtMost (best .w) width → Edge y → Turn d best (tryAt w h os a best y) (Reaches y)
-    unfolding tryAt
-    tried best y bm ym = turn d best ((w ⊖ widthOf y) ⊘ k2) y (widthOf y) a (withinOf y h) bm (width-most ym)
-
     reached : Each (λ y. Reaches y (centeredOf w h os a)) (bottoms os)
-    unfolding centeredOf
-    reached = fold-turn d (tryAt w h os a) Reaches tried (λ y g next l k t. omega (arith, k t)) (bottoms os) emptyRect (most-more zero-most width tt) (bottoms-most os fair) .reached
+    unfolding centeredOf tryAt
+    reached = fold-turn d (tryAt w h os a) Reaches (λ g y m ym. turn d g ((w ⊖ widthOf y) ⊘ k2) y (widthOf y) a (withinOf y h) m (width-most ym)) (λ y g next l k t. omega (arith, k t)) (bottoms os) emptyRect (most-more zero-most width tt) (bottoms-most os fair) .reached
 
     pub centred-widest : (X0 Y0 W H : ℕ) → W * q ≡ H * p → X0 + X0 + W + N d w ≡ P d w → Y0 + H + N d h ≤ P d h → Each (Misses d 1 X0 0 Y0 0 W H) os → Wide d W (centeredOf w h os a .w)
     centred-widest X0 Y0 W H shape centred tall misses =

@@ -147,9 +147,6 @@ module _ {b : Rect} (B : Area b) {a : Float} {p q : ℕ} (S : Shape a p q) (es :
   abbrev found : Float
   found = centredWidth es b a
 
-  found-whole : Whole found
-  found-whole = centred-width B 1 (zero-lt-suc 0) S (obstaclesOf b es) (obstacles-fair B es F) .whole
-
   module _ (d : ℕ) (D : 0 < d) (r : Exact) (R : Rival p q es b found d r) where
     abbrev o : Exact
     o = over d b
@@ -171,16 +168,13 @@ module _ {b : Rect} (B : Area b) {a : Float} {p q : ℕ} (S : Shape a p q) (es :
       placing : (middle r ≡ middle o) ⊎ (value found ≡ pos 0) → (X0 + X0 + above (r .w) + N d (b .w) ≡ P d (b .w)) ⊎ T (not (lt k0 found))
       placing (inl e) =
           inl (omega (arith, eq-parts (middle r) (middle o) e, add-parts (r .x) (r .x), add-parts (r .x +ℤ r .x) (r .w), add-parts (o .x) (o .x), add-parts (o .x +ℤ o .x) (o .w), area, w0))
-      placing (inr e) = inr (no-width found found-whole e)
-
-      shape : above (r .w) * q ≡ above (r .h) * p
-      shape = sym (mul-parts (r .w) q .0) ∙ ap above (R .shape) ∙ mul-parts (r .h) p .0
+      placing (inr e) = inr (no-width found (centred-width B 1 (zero-lt-suc 0) S (obstaclesOf b es) (obstacles-fair B es F) .whole) e)
 
       rival-at : T (leZ (r .w) ((value (game .w) +ℤ pos sixteenth) *ℤ pos d))
       rival-at =
           bound d (game .w) (r .w) (the-game B S es F offset ox oy d D .finite .w) w0
           (game-wide B S es F offset ox oy d D X0 Y0 (above (r .x)) (below (r .x)) (above (r .y)) (below (r .y)) (above (r .w)) (above (r .h))
-          (omega arith) (omega arith) shape
+          (omega arith) (omega arith) (sym (mul-parts (r .w) q .0) ∙ ap above (R .shape) ∙ mul-parts (r .h) p .0)
           (omega (arith, le-parts (rightEdge r) (rightEdge o) (sides .1), add-parts (r .x) (r .w), add-parts (o .x) (o .w), area, w0))
           (omega (arith, le-parts (lowerEdge r) (lowerEdge o) (sides .3), add-parts (r .y) (r .h), add-parts (o .y) (o .h), area, h0))
           (each-imp _ _ (λ e k. (k .0, missed d r e (k .0) w0 h0 (k .1))) es (each-both _ _ es F (R .clear)))

@@ -54,13 +54,10 @@ module _ (d : ℕ) (D : 0 < d) {a : Float} {p q : ℕ} (S : Shape a p q) {w h : 
 
     limit-wide : (X0 Y0 W H : ℕ) → W * q ≡ H * p → X0 + W + N d w ≤ P d w → Y0 + H + N d h ≤ P d h → Le d k0 x → Le d k0 y → Good d X0 x → Good d Y0 y → Under d X0 w x (rightOf r) → Under d Y0 h y (bottomOf r)
         → Misses d 1 X0 0 Y0 0 W H r → T (not (skip x y r)) → Wide d W (limit x y r)
-    limit-wide X0 Y0 W H shape broad tall lowx lowy goodx goody ux uy m n = go m
-      where
-        go : Misses d 1 X0 0 Y0 0 W H r → Wide d W (limit x y r)
-        go (isLeft l) = omega (arith, sub-law d (o .x) xm tt, limit-law)
-        go (isRight l) = omega (arith, thin-right d D S o W X0 wm xm broad lowx ux l (nor-l (le (rightOf r) (x ⊕ k0·01)) (le (bottomOf r) (y ⊕ k0·01)) n), limit-law)
-        go (isAbove l) = omega (arith, drop-grows d D S o ym W H Y0 (drop-most d D S o ym) (le-refl (P d (r .y ⊖ y) + N d (r .y ⊖ y))) shape goody l, limit-law)
-        go (isBelow l) = omega (arith, thin-below d D S o W H Y0 hm ym shape tall lowy uy l (nor-r (le (rightOf r) (x ⊕ k0·01)) (le (bottomOf r) (y ⊕ k0·01)) n), limit-law)
+    limit-wide X0 Y0 W H shape broad tall lowx lowy goodx goody ux uy (isLeft l) n = omega (arith, sub-law d (o .x) xm tt, limit-law)
+    limit-wide X0 Y0 W H shape broad tall lowx lowy goodx goody ux uy (isRight l) n = omega (arith, thin-right d D S o W X0 wm xm broad lowx ux l (nor-l (le (rightOf r) (x ⊕ k0·01)) (le (bottomOf r) (y ⊕ k0·01)) n), limit-law)
+    limit-wide X0 Y0 W H shape broad tall lowx lowy goodx goody ux uy (isAbove l) n = omega (arith, drop-grows d D S o ym W H Y0 (drop-most d D S o ym) (le-refl (P d (r .y ⊖ y) + N d (r .y ⊖ y))) shape goody l, limit-law)
+    limit-wide X0 Y0 W H shape broad tall lowx lowy goodx goody ux uy (isBelow l) n = omega (arith, thin-below d D S o W H Y0 hm ym shape tall lowy uy l (nor-r (le (rightOf r) (x ⊕ k0·01)) (le (bottomOf r) (y ⊕ k0·01)) n), limit-law)
 
     -- a picture of width z, not above the limit, is apart
     by-cuts : {z : Float} → AtMost z width → Cuts d (skip x y) (limit x y) z r → Apart d 5 (newOf x y z (z ⊘ a)) r
@@ -96,13 +93,9 @@ module _ (d : ℕ) (D : 0 < d) {a : Float} {p q : ℕ} (S : Shape a p q) {w h : 
     wider : (x y : Float) (g next : Rect) → Le d (g .w) (next .w) → Reaches x y g → Reaches x y next
     wider x y g next l k t = omega (arith, k t)
 
-    tried : (x : Float) → Edge x → (g : Rect) (y : Float) → AtMost (g .w) width → Edge y → Turn d g (trySideAt w h os a x g y) (Reaches x y)
-    unfolding trySideAt
-    tried x xm g y m ym = turn d g x y (widthOf x y) a (withinOf y h) m (width-most xm ym)
-
     column : (g : Rect) (x : Float) → AtMost (g .w) width → Edge x → Turn d g (tryColumn w h os a g x) (Column x)
-    unfolding tryColumn
-    column g x m xm = go (withinOf x w) (fold-turn d (trySideAt w h os a x) (Reaches x) (tried x xm) (wider x) (bottoms os) g m (bottoms-most os fair))
+    unfolding tryColumn trySideAt
+    column g x m xm = go (withinOf x w) (fold-turn d (trySideAt w h os a x) (Reaches x) (λ b y k ym. turn d b x y (widthOf x y) a (withinOf y h) k (width-most xm ym)) (wider x) (bottoms os) g m (bottoms-most os fair))
       where
         go : {next : Rect} (ok : Bool) → Turn d g next (λ b. Each (λ y. Reaches x y b) (bottoms os)) → Turn d g (cond ok next g) (λ b. T ok → Each (λ y. Reaches x y b) (bottoms os))
         go true k = record { most = k .most; grown = k .grown; reached = λ t. k .reached }
