@@ -66,7 +66,7 @@ enum { TL_LAYOUT_STANDARD = 285, TL_LAYOUT_ANALOG = 353, TL_LAYOUT_PSP = 265, TL
 /* Bytes of a film sheet. */
 enum { TL_SHEET = 1024 };
 
-/* The layout of an order, written to `out`.
+/* The layout of an order, written to `out`. README.md, "The interface for hosts", describes an order's fields.
    Fields of the layout: a tag of one byte, a length of two bytes (high byte first), the value. Tag 1 is the game, four f32 of four
    bytes each (high byte first): x, y, w, h. Tag 2 has the elements, 16 bytes each: the d-pad, the controls, pause, playback, speed,
    mute, then the sticks. Tag 3 has a button mask of two bytes for each control, one bit of tl_button.

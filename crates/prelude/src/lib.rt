@@ -1,1 +1,1 @@
-// No code: specs/ has booleans, lists, loops over arrays and answers, as definitions and proofs of all crates use them.
+// No code: specs/ has booleans, integers, lists, loops over arrays and answers, as definitions and proofs of all crates use them.

@@ -51,8 +51,8 @@ pub fn touch(order: &[u8], x: f32, y: f32, previous: u16) -> Result<u16, Refusal
 }
 
 /// Writes the layout of a viewport as [`layout`] does: the order's tag 1 is
-/// the place of the controls, its tag 2 the picture. The tops are in -8,192 to
-/// 8,192, and `reusable_top` is at least 0.
+/// the place of the controls, its tag 2 the picture. A top outside -8,192 to
+/// 8,192, or a `reusable_top` below 0, is [`Refusal::OffTheScale`].
 pub fn viewport_layout(
     order: &[u8],
     reusable_top: f32,
@@ -88,7 +88,7 @@ pub fn film(order: &[u8]) -> String {
 
 /// The part of a screen of this size inside the edges (left, top, right,
 /// bottom), which count only if they were measured at the same size.
-/// Each number is in -8,192 to 8,192.
+/// A number outside -8,192 to 8,192 is [`Refusal::OffTheScale`].
 pub fn safe_content(
     size: [i32; 2],
     inset_size: [i32; 2],
@@ -115,7 +115,8 @@ pub fn safe_content(
 
 /// The edges (left, top, right, bottom) of decoration, navigation and a camera
 /// merged: at each side the widest. A local side camera is an obstacle of its
-/// own and has no edge left and right. Each number is in -8,192 to 8,192.
+/// own and has no edge left and right. A number outside -8,192 to 8,192 is
+/// [`Refusal::OffTheScale`].
 pub fn safe_edges(
     decoration: [i32; 4],
     navigation: [i32; 4],

@@ -50,7 +50,7 @@ impl Layout {
         let elements: Vec<Rect> = rects(elements)?;
         let count = masks.len() / 2;
         let well_formed = game.len() == 1 && masks.len().is_multiple_of(2) && rest.is_empty();
-        if !well_formed || elements.len() < count + 5 {
+        if !well_formed || !(count + 5..=count + 7).contains(&elements.len()) {
             return None;
         }
         let masks = masks.chunks(2).map(|m| u16::from_be_bytes([m[0], m[1]]));

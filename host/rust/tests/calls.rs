@@ -116,6 +116,16 @@ fn bytes_of_no_layout() {
     for wrong in [0, 1, 19, length - 1, length + 1] {
         assert_eq!(Layout::from_bytes(&out[..wrong]), None);
     }
+    // Further elements are sticks, of which there are two at most.
+    let with_sticks = |n: usize| {
+        let size = usize::from(u16::from_be_bytes([out[20], out[21]]));
+        let mut bytes = out[..length].to_vec();
+        bytes[20..22].copy_from_slice(&((size + 16 * n) as u16).to_be_bytes());
+        bytes.splice(22 + size..22 + size, vec![0; 16 * n]);
+        Layout::from_bytes(&bytes).map(|layout| layout.sticks.len())
+    };
+    assert_eq!(with_sticks(2), Some(2));
+    assert_eq!(with_sticks(3), None);
 }
 
 #[test]
