@@ -23,8 +23,8 @@ use Rattle.layout.specs.ElementLaws.{length-elements}
 use Rattle.numerics.specs.Value.{magnitude, Whole, eps, posPart, AtMost, P}
 use Rattle.numerics.specs.Range.{In, at}
 use Rattle.numerics.specs.Rects.{maxCorner, maxSide, Element}
-use Rattle.numerics.specs.Operations.{fits-whole, size-is, less}
-use Rattle.numerics.specs.Bounds.{eps-pos, most-magnitude, between-most, le-law, zero-most, zero-parts}
+use Rattle.numerics.specs.Operations.{fits-whole, less}
+use Rattle.numerics.specs.Bounds.{eps-pos, most-magnitude, magnitude-most, between-most, le-law, zero-most, zero-parts}
 use Rattle.numerics.specs.Ranges.{add-in, most-in, moved-in, range-most, tested}
 use Rattle.numerics.specs.Literals.{lit}
 use Rattle.search.specs.Bounded.{Bounded}
@@ -75,7 +75,7 @@ far (fin false m e) (fin t n d) f R s = go (leb M (eps * (256 * 32768))) (leb→
     W = fits-whole (fin false m e) tt f
 
     go : (b : Bool) → (T b → M ≤ eps * (256 * 32768)) → (T (not b) → eps * (256 * 32768) < M) → AtMost (fin false m e) (256 * 32768) ⊎ T (le (k8192 ⊕ k8192) (fin false m e ⊕ fin t n d))
-    go true u v = inl (record { whole = W; size = rw (size-is (fin false m e)) (u tt) })
+    go true u v = inl (magnitude-most W (u tt))
     go false u v =
         let j = mul-le-mul-right (down d) (less (down e) (eps * (256 * 32768)) M (2 ^ 149) (32768 * down e) (m * up e) (sym (units-of 32768 (down e))) (sym W) (pow-pos 149) (le-of-lt (v tt))) in
         let k = mul-le-mul-right (down e) (less (down d) (magnitude (fin t n d)) (eps * maxSide) (2 ^ 149) (n * up d) (8593 * down d) (sym (R .whole)) (sym (units-of 8593 (down d))) (pow-pos 149) (most-magnitude R)) in

@@ -4,7 +4,6 @@ use mathlib.Core.Bool.{true}
 use lib.Ieee.{eq}
 use Rattle.prelude.specs.Each.{Each}
 use Rattle.float.specs.Float.{k1}
-use Rattle.float.specs.MinMax.{maxOf}
 use Rattle.layout.specs.Layout.{cutoutList}
 use Rattle.numerics.specs.Value.{Whole}
 use Rattle.numerics.specs.Range.{In, at}
@@ -14,9 +13,6 @@ use Rattle.settings.specs.declared.Settings.{Settings}
 pub record InRange (s : Settings) : Type 0 where
   pub w : In (s .w) (at 0) (at 8192)
   pub h : In (s .h) (at 0) (at 8192)
-  -- `layout_in` raises w and h to at least 1
-  pub raised-w : In (maxOf (s .w) k1) (at 1) (at 8192)
-  pub raised-h : In (maxOf (s .h) k1) (at 1) (at 8192)
   pub area : Area (s .picture)
   pub cutouts : Each Element (cutoutList (s .cutouts))
   pub scale : Whole (s .preset .scale)

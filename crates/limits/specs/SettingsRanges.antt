@@ -19,7 +19,7 @@ use Rattle.geometry.specs.declared.Rect.{Rect}
 use Rattle.layout.specs.Layout.{cutoutList}
 use Rattle.numerics.specs.Range.{In, at, minus}
 use Rattle.numerics.specs.Rects.{maxArea, Element, Area}
-use Rattle.numerics.specs.Ranges.{max-in, neg-in, tested, range-most, element-in}
+use Rattle.numerics.specs.Ranges.{neg-in, tested, range-most, element-in}
 use Rattle.numerics.specs.Literals.{lit}
 use Rattle.settings.specs.declared.Settings.{Settings}
 use Rattle.settings.specs.Settings.{least, inLimitsOf, screenInLimitsOf, rectInLimitsOf, placeInLimitsOf, cutoutsInLimitsOf, acceptedOf, rectIsF32, IsF32}
@@ -98,14 +98,10 @@ accepted-in-range s e f =
     let screen = both _ _ (a .screen) in
     let place = both _ _ (a .place) in
     let offset = both _ _ (place .1) in
-    let w = limited (lit 0) (f .w) (screen .0) .range in
-    let h = limited (lit 0) (f .h) (screen .1) .range in
     let p = limited-rect (lit 0) (s .picture) (a .picture) (f .picture) in
     record {
-      w = w;
-      h = h;
-      raised-w = max-in w (lit 1);
-      raised-h = max-in h (lit 1);
+      w = limited (lit 0) (f .w) (screen .0) .range;
+      h = limited (lit 0) (f .h) (screen .1) .range;
       area = area p;
       cutouts = elements (cutoutList (s .cutouts)) (a .cutouts) (f .cutouts);
       scale = limited least-in (f .scale) (place .0) .range .whole;

@@ -103,7 +103,7 @@ tenths-most x a = rw (tenths-is x (a .whole)) (mag-signed (sign x) (tenthsSizeOf
 
 -- ---- lengths
 -- six digits and a minus
-pub length-number : (z : ℤ) → mag z < mostTenths → length (numberText z) ≤ 7
+length-number : (z : ℤ) → mag z < mostTenths → length (numberText z) ≤ 7
 unfolding numberText
 length-number (pos n) h = le-trans (length-digits 5 n (omega arith)) (lit≤ tt)
 length-number (negsuc n) h = omega (arith, length-digits 5 (suc n) (omega arith))

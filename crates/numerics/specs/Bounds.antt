@@ -112,11 +112,14 @@ near-magnitude r P Q W e h = go (one-zero r) (ap (λ (z : ℕ). z * W) (size-is 
     go (inl z) m = let k = ap (λ (v : ℕ). v * W) z in omega (arith, h .under)
     go (inr z) m = let k = ap (λ (v : ℕ). v * W) z in omega (arith, h .over)
 
+pub magnitude-most : {x : Float} {n : ℕ} → Whole x → magnitude x ≤ eps * n → AtMost x n
+magnitude-most {x} p h = record { whole = p; size = rw (size-is x) h }
+
 near-most : {r : Float} {P Q W : ℕ} (k : ℕ) → 0 < W → Near r P Q W eps → P + Q ≤ eps * k * W → AtMost r (k + 1)
 near-most {r} {P} {Q} {W} k D h l =
     let m = near-magnitude r P Q W eps h in
     let z : magnitude r * W ≤ eps * (k + 1) * W = omega arith in
-    record { whole = h .whole; size = rw (size-is r) (le-of-mul-le-mul-right z D) }
+    magnitude-most (h .whole) (le-of-mul-le-mul-right z D)
 
 pub add-most : {x y : Float} {n m : ℕ} → AtMost x n → AtMost y m → T (ltb (n + m) limit) → AtMost (x ⊕ y) (n + m + 1)
 add-most {n = n} {m = m} p q t = near-most (n + m) (zero-lt-suc 0) (add-bounded p q t) (omega (arith, p .size, q .size))
@@ -147,11 +150,8 @@ lt-law d x y p q t = le-over d x y (le-of-lt (lt-true x y p q t))
 pub lt-not : (d : ℕ) (x y : Float) → Whole x → Whole y → T (not (lt x y)) → Le d y x
 lt-not d x y p q t = le-over d y x (lt-false x y p q t)
 
-pub eq-law : (d : ℕ) (x y : Float) → Whole x → Whole y → T (eq x y) → Le d x y
-eq-law d x y p q t = le-over d x y (le-of-eq (eq-true x y p q t))
-
-pub eq-law' : (d : ℕ) (x y : Float) → Whole x → Whole y → T (eq x y) → Le d y x
-eq-law' d x y p q t = le-over d y x (le-of-eq (sym (eq-true x y p q t)))
+pub eq-law : (d : ℕ) (x y : Float) → Whole x → Whole y → T (eq x y) → Le d x y × Le d y x
+eq-law d x y p q t = let e = eq-true x y p q t in (le-over d x y (le-of-eq e), le-over d y x (le-of-eq (sym e)))
 
 pub E-pos : (d : ℕ) → 0 < d → 0 < E d
 unfolding E
@@ -159,7 +159,7 @@ E-pos d h = mul-pos eps-pos h
 
 pub le-law : (d : ℕ) (x y : Float) → Whole x → Whole y → T (le x y) → Le d x y
 unfolding le
-le-law d x y p q t = or-case (lt x y) (eq x y) (lt-law d x y p q) (eq-law d x y p q) t
+le-law d x y p q t = or-case (lt x y) (eq x y) (lt-law d x y p q) (λ u. eq-law d x y p q u .0) t
 
 pub le-not : (d : ℕ) (x y : Float) → Whole x → Whole y → T (not (le x y)) → Le d y x
 unfolding le

@@ -24,7 +24,7 @@ expo k l h = le-of-suc-le-suc (lt-of-not-le (λ (g : suc l ≤ k). not-le-of-lt 
 split : (k l : ℕ) → k ≤ l → 2 ^ l ≡ 2 ^ (l - k) * 2 ^ k
 split k l h = ap (λ (x : ℕ). 2 ^ x) (sym (sub-add-cancel h)) ∙ pow-add 2 (l - k) k
 
-pub exact : (n d q : ℕ) → 0 < d → n ≡ q * d → n ≡ n / d * d
+exact : (n d q : ℕ) → 0 < d → n ≡ q * d → n ≡ n / d * d
 exact n d q D e = e ∙ ap (λ (x : ℕ). x * d) (sym (ap (λ (x : ℕ). x / d) e ∙ mul-div-cancel q D))
 
 low-enough : (m : ℕ) (s : Bool) (e : ℤ) → T (fits binary32 (fin s (suc m) e)) → down e ≤ 2 ^ 149

@@ -15,13 +15,13 @@ use Rattle.numerics.specs.Value.{magnitude, Whole, posIf, negIf, posPart
 use Rattle.numerics.specs.Range.{In, at, reach}
 use Rattle.numerics.specs.Rects.{maxCorner, maxArea}
 use Rattle.numerics.specs.Operations.{Rounded, round-within, mul-rounded, div-rounded, size-is, one-zero}
-use Rattle.numerics.specs.Bounds.{eps-pos, top-eps, near-magnitude, most-magnitude, most-more}
+use Rattle.numerics.specs.Bounds.{eps-pos, top-eps, near-magnitude, most-magnitude, magnitude-most, most-more}
 use Rattle.numerics.specs.Ranges.{in-reach, most-in}
 
 -- the size of a rounded fraction Z / W units
-pub record Sized (r : Float) (Z W e : ℕ) : Type 0 where
-  pub whole : Whole r
-  pub most : magnitude r * W ≤ Z + e * W
+record Sized (r : Float) (Z W e : ℕ) : Type 0 where
+  whole : Whole r
+  most : magnitude r * W ≤ Z + e * W
 
 sized : (k : ℕ) {r : Float} {s : Bool} {Z W : ℕ} → Rounded r s Z W → Z < 2 ^ (k + 25) * W → 2 ^ (k + 25) + 2 ^ k < overflow binary32 → Sized r Z W (2 ^ k)
 sized k {r} {s} {Z} {W} f h l =
@@ -39,9 +39,6 @@ sized-near f h = sized 141 f h (lit≤ tt)
 unit : 2 ^ 149 ≡ eps * 256
 unfolding eps
 unit = refl
-
-magnitude-most : {x : Float} {n : ℕ} → Whole x → magnitude x ≤ eps * n → AtMost x n
-magnitude-most {x} p h = record { whole = p; size = rw (size-is x) h }
 
 -- ---- a product of two numbers, k / 256 at most
 product-room : (X Y e t l n m : ℕ) → X ≤ e * n → Y ≤ e * m → n * m < limit * 256 → t ≡ e * limit → l ≡ e * 256 → 0 < e → X * Y < t * l

@@ -166,7 +166,7 @@ above-zero {y} {a} i t =
     omega (arith, j .lo, j .hi, mul-le-mul-left eps (ltb→lt limit a t), eps-pos)))
 
 -- ---- between two others
-pub between : {x l h : Float} {a b a' b' : ℕ} → Whole x → In l a b → In h a' b' → T (not (lt x l)) → T (not (lt h x)) → In x a b'
+between : {x l h : Float} {a b a' b' : ℕ} → Whole x → In l a b → In h a' b' → T (not (lt x l)) → T (not (lt h x)) → In x a b'
 between {x} {l} {h} p i j s t =
     record { whole = p; lo = omega (arith, i .lo, raw l x (lt-not 1 x l p (i .whole) s)); hi = omega (arith, j .hi, raw x h (lt-not 1 h x (j .whole) p t)) }
 

@@ -103,7 +103,7 @@ module _ {y z : Float} (S : Shrinks y z) where
   shrunk : {x : Float} {a b : ℕ} → In x a b → T (shrinkable a b) → In (x ⊗ y ⊘ z) (limit - (reach a b * 1 + 11)) (limit + (reach a b * 1 + 11))
   shrunk i t = scaled-in 1 i (S .part) (S .full) (le-magnitude z (S .part) tt (S .less)) t
 
-  pub shrunk-in : {x : Float} {a b : ℕ} → In x a b → T (shrinkable a limit) → T (shrinkable limit b) → In (x ⊗ y ⊘ z) (limit - (reach a limit * 1 + 11)) (limit + (reach limit b * 1 + 11))
+  shrunk-in : {x : Float} {a b : ℕ} → In x a b → T (shrinkable a limit) → T (shrinkable limit b) → In (x ⊗ y ⊘ z) (limit - (reach a limit * 1 + 11)) (limit + (reach limit b * 1 + 11))
   shrunk-in i t u = signed-in 1 (S .part) (S .full) (le-magnitude z (S .part) tt (S .less)) tt tt i t u
 
 -- ---- a rectangle of an arrangement, which may lie a little further off the screen then

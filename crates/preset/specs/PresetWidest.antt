@@ -11,6 +11,8 @@ use Rattle.layout.specs.Layout.{cutoutList}
 use Rattle.numerics.specs.Value.{Whole}
 use Rattle.numerics.specs.Rects.{Element, Area}
 use Rattle.numerics.specs.Range.{In, at}
+use Rattle.numerics.specs.Ranges.{max-in}
+use Rattle.numerics.specs.Literals.{lit}
 use Rattle.search.specs.Bounded.{Bounded}
 use Rattle.search.specs.Search.{placeGameInAspectOf}
 use Rattle.search.proofs.Layouts.{place-widest}
@@ -44,4 +46,4 @@ module _ (p : Preset) (fit : pictureFitOf p ≡ KeepClear) (overlap : p .overlap
 
 pub settings-widest : (s : Settings) → InRange s → WidestFor s (settingsLayoutOf s)
 unfolding settingsLayoutOf layoutInOf
-settings-widest s r k = laid-out-widest (s .preset) (k .fit) (k .apart) (r .whole-size (k .whole)) (r .offset-x) (r .offset-y) (r .raised-w) (r .raised-h) (cutoutList (s .cutouts)) (r .cutouts) (r .area)
+settings-widest s r k = laid-out-widest (s .preset) (k .fit) (k .apart) (r .whole-size (k .whole)) (r .offset-x) (r .offset-y) (max-in (r .w) (lit 1)) (max-in (r .h) (lit 1)) (cutoutList (s .cutouts)) (r .cutouts) (r .area)

@@ -197,22 +197,22 @@ unfolding rects allOf
 rects-f32 v zero = refl
 rects-f32 v (suc n) = all-snoc rectIsF32 (rects v n) (rectAtOf v n) (rects-f32 v n) (rect-f32 v n)
 
-filled-f32 : (size : ℕ) (v : List ℕ) (n : ℕ) → allOf rectIsF32 (take n (filled size v n)) ≡ true
+filled-f32 : (v : List ℕ) (n : ℕ) → allOf rectIsF32 (take n (filled 16 v n)) ≡ true
 unfolding filled
-filled-f32 size v n = rw (take-at (rects v n) (replicate (size - n) emptyRect) n (length-rects v n)) (rects-f32 v n)
+filled-f32 v n = rw (take-at (rects v n) (replicate (16 - n) emptyRect) n (length-rects v n)) (rects-f32 v n)
 
 abbrev InF32 : Settings → Type 0
 InF32 = Parts (λ w h. (fits binary32 w ≡ true) × (fits binary32 h ≡ true)) (λ r. rectIsF32 r ≡ true)
     (λ scale offset. (fits binary32 scale ≡ true) × (fits binary32 (offset .x) ≡ true) × (fits binary32 (offset .y) ≡ true))
-    (λ c. allOf rectIsF32 (cutoutList c) ≡ true) (λ l n. allOf rectIsF32 (take n l) ≡ true)
+    (λ c. allOf rectIsF32 (cutoutList c) ≡ true) (λ l n. Unit {0})
 
 blank-f32 : InF32 blankOf
 unfolding blankOf defaultOf rectIsF32 allOf fits ofBits
-blank-f32 = record { screen = (refl, refl); picture = refl; place = (refl, refl, refl); cutouts = refl; saved = refl }
+blank-f32 = record { screen = (refl, refl); picture = refl; place = (refl, refl, refl); cutouts = refl; saved = tt }
 
 pub order-f32 : (bytes : List ℕ) {s : Settings} → readOrderOf bytes ≡ accepted s → IsF32 s
 order-f32 bytes e =
     let q = holds-of InF32
     (parts _ _ _ _ _ blank-f32 (λ v _. ((number-f32 v 0, number-f32 v 1), default-f32 (wide v) (high v) (number-f32 v 0) (number-f32 v 1))) (λ v _. rect-f32 v 0)
-    (λ v _. (number-f32 v 0, number-f32 v 1, number-f32 v 2)) (λ v n _ _. filled-f32 16 v n) (λ v n _. filled-f32 32 v n) bytes) e in
-    record { w = q .screen .0; h = q .screen .1; picture = q .picture; scale = q .place .0; across = q .place .1; down = q .place .2; cutouts = q .cutouts; saved = q .saved }
+    (λ v _. (number-f32 v 0, number-f32 v 1, number-f32 v 2)) (λ v n _ _. filled-f32 v n) (λ v n _. tt) bytes) e in
+    record { w = q .screen .0; h = q .screen .1; picture = q .picture; scale = q .place .0; across = q .place .1; down = q .place .2; cutouts = q .cutouts }

@@ -18,7 +18,7 @@ use Rattle.geometry.specs.declared.Rect.{Rect}
 use Rattle.geometry.specs.Rect.{newOf}
 use Rattle.numerics.specs.Value.{AtMost, P, N, E, Le}
 use Rattle.numerics.specs.Rects.{maxArea}
-use Rattle.numerics.specs.Bounds.{sub-law, sub-most, most-more, lt-law, lt-not, eq-law', min-ind, max-ind, min-law, max-law, min-most, max-most, zero-most, zero-parts}
+use Rattle.numerics.specs.Bounds.{sub-law, sub-most, most-more, lt-law, lt-not, eq-law, min-ind, max-ind, min-law, max-law, min-most, max-most, zero-most, zero-parts}
 use Rattle.search.specs.Search.{betterOf}
 use Rattle.search.proofs.Shapes.{width, way, Shape, times-most, grows, stays, sinks}
 use Rattle.search.proofs.Candidates.{Edge}
@@ -125,7 +125,7 @@ turn d best x y v a ok bm vm = go ok (lt (best .w) v || (eq v (best .w) && lt y 
     up : T (lt (best .w) v || (eq v (best .w) && lt y (best .y))) → Le d (best .w) v
     up t =
         or-case (lt (best .w) v) (eq v (best .w) && lt y (best .y)) (lt-law d (best .w) v (bm .whole) (vm .whole))
-        (λ e. eq-law' d v (best .w) (vm .whole) (bm .whole) (and-l (eq v (best .w)) (lt y (best .y)) e)) t
+        (λ e. eq-law d v (best .w) (vm .whole) (bm .whole) (and-l (eq v (best .w)) (lt y (best .y)) e) .1) t
 
     down : T (not (lt (best .w) v || (eq v (best .w) && lt y (best .y)))) → Le d v (best .w)
     down t = lt-not d (best .w) v (bm .whole) (vm .whole) (nor-l (lt (best .w) v) (eq v (best .w) && lt y (best .y)) t)

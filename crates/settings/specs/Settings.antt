@@ -84,7 +84,7 @@ acceptedOf s =
     && (placeInLimitsOf (s .preset .scale) (s .preset .offset)
     && ((leb (s .cutouts .count) 16 && cutoutsInLimitsOf (s .cutouts)) && leb (s .preset .count) 32)))
 
--- ---- every number is a value of binary32, as the f32 of a program are
+-- ---- each number that has limits is a value of binary32, as the f32 of a program are
 unfoldable pub rectIsF32 : Rect → Bool
 rectIsF32 r = fits binary32 (r .x) && (fits binary32 (r .y) && (fits binary32 (r .w) && fits binary32 (r .h)))
 
@@ -96,4 +96,3 @@ pub record IsF32 (s : Settings) : Type 0 where
   pub across : fits binary32 (s .preset .offset .x) ≡ true
   pub down : fits binary32 (s .preset .offset .y) ≡ true
   pub cutouts : allOf rectIsF32 (cutoutList (s .cutouts)) ≡ true
-  pub saved : allOf rectIsF32 (savedList (s .preset)) ≡ true
