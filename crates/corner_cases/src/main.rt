@@ -3,6 +3,8 @@
 ghost use mathlib.Core.Path.{_≡_};
 ghost use Prim.Native.Nat.{_≤_};
 use arranged::MaybeLayout;
+use float::from_bits;
+use float::to_bits;
 use geometry::Rect;
 use layout::Control;
 use layout::Cutouts;
@@ -10,7 +12,6 @@ use layout::Elements;
 use layout::Label;
 use layout::Layout;
 use libc::STDOUT_FILENO;
-use reader::from_bits;
 use reader::short;
 use reader::word;
 use safe_area::SafeContent;
@@ -59,15 +60,10 @@ fn agrees(step: &[u8; 116]) -> bool {
     let got = call(step[112], step);
     let at = got.at;
     (got.number == short(0, step[113]) * 65536 + short(step[114], step[115]))
-        & (bits(at.x) == word_at(step, 24))
-        & (bits(at.y) == word_at(step, 25))
-        & (bits(at.w) == word_at(step, 26))
-        & (bits(at.h) == word_at(step, 27))
-}
-
-// All NaNs are one.
-fn bits(x: f32) -> u32 {
-    if x != x { 0x7fc0_0000 } else { f32::to_bits(x) }
+        & (to_bits(at.x) == word_at(step, 24))
+        & (to_bits(at.y) == word_at(step, 25))
+        & (to_bits(at.w) == word_at(step, 26))
+        & (to_bits(at.h) == word_at(step, 27))
 }
 
 fn call(function: u8, a: &[u8; 116]) -> Answer {

@@ -1,6 +1,7 @@
 // f32 helpers, as Rust's library has them.
 ghost use mathlib.Core.Path.{_≡_};
 ghost use mathlib.Core.Bool.{cond};
+ghost use lib.Ieee.{binary32, ofBits, toBits};
 ghost use Rattle.float.specs.MinMax.{minOf, maxOf, clampOf, absOf};
 
 // Rust's `std::f32::consts::SQRT_2`.
@@ -43,4 +44,22 @@ pub fn abs(x: f32) -> f32
     ensures { λ r. ⌜ r ≡ absOf x ⌝ }
 {
     pick(x < 0.0, -x, pick(x == 0.0, 0.0, x))
+}
+
+// The bit pattern of x; every NaN has 7FC00000.
+pub fn to_bits(x: f32) -> u32
+    ensures { λ r. ⌜ r ≡ toBits binary32 x ⌝ }
+{
+    if x != x { 0x7fc0_0000 } else { f32::to_bits(x) }
+}
+
+// The f32 with the bit pattern n; each NaN pattern gives the one NaN.
+pub fn from_bits(n: u32) -> f32
+    ensures { λ r. ⌜ r ≡ ofBits binary32 n ⌝ }
+{
+    if 0x7f80_0000 < n % 0x8000_0000 {
+        0.0 / 0.0
+    } else {
+        f32::from_bits(n)
+    }
 }

@@ -15,11 +15,7 @@ ghost use Rattle.hypot.specs.Parts.{rootOf, sumOfSquaresOf, midpointOf, 
 fn pattern(x: f32) -> u32
     ensures { λ r. ⌜ r ≡ patternOf x ⌝ }
 {
-    if x != x {
-        0x7fc0_0000
-    } else {
-        f32::to_bits(x) % 0x8000_0000
-    }
+    float::to_bits(x) % 0x8000_0000
 }
 
 fn exponent(p: u32) -> u32

@@ -19,10 +19,7 @@ pub enum Move {
 fn rank(x: f32) -> u32
     ensures { λ r. ⌜ r ≡ rankOf x ⌝ }
 {
-    if x != x {
-        return 0xffc0_0000;
-    }
-    let b = f32::to_bits(x);
+    let b = float::to_bits(x);
     if b < 0x8000_0000 {
         b + 0x8000_0000
     } else {

@@ -1,7 +1,6 @@
 // The reader of orders: bytes to settings, or the number of their first fault.
 ghost use mathlib.Core.Path.{_≡_};
 ghost use Prim.Native.Nat.{_+_, _*_, _≤_, _<_};
-ghost use lib.Ieee.{binary32, ofBits};
 ghost use lib.ListN.{length};
 ghost use Rattle.prelude.specs.Answer.{accepted, refused};
 ghost use Rattle.reader.specs.Order.{answerOf, shortOf, numberAtOf, rectAtOf, filled, readScreenOf, readPictureOf, readModeOf, fitMarkOf, readFitOf, readPlaceOf, readCutoutsOf, readSavedOf, fromByteOf, readFieldOf, blankOf, readOrderOf};
@@ -56,23 +55,12 @@ pub fn word(a: u8, b: u8, c: u8, d: u8) -> u32
     ((a as u32 * 256 + b as u32) * 256 + c as u32) * 256 + d as u32
 }
 
-// The f32 with the bit pattern n; each NaN pattern gives the one NaN.
-pub fn from_bits(n: u32) -> f32
-    ensures { λ r. ⌜ r ≡ ofBits binary32 n ⌝ }
-{
-    if 0x7f80_0000 < n % 0x8000_0000 {
-        0.0 / 0.0
-    } else {
-        f32::from_bits(n)
-    }
-}
-
 fn number_at(value: &[u8], i: usize) -> f32
     requires { ⌜ 4 * i + 4 ≤ length (now value) ⌝ }
     ensures { λ r. ⌜ r ≡ numberAtOf (now (value .entry)) i ⌝ }
 {
     let at = 4 * i;
-    from_bits(word(value[at], value[at + 1], value[at + 2], value[at + 3]))
+    float::from_bits(word(value[at], value[at + 1], value[at + 2], value[at + 3]))
 }
 
 fn rect_at(value: &[u8], i: usize) -> Rect

@@ -3,10 +3,10 @@
 // of each kind it has, and how many are wrong.
 ghost use Rattle.io.specs.Counts.{Counts};
 use film_sheet::film_sheet;
+use float::from_bits;
 use libc::STDOUT_FILENO;
 use order::LayoutAnswer;
 use order::TouchAnswer;
-use reader::from_bits;
 use reader::short;
 use reader::word;
 

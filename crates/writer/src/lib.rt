@@ -24,14 +24,11 @@ fn put_short(out: &mut [u8], at: usize, n: usize)
     out[at + 1] = (n % 256) as u8;
 }
 
-// Negative zero has the pattern of plus zero; the test for NaN keeps its pattern one.
+// Negative zero has the pattern of plus zero.
 fn pattern(x: f32) -> u32
     ensures { λ r. ⌜ r ≡ patternOf x ⌝ }
 {
-    if x != x {
-        return 0x7fc0_0000;
-    }
-    let n = f32::to_bits(x);
+    let n = float::to_bits(x);
     if n == 0x8000_0000 { 0 } else { n }
 }
 

@@ -1,9 +1,9 @@
 use mathlib.Core.Path.{sym}
 use lib.Ieee.{binary32, div, ofBits}
 use Rattle.float.proofs.Nan.{nan-bits, no-nan-bits}
 use borrow.Author.Needs.{needs}
-use Rattle.reader.proofs.from_bits.Statement.{statement}
-use Rattle.reader.proofs.from_bits.Tie as tie
+use Rattle.float.proofs.from_bits.Statement.{statement}
+use Rattle.float.proofs.from_bits.Tie as tie
 
 pub from-bits-spec : {M : Type 1} → statement M
 unfolding div ofBits
