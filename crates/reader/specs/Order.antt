@@ -31,11 +31,15 @@ answerOf r = cond (eqb (r .refusal) 0) (accepted (r .settings)) (refused (r .ref
 abbrev pub shortOf : ℕ → ℕ → ℕ
 shortOf high low = high * 256 + low
 
+-- a number of four bytes, high byte first
+abbrev pub wordOf : ℕ → ℕ → ℕ → ℕ → ℕ
+wordOf a b c d = ((a * 256 + b) * 256 + c) * 256 + d
+
 -- the i-th f32 of a value
 unfoldable pub numberAtOf : List ℕ → ℕ → Float
 numberAtOf v i =
     let at = 4 * i in
-    ofBits binary32 (((getD v at 0 * 256 + getD v (at + 1) 0) * 256 + getD v (at + 2) 0) * 256 + getD v (at + 3) 0)
+    ofBits binary32 (wordOf (getD v at 0) (getD v (at + 1) 0) (getD v (at + 2) 0) (getD v (at + 3) 0))
 
 -- the i-th rectangle of a value
 unfoldable pub rectAtOf : List ℕ → ℕ → Rect

@@ -3,7 +3,7 @@ ghost use mathlib.Core.Path.{_≡_};
 ghost use Prim.Native.Nat.{_+_, _*_, _≤_, _<_};
 ghost use lib.ListN.{length};
 ghost use Rattle.prelude.specs.Answer.{accepted, refused};
-ghost use Rattle.reader.specs.Order.{answerOf, shortOf, numberAtOf, rectAtOf, filled, readScreenOf, readPictureOf, readModeOf, fitMarkOf, readFitOf, readPlaceOf, readCutoutsOf, readSavedOf, fromByteOf, readFieldOf, blankOf, readOrderOf};
+ghost use Rattle.reader.specs.Order.{answerOf, shortOf, wordOf, numberAtOf, rectAtOf, filled, readScreenOf, readPictureOf, readModeOf, fitMarkOf, readFitOf, readPlaceOf, readCutoutsOf, readSavedOf, fromByteOf, readFieldOf, blankOf, readOrderOf};
 use geometry::EMPTY;
 use geometry::Rect;
 use layout::Cutouts;
@@ -50,7 +50,7 @@ pub fn short(high: u8, low: u8) -> usize
 }
 
 pub fn word(a: u8, b: u8, c: u8, d: u8) -> u32
-    ensures { λ r. ⌜ r ≡ ((a * 256 + b) * 256 + c) * 256 + d ⌝ }
+    ensures { λ r. ⌜ r ≡ wordOf a b c d ⌝ }
 {
     ((a as u32 * 256 + b as u32) * 256 + c as u32) * 256 + d as u32
 }
