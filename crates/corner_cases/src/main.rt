@@ -5,6 +5,7 @@ ghost use Prim.Native.Nat.{_≤_};
 use arranged::MaybeLayout;
 use float::from_bits;
 use float::to_bits;
+use geometry::EMPTY;
 use geometry::Rect;
 use layout::Control;
 use layout::Cutouts;
@@ -83,10 +84,7 @@ fn call(function: u8, a: &[u8; 116]) -> Answer {
 }
 
 fn one(number: usize) -> Answer {
-    Answer {
-        number,
-        at: Rect::new(0.0, 0.0, 0.0, 0.0),
-    }
+    Answer { number, at: EMPTY }
 }
 
 fn area(at: Rect) -> Answer {

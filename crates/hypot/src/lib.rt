@@ -224,7 +224,7 @@ fn estimate(t: f64) -> f64 {
     s * (h + 12.0 * p) / (a * (6.0 * h + 8.0 * p))
 }
 
-// The pattern of the f32 nearest r, as `midpoint` has it.
+// The pattern of the f32 nearest r, as `midpoint` has it. Nothing is relied on here either.
 fn candidate(r: f64) -> u64 {
     if r != r {
         return 0;
@@ -240,7 +240,8 @@ fn midpoint(p: u64) -> f64
     f64::from_bits((2 * p + 1) * 0x1000_0000)
 }
 
-// Whether the f32 with the pattern p is surely the nearest to the root of the sum of squares that was rounded to t.
+// Whether the f32 with the pattern p is surely the nearest to the root of the sum of squares that was rounded to t. A no leaves it open:
+// `hypot` then takes the exact way.
 fn settled(t: f64, p: u64) -> bool
     ensures { λ r. ⌜ (T r → Settled t p) ⌝ }
 {

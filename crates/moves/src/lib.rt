@@ -199,6 +199,7 @@ pub fn search(
     requires { ⌜ (m ≤ 4) × ((holes .count ≤ 16) × (others .count ≤ 19)) ⌝ }
     ensures { λ r. ⌜ r ≡ searchOf w h (cutoutList holes) (elementList others) (take m original) ⌝ }
 {
+    // At most 4 rectangles, 16 holes and 4 moves for each pair: 256.
     let mut dxs = [0.0f32; 256];
     let mut dys = [0.0f32; 256];
     let mut lens = [0.0f32; 256];

@@ -97,6 +97,7 @@ readModeOf v s =
       count = p .count;
     }))))
 
+-- of a byte up to 2
 unfoldable pub fitMarkOf : ℕ → Fit
 fitMarkOf b = cond (eqb b 0) Unset (cond (eqb b 1) Maximum KeepClear)
 
@@ -198,7 +199,7 @@ fields (suc turns) last screen s (tag ∷ high ∷ low ∷ rest) =
     (must (leb n (length rest)) 1
     (andThen (readFieldOf (fromByteOf tag) (take n rest) s) (λ t. fields turns tag (screen || eqb tag 1) t (drop n rest))))
 
--- the table's values for absent fields
+-- document 01's values for absent fields
 unfoldable pub blankOf : Settings
 blankOf = record {
   w = k0;

@@ -75,6 +75,7 @@ fn rect_at(value: &[u8], i: usize) -> Rect
     )
 }
 
+// A picture follows in tag 2; without one it is the screen, raised to at least 1 by 1.
 fn read_screen(value: &[u8], s: Settings) -> Reading
     ensures { λ r. ⌜ answerOf r ≡ readScreenOf (now (value .entry)) s ⌝ }
 {
@@ -129,6 +130,7 @@ fn read_mode(value: &[u8], s: Settings) -> Reading
     accept(t)
 }
 
+// Of a byte up to 2.
 fn fit_mark(b: u8) -> Fit
     ensures { λ r. ⌜ r ≡ fitMarkOf b ⌝ }
 {
@@ -149,6 +151,7 @@ fn read_fit(value: &[u8], s: Settings) -> Reading
     if 2 < b {
         return refuse(5, s);
     }
+    // A field that is an enum is not stored to: the preset is written anew.
     let p = s.preset;
     let offset = p.offset;
     let elements = p.elements;
@@ -252,6 +255,7 @@ fn read_saved(value: &[u8], s: Settings) -> Reading
 }
 
 impl Tag {
+    // Of a byte from 1 to 7.
     fn from_byte(b: u8) -> Tag
         ensures { λ r. ⌜ r ≡ fromByteOf b ⌝ }
     {
@@ -281,7 +285,7 @@ fn read_field(tag: Tag, value: &[u8], s: Settings) -> Reading
     }
 }
 
-// The table's values for absent fields.
+// Document 01's values for absent fields.
 fn blank() -> Settings
     ensures { λ r. ⌜ r ≡ blankOf ⌝ }
 {

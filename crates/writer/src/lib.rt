@@ -94,6 +94,7 @@ pub fn write_layout(l: Layout, out: &mut [u8]) -> Written
     let elements = l.elements();
     let n = 16 * elements.count;
     let m = 2 * count;
+    // Three heads of 3 bytes and the game's 16 make 25.
     if out.len() < 25 + n + m {
         return Written::TooSmall;
     }
