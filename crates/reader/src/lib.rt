@@ -3,7 +3,7 @@ ghost use mathlib.Core.Path.{_≡_};
 ghost use Prim.Native.Nat.{_+_, _*_, _≤_, _<_};
 ghost use lib.ListN.{length};
 ghost use Rattle.prelude.specs.Answer.{accepted, refused};
-ghost use Rattle.reader.specs.Order.{answerOf, shortOf, wordOf, numberAtOf, rectAtOf, filled, readScreenOf, readPictureOf, readModeOf, fitMarkOf, readFitOf, readPlaceOf, readCutoutsOf, readSavedOf, fromByteOf, readFieldOf, blankOf, readOrderOf};
+ghost use Rattle.reader.specs.Order.{answerOf, shortOf, wordOf, numberAtOf, rectAtOf, filled, withPreset, readScreenOf, readPictureOf, readModeOf, fitMarkOf, readFitOf, readPlaceOf, readCutoutsOf, readSavedOf, fromByteOf, readFieldOf, blankOf, readOrderOf};
 use geometry::EMPTY;
 use geometry::Rect;
 use layout::Cutouts;
@@ -34,6 +34,14 @@ fn accept(settings: Settings) -> Reading
 {
     let refusal = 0;
     Reading { refusal, settings }
+}
+
+fn accept_preset(s: Settings, preset: Preset) -> Reading
+    ensures { λ r. ⌜ answerOf r ≡ accepted (withPreset s preset) ⌝ }
+{
+    let mut t = s;
+    t.preset = preset;
+    accept(t)
 }
 
 fn refuse(refusal: u8, settings: Settings) -> Reading
@@ -125,9 +133,7 @@ fn read_mode(value: &[u8], s: Settings) -> Reading
     preset.psp = b & 1 != 0;
     preset.analog = b & 2 != 0;
     preset.overlap = b & 4 != 0;
-    let mut t = s;
-    t.preset = preset;
-    accept(t)
+    accept_preset(s, preset)
 }
 
 // Of a byte up to 2.
@@ -165,9 +171,7 @@ fn read_fit(value: &[u8], s: Settings) -> Reading
         elements,
         count: p.count,
     };
-    let mut t = s;
-    t.preset = preset;
-    accept(t)
+    accept_preset(s, preset)
 }
 
 fn read_place(value: &[u8], s: Settings) -> Reading
@@ -187,9 +191,7 @@ fn read_place(value: &[u8], s: Settings) -> Reading
     let mut preset = s.preset;
     preset.scale = scale;
     preset.offset = offset;
-    let mut t = s;
-    t.preset = preset;
-    accept(t)
+    accept_preset(s, preset)
 }
 
 fn cutout_rects(value: &[u8], n: usize) -> [Rect; 16]
@@ -249,9 +251,7 @@ fn read_saved(value: &[u8], s: Settings) -> Reading
     let mut preset = s.preset;
     preset.elements = elements;
     preset.count = count;
-    let mut t = s;
-    t.preset = preset;
-    accept(t)
+    accept_preset(s, preset)
 }
 
 impl Tag {

@@ -12,7 +12,7 @@ returns-3 : tie.Need-returns-3
 unfolding readModeOf must
 returns-3 c =
     let b = getD (c .before .before .before .before .before .before .args .value .now) 0 0 in
-    c .accept .ensures ∙ rw (eq-eqb _ _ (c .before .before .before .before .if1 .left), eq-eqb _ _ (c .before .before .if2 .left), ← test-bit b 0, ← test-bit b 1, ← test-bit b 2)
+    c .accept-preset .ensures ∙ rw (eq-eqb _ _ (c .before .before .before .before .if1 .left), eq-eqb _ _ (c .before .before .if2 .left), ← test-bit b 0, ← test-bit b 1, ← test-bit b 2)
 
 pub read-mode-spec : {M : Type 1} → statement M
 unfolding readModeOf must

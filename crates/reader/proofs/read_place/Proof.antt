@@ -20,4 +20,4 @@ read-place-spec =
     (λ c κs. search needs)
     (λ c. c .refuse2 .ensures ∙ rw (eq-eqb _ _ (c .before .before .before .before .before .before .if1 .left), ← c .before .before .before .before .before .number-at .ensures, ← c .before .before .before .before .number-at2 .ensures, ← c .before .before .before .number-at3 .ensures, ← c .before .before .place-in-limits .ensures, not-true (c .before .before .place-in-limits .result) (c .before .if2 .taken)))
     (λ c κs. search needs)
-    (λ c. c .accept .ensures ∙ rw (eq-eqb _ _ (c .before .before .before .before .before .before .before .if1 .left), ← c .before .before .before .before .before .before .number-at .ensures, ← c .before .before .before .before .before .number-at2 .ensures, ← c .before .before .before .before .number-at3 .ensures, ← c .before .before .before .place-in-limits .ensures, not-false (c .before .before .before .place-in-limits .result) (c .before .before .if2 .left))))
+    (λ c. c .accept-preset .ensures ∙ rw (eq-eqb _ _ (c .before .before .before .before .before .before .before .if1 .left), ← c .before .before .before .before .before .before .number-at .ensures, ← c .before .before .before .before .before .number-at2 .ensures, ← c .before .before .before .before .number-at3 .ensures, ← c .before .before .before .place-in-limits .ensures, not-false (c .before .before .before .place-in-limits .result) (c .before .before .if2 .left))))
