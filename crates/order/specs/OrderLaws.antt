@@ -18,7 +18,7 @@ use Rattle.settings.specs.Settings.{topsInLimitsOf}
 use Rattle.band.specs.BandLabels.{bandLabels, bandSticks}
 use Rattle.reader.specs.Accepted.{accepted-order, refused-order, order-f32}
 use Rattle.reader.specs.Order.{readOrderOf}
-use Rattle.writer.specs.Bytes.{layoutBytes, writeLayoutOf, outputOf}
+use Rattle.writer.specs.Bytes.{layoutBytes, roomFor, writeLayoutOf, outputOf}
 use Rattle.writer.specs.Length.{lengthFor, length-layout}
 use Rattle.written.specs.Written.{LayoutIsF32}
 use Rattle.written.specs.WidestWritten.{widest-written}
@@ -44,10 +44,6 @@ mode-length analog psp l f =
     let n = few (analog || psp) psp l f in
     length-layout l (omega (arith, f .1 .0)) (omega (arith, f .1 .1)) ∙ rw (f .0 .1, f .0 .2) (mode-bytes analog psp)
 
--- the answer for an output: a count, or 8, sheet too small
-abbrev pub roomFor : ℕ → List ℕ → Answer ℕ
-roomFor n out = cond (leb n (length out)) (accepted n) (refused 8)
-
 mode-answer : (p : Preset) (l : Layout) → OfMode (hasSticks p) (p .psp) l → (out : List ℕ) → writeLayoutOf l out ≡ roomFor (bytesFor (p .analog) (p .psp)) out
 unfolding writeLayoutOf
 mode-answer p l f out = rw (mode-length (p .analog) (p .psp) l f)
@@ -64,7 +60,7 @@ module _ (order : List ℕ) {s : Settings} (e : readOrderOf order ≡ accepted s
 -- ---- the bytes that are written, or none
 module _ (l : Layout) (out : List ℕ) where
   written-case : (C : Answer ℕ → List ℕ → Type 0) → C (accepted (length (layoutBytes l))) (layoutBytes l ++ drop (length (layoutBytes l)) out) → C (refused 8) out → C (writeLayoutOf l out) (outputOf l out)
-  unfolding writeLayoutOf outputOf
+  unfolding writeLayoutOf outputOf must
   written-case C p q = go (leb (length (layoutBytes l)) (length out))
     where
       go : (b : Bool) → C (cond b (accepted (length (layoutBytes l))) (refused 8)) (cond b (layoutBytes l ++ drop (length (layoutBytes l)) out) out)

@@ -14,6 +14,7 @@ use mir.Facts.{toZ-ofZ}
 use borrow.Author.Needs.{sfits-of}
 use borrow.Author.Tests.{leb-true, eqb-true, eqb-false, eq-eqb, ne-eqb}
 use Rattle.prelude.specs.Booleans.{either, both}
+use Rattle.prelude.specs.Lists.{allOf}
 use Rattle.prelude.specs.Signed.{back, kept}
 use Rattle.safe_area.specs.Safe.{at, eqZ, maxOf, clampOf, withinLimitsOf, onScaleOf, allOnScaleOf, sameSizeOf, currentEdgesOf}
 
@@ -43,7 +44,7 @@ within-mag (pos n) h = leb-true n 8192 h
 within-mag (negsuc n) h = let k : n ≤ 8191 = leb-true n 8191 (rw and-true at h) in omega arith
 
 pub within-at : (xs : List ℤ) (i : ℕ) → onScaleOf xs ≡ true → withinLimitsOf (at xs i) ≡ true
-unfolding onScaleOf withinLimitsOf
+unfolding allOf withinLimitsOf
 within-at [] i h = refl
 within-at (x ∷ xs) zero h = both (withinLimitsOf x) (onScaleOf xs) h .0
 within-at (x ∷ xs) (suc i) h = within-at xs i (both (withinLimitsOf x) (onScaleOf xs) h .1)
@@ -123,5 +124,5 @@ sizes-and-edges a b c h =
     (k .0, both (onScaleOf b) (onScaleOf c) (k .1) .1)
 
 pub current-on-scale : (size inset edges : List ℤ) {current : List ℤ} → current ≡ currentEdgesOf size inset edges → onScaleOf edges ≡ true → onScaleOf current ≡ true
-unfolding currentEdgesOf onScaleOf withinLimitsOf
+unfolding currentEdgesOf allOf withinLimitsOf
 current-on-scale size inset edges e h = rw e (either (λ xs. onScaleOf xs ≡ true) (sameSizeOf size inset) h refl)

@@ -1,13 +1,14 @@
 -- `safe_content` and `safe_edges` of input.rs, with refusal 6. Definitions only.
-use mathlib.Core.Bool.{Bool, true, false, _&&_, cond}
-use mathlib.Core.List.{List, [], _∷_}
+use mathlib.Core.Bool.{Bool, false, _&&_, cond}
+use mathlib.Core.List.{List}
 use Prim.Native.Nat.{ℕ, _+_}
 use lib.Dec.{eqb}
 use lib.IntN.{ℤ, pos, negsuc, _-ℤ_}
 use lib.Signed.{ltZ, leZ}
 use lib.ListN.{getD, replicate}
 use lib.Ieee.{Float, binary32, ofInt}
-use Rattle.prelude.specs.Answer.{Answer, accepted, refused}
+use Rattle.prelude.specs.Answer.{Answer, accepted, refused, must}
+use Rattle.prelude.specs.Lists.{allOf}
 use Rattle.geometry.specs.Rect.{newOf}
 use Rattle.geometry.specs.declared.Rect.{Rect}
 use Rattle.safe_area.specs.declared.Edges.{Edges}
@@ -39,9 +40,8 @@ clampOf x low high = cond (ltZ x low) low (cond (ltZ high x) high x)
 unfoldable pub withinLimitsOf : ℤ → Bool
 withinLimitsOf n = leZ (negsuc 8191) n && leZ n (pos 8192)
 
-unfoldable pub onScaleOf : List ℤ → Bool
-onScaleOf [] = true
-onScaleOf (n ∷ ns) = withinLimitsOf n && onScaleOf ns
+abbrev pub onScaleOf : List ℤ → Bool
+onScaleOf ns = allOf withinLimitsOf ns
 
 unfoldable pub allOnScaleOf : List ℤ → List ℤ → List ℤ → Bool
 allOnScaleOf a b c = onScaleOf a && (onScaleOf b && onScaleOf c)
@@ -69,7 +69,7 @@ contentOf size inset edges =
 
 unfoldable pub safeContentOf : List ℤ → List ℤ → List ℤ → Answer Rect
 safeContentOf size inset edges =
-    cond (allOnScaleOf size inset edges) (accepted (contentOf size inset edges)) (refused 6)
+    must (allOnScaleOf size inset edges) 6 (accepted (contentOf size inset edges))
 
 -- The margin at edge i. A camera that is a local obstacle has none.
 unfoldable pub mergedEdgeOf : List ℤ → List ℤ → List ℤ → ℕ → Bool → ℤ
@@ -88,7 +88,7 @@ mergedOf decoration navigation camera local =
 
 unfoldable pub safeEdgesOf : List ℤ → List ℤ → List ℤ → Bool → Answer Edges
 safeEdgesOf decoration navigation camera local =
-    cond (allOnScaleOf decoration navigation camera) (accepted (mergedOf decoration navigation camera local)) (refused 6)
+    must (allOnScaleOf decoration navigation camera) 6 (accepted (mergedOf decoration navigation camera local))
 
 -- Document 01's answer for each case of the code's.
 abbrev pub contentAnswer : SafeContent → Answer Rect

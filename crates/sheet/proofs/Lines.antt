@@ -14,7 +14,7 @@ use Rattle.search.specs.Bounded.{Bounded, BoundedGame}
 use Rattle.writer.proofs.Stores.{stored-all}
 use Rattle.lines.specs.Line.{Line, lineOf, lineText, headText, putOf}
 use Rattle.sheet.specs.Sheet.{controlLine, toolbarLines, stickLines, linesOf, linesText, film, refusal, sheetText, refusedText, layoutSheetOf, refusedSheetOf, gameName, dpadName, pauseName, playName, speedName, muteName, leftName, rightName, zeros, pageOf}
-use Rattle.sheet.specs.SheetLaws.{film-fits, refused-fits, line-count, lines-fit, sheet-fits}
+use Rattle.sheet.specs.SheetLaws.{head-fits, refused-fits, line-count, lines-fit, sheet-fits}
 
 lines-append : (xs ys : List Line) → linesText (xs ++ ys) ≡ linesText xs ++ linesText ys
 unfolding flatMap
@@ -76,7 +76,7 @@ refused-is n h p = page-is _ p (omega (arith, refused-fits n h))
 module _ (l : Layout) (twelve : l .count ≤ 12) (two : l .stickcount ≤ 2) (b : Bounded l) (g : BoundedGame (l .game)) where
   pub sheet-room : length (headText film (l .count + l .stickcount + 6)) + (length (lineText (lineOf gameName (l .game))) + (length (lineText (lineOf dpadName (l .dpad)))
       + (length (controlText (l .count) (l .controls)) + (length (linesText (toolbarLines l)) + length (stickText (l .stickcount) (l .sticks)))))) ≤ 1024
-  sheet-room = omega (arith, simp length-append at (ap length (lines-text l)), film-fits (l .count + l .stickcount + 6) (omega arith), lines-fit l twelve two b g)
+  sheet-room = omega (arith, simp length-append at (ap length (lines-text l)), head-fits (l .count + l .stickcount + 6) (omega arith), lines-fit l twelve two b g)
 
   pub sheet-is : {out : List ℕ} {len : ℕ} → l .count ≤ length (l .controls) → l .stickcount ≤ length (l .sticks)
       → (out, len) ≡ putOf (zeros 1024) 0 (headText film (l .count + l .stickcount + 6) ++ (lineText (lineOf gameName (l .game)) ++ (lineText (lineOf dpadName (l .dpad)) ++ (controlText (l .count) (l .controls) ++ (linesText (toolbarLines l) ++ stickText (l .stickcount) (l .sticks))))))

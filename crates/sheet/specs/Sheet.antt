@@ -75,11 +75,8 @@ abbrev pub zeros : ℕ → List ℕ
 zeros n = replicate n 0
 
 -- a text with zeros after its end
-abbrev pub paged : List ℕ → List ℕ
-paged text = text ++ zeros (1024 - length text)
-
 abbrev pub pageOf : List ℕ → Sheet
-pageOf text = record { bytes = paged text; len = length text }
+pageOf text = record { bytes = text ++ zeros (1024 - length text); len = length text }
 
 unfoldable pub layoutSheetOf : Layout → Sheet
 layoutSheetOf l = pageOf (sheetText (linesOf l))

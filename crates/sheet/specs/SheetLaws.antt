@@ -49,8 +49,8 @@ unfolding flatMap
 length-lines [] e = zero-le
 length-lines (l ∷ ls) e = simp length-append (omega (arith, e .0, length-lines ls (e .1)))
 
-pub film-fits : (n : ℕ) → n ≤ 20 → length (headText film n) ≤ 8
-film-fits n h = omega (arith, length-head film n, length-digits 1 n (omega arith))
+pub head-fits : (n : ℕ) → n ≤ 20 → length (headText film n) ≤ 8
+head-fits n h = omega (arith, length-head film n, length-digits 1 n (omega arith))
 
 pub refused-fits : (n : ℕ) → n ≤ 8 → length (headText refusal n) ≤ 10
 refused-fits n h = omega (arith, length-head refusal n, length-digits 0 n (omega arith))
@@ -103,4 +103,4 @@ module _ (l : Layout) (twelve : l .count ≤ 12) (two : l .stickcount ≤ 2) (b 
   -- and a header of 8
   pub sheet-fits : BoundedGame (l .game) → length (sheetText (linesOf l)) ≤ 788
   unfolding sheetText
-  sheet-fits g = simp length-append (omega (arith, lines-fit g, film-fits (length (linesOf l)) few-lines))
+  sheet-fits g = simp length-append (omega (arith, lines-fit g, head-fits (length (linesOf l)) few-lines))

@@ -17,14 +17,16 @@ use Rattle.settings.specs.Settings.{topsInLimitsOf}
 use Rattle.safe_area.specs.Safe.{allOnScaleOf, contentOf, safeContentOf, mergedOf, safeEdgesOf}
 use Rattle.reader.specs.Accepted.{refused-order}
 use Rattle.reader.specs.Order.{readOrderOf}
+use Rattle.writer.specs.Bytes.{roomFor}
 use Rattle.order.specs.Orders.{orderLayout, layoutOf, layoutOutputOf, orderViewport, viewportLayoutOf, viewportOutputOf}
-use Rattle.order.specs.OrderLaws.{bytesFor, roomFor, layout-answer, viewport-answer, layout-refused, viewport-refused, touch-refused}
+use Rattle.order.specs.OrderLaws.{bytesFor, layout-answer, viewport-answer, layout-refused, viewport-refused, touch-refused}
 use Rattle.film_sheet.specs.Film.{filmSheetOf}
 use Rattle.film_sheet.specs.FilmLaws.{film-fits}
 use Rattle.thumb_layout.specs.Interface.{numberOf, tlLayoutOf, tlTouchOf, tlViewportLayoutOf, tlFilmOf, tlFilmOutputOf, twoOf, fourOf, areaNumbers, edgeNumbers, roomOf, statusOf, fourOutput, contentFour, tlSafeContentOf, tlSafeContentOutputOf, edgesFour, tlSafeEdgesOf, tlSafeEdgesOutputOf}
 
 -- ---- bytes: 353 at most
 room-small : (analog psp : Bool) (out : List ℕ) → mag (numberOf (roomFor (bytesFor analog psp) out)) ≤ 353
+unfolding must
 room-small analog psp out =
     either (λ a. mag (numberOf a) ≤ 353) (leb (bytesFor analog psp) (length out)) (either (λ n. n ≤ 353) psp (omega arith) (either (λ n. n ≤ 353) analog (omega arith) (omega arith))) (omega arith)
 
@@ -88,7 +90,7 @@ abbrev Safe : ℕ → Type 0
 Safe n = (n ≡ 2) ⊎ ((n ≡ 5) ⊎ (n ≡ 7))
 
 four-below : {A B : Type 0} (long scale : Bool) (x : B) (numbers : B → List A) (out : List A) {n : ℕ}
-    → let four = must long 3 (andThen (cond scale (accepted x) (refused 6)) (λ r. roomOf (numbers r) out)) in
+    → let four = must long 3 (andThen (must scale 6 (accepted x)) (λ r. roomOf (numbers r) out)) in
     statusOf four ≡ negsuc n → Safe n × (fourOutput four out ≡ out)
 unfolding must
 four-below false scale x numbers out e = (inl cc, refl)

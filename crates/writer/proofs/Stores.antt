@@ -8,7 +8,7 @@ use native.Mathlib.Omega.{arith}
 use borrow.Author.Tests.{le-leb, lt-leb}
 use lib.ListN.{length, set, drop}
 use lib.Seq.{sets-eq, length-sets}
-use Rattle.prelude.specs.Answer.{accepted, refused}
+use Rattle.prelude.specs.Answer.{accepted, refused, must}
 use Rattle.prelude.specs.Stores.{store, store-sets}
 use Rattle.geometry.specs.declared.Rect.{Rect}
 use Rattle.layout.specs.declared.Layout.{Layout}
@@ -42,14 +42,14 @@ stored-all l vs h = sets-eq vs l 0 (omega arith) ∙ rw zero-add
 -- ---- the whole layout
 module _ (l : Layout) (cs : l .count ≤ length (l .controls)) (ss : l .stickcount ≤ length (l .sticks)) (out : List ℕ) where
   pub too-small : length out < lengthFor (l .count) (l .stickcount) → (refused 8 ≡ writeLayoutOf l out) × (out ≡ outputOf l out)
-  unfolding writeLayoutOf outputOf
+  unfolding writeLayoutOf outputOf must
   too-small h =
       let g = lt-leb (length (layoutBytes l)) (length out) (omega (arith, length-layout l cs ss)) in
       (rw g, rw g)
 
   pub fits : {n : ℕ} {end : List ℕ} → n ≡ lengthFor (l .count) (l .stickcount) → n ≤ length out → end ≡ stored out 0 (layoutBytes l)
       → (accepted n ≡ writeLayoutOf l out) × (end ≡ outputOf l out)
-  unfolding writeLayoutOf outputOf
+  unfolding writeLayoutOf outputOf must
   fits e h p =
       let k = length-layout l cs ss in
       let g = le-leb (length (layoutBytes l)) (length out) (omega arith) in

@@ -6,7 +6,7 @@ use lib.Dec.{eqb, leb}
 use lib.Ieee.{Float, binary32, toBits}
 use lib.ListN.{length, drop}
 use lib.Seq.{sets}
-use Rattle.prelude.specs.Answer.{Answer, accepted, refused}
+use Rattle.prelude.specs.Answer.{Answer, accepted, refused, must}
 use Rattle.geometry.specs.declared.Rect.{Rect}
 use Rattle.layout.specs.declared.Control.{Control}
 use Rattle.layout.specs.declared.Layout.{Layout}
@@ -48,9 +48,12 @@ layoutBytes l =
     ++ (fieldBytes 2 (flatMap rectBytes (elementsOf l))
     ++ fieldBytes 3 (flatMap maskBytes (controlList l)))
 
--- the answer: how many bytes are written, or 8, sheet too small
+-- how many bytes are written to an output, or 8, sheet too small
+abbrev pub roomFor : ℕ → List ℕ → Answer ℕ
+roomFor n out = must (leb n (length out)) 8 (accepted n)
+
 unfoldable pub writeLayoutOf : Layout → List ℕ → Answer ℕ
-writeLayoutOf l out = let n = length (layoutBytes l) in cond (leb n (length out)) (accepted n) (refused 8)
+writeLayoutOf l out = roomFor (length (layoutBytes l)) out
 
 abbrev pub answerOf : Written → Answer ℕ
 answerOf (Bytes n) = accepted n

@@ -5,6 +5,7 @@ use mathlib.Core.Path.{ap}
 use Prim.Native.Nat.{_-_}
 use lib.IntN.{pos}
 use lib.Seq.{take-length}
+use Rattle.prelude.specs.Lists.{allOf}
 use Rattle.prelude.specs.Loops.{Rest, stops, goes-on, runs-out}
 use Rattle.prelude.specs.Signed.{kept}
 use Rattle.safe_area.specs.Safe.{onScaleOf}
@@ -18,7 +19,7 @@ abbrev μ-loop : tie.MeasureT-loop
 μ-loop numbers i₀ i-end i = i-end - i
 
 pub on-scale-spec : {M : Type 1} → statement M
-unfolding onScaleOf
+unfolding allOf
 on-scale-spec =
     tie.close
     (tie.spec

@@ -1,4 +1,5 @@
 use Rattle.safe_area.proofs.Scale.{sizes-and-edges}
+use Rattle.prelude.specs.Answer.{must}
 use Rattle.safe_area.specs.Safe.{safeContentOf}
 use mathlib.Core.Path.{sym, _∙_}
 use borrow.Author.Needs.{needs}
@@ -6,7 +7,7 @@ use Rattle.safe_area.proofs.safe_content.Statement.{statement}
 use Rattle.safe_area.proofs.safe_content.Tie as tie
 
 pub safe-content-spec : {M : Type 1} → statement M
-unfolding safeContentOf
+unfolding safeContentOf must
 safe-content-spec =
     tie.close
     (tie.spec

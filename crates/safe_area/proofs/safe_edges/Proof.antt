@@ -1,10 +1,11 @@
+use Rattle.prelude.specs.Answer.{must}
 use Rattle.safe_area.specs.Safe.{safeEdgesOf}
 use borrow.Author.Needs.{needs}
 use Rattle.safe_area.proofs.safe_edges.Statement.{statement}
 use Rattle.safe_area.proofs.safe_edges.Tie as tie
 
 pub safe-edges-spec : {M : Type 1} → statement M
-unfolding safeEdgesOf
+unfolding safeEdgesOf must
 safe-edges-spec =
     tie.close
     (tie.spec
