@@ -6,6 +6,7 @@ use lib.Dec.{T, leb}
 use lib.Ieee.{Float}
 use lib.Ieee.Fits.{and-l, and-r}
 use Rattle.prelude.specs.Each.{Each, _&_}
+use Rattle.prelude.specs.EachLaws.{each-mapFirst}
 use Rattle.geometry.specs.declared.Rect.{Rect}
 use Rattle.geometry.specs.Rect.{emptyRect}
 use Rattle.layout.specs.declared.Label.{Label}
@@ -16,7 +17,7 @@ use Rattle.numerics.specs.Range.{In, at, minus}
 use Rattle.numerics.specs.Ranges.{in-more, add-in, sub-in, div-in, placed-in}
 use Rattle.numerics.specs.Literals.{lit, i4√2, f1√2, f2}
 use Rattle.search.specs.Bounded.{Every}
-use Rattle.search.proofs.Changes.{each-mapFirst, controls-in}
+use Rattle.search.proofs.Changes.{controls-in}
 use Rattle.arranged.specs.declared.Faces.{Faces}
 use Rattle.arranged.specs.declared.Places.{Places}
 use Rattle.arranged.specs.Places.{placeFacesOf, wellFacesOf, atOf, controllerOf, moved, placedOf}

@@ -7,7 +7,7 @@ use native.Mathlib.Omega.{arith}
 use lib.Ieee.{Float}
 use lib.ListN.{length, length-set}
 use Rattle.prelude.specs.Lists.{retain}
-use Rattle.prelude.specs.Stores.{stored}
+use Rattle.prelude.specs.Stores.{take-store}
 use Rattle.geometry.specs.declared.Rect.{Rect}
 use Rattle.layout.specs.declared.Control.{Control}
 use Rattle.layout.specs.declared.Label.{Label}
@@ -53,7 +53,7 @@ pub with-analog-controls : (l : Layout) (l3 r3 left right : Rect) → l .count +
 unfolding withAnalogOf
 with-analog-controls l l3 r3 left right h =
     let first : l .count + 0 ≡ l .count = omega arith in
-    rw first at (stored (l .controls) _ (control l3 L3 ∷ control r3 R3 ∷ []) (l .count) 0 2 (l .count + 2) refl (omega arith) (omega arith) (omega arith))
+    rw first at (take-store (l .controls) _ (control l3 L3 ∷ control r3 R3 ∷ []) (l .count) 0 2 (l .count + 2) refl (omega arith) (omega arith) (omega arith))
 
 pub with-analog-formed : (l : Layout) (l3 r3 left right : Rect) → Formed standardLabels 0 l → Formed analogLabels 2 (withAnalogOf l l3 r3 left right)
 unfolding withAnalogOf

@@ -14,6 +14,7 @@ use Rattle.layout.specs.declared.Layout.{Layout}
 use Rattle.layout.specs.Actions.{actionElementsOf}
 use Rattle.layout.specs.Labels.{analogLabels, Formed}
 use Rattle.layout.specs.LabelLaws.{set-elements-formed}
+use Rattle.layout.specs.ActionLaws.{face-count}
 use Rattle.search.specs.Search.{placeGameInAspectOf}
 use Rattle.toolbar.specs.Toolbar.{anchorToolbarOf}
 use Rattle.arranged.specs.Found.{Given}
@@ -22,7 +23,7 @@ use Rattle.band.specs.BandLabels.{bandLabels, bandSticks, band-faces, band-coun
 use Rattle.defaults.specs.Defaults.{analogDefaultOf}
 use Rattle.defaults.specs.DefaultLabels.{analog-formed}
 use Rattle.cutouts.specs.Cutouts.{withAreaOf, avoidCutoutsOf}
-use Rattle.cutouts.specs.CutoutLaws.{length-after, face-count}
+use Rattle.cutouts.specs.CutoutLaws.{length-after}
 use Rattle.camera_rails.specs.CameraRails.{cameraPlacesOf, cameraRailedOf, anchoredRailsOf, analogCameraRailsOf}
 use Rattle.camera_rails.specs.CameraCases.{cameraRail, cameraFace, camera-case}
 

@@ -7,7 +7,7 @@ use lib.Ieee.{Float, lt}
 use Rattle.prelude.specs.Booleans.{either}
 use Rattle.prelude.specs.Lists.{filterMap}
 use Rattle.prelude.specs.Each.{Each, _&_}
-use Rattle.prelude.specs.EachLaws.{fold-ind}
+use Rattle.prelude.specs.EachLaws.{fold-ind, each-filter}
 use Rattle.float.specs.Float.{_⊖_, _⊗_, _⊘_, k1, k2, k3, k4, k48, k122, k184, k272, k480}
 use Rattle.float.specs.MinMax.{minOf}
 use Rattle.geometry.specs.declared.Rect.{Rect}
@@ -19,7 +19,6 @@ use Rattle.numerics.specs.Ranges.{in-reach, in-more, most-in, area-side, add-in
 use Rattle.numerics.specs.Literals.{lit, f2, f3, f4, psp-wide}
 use Rattle.numerics.specs.Shrunk.{signed-in, placed-shrunk}
 use Rattle.search.specs.Bounded.{Bounded, Shrunk}
-use Rattle.search.proofs.Placement.{each-filter}
 use Rattle.search.proofs.Layouts.{place-bounded}
 use Rattle.search.proofs.Changes.{shrunk-bounded, anchored-shrunk, dpad-in, sticks-in, psp-in}
 use Rattle.search.specs.Search.{centred}

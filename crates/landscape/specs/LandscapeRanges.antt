@@ -5,10 +5,11 @@ use Prim.Native.Nat.{ℕ, _+_, _≤_, _<_}
 use lib.Dec.{T, ltb}
 use lib.Ieee.{Float, lt}
 use lib.ListN.{length, getD, set}
-use Rattle.prelude.specs.Booleans.{either, nor-l, nor-r}
+use mir.Facts.{or-no}
+use Rattle.prelude.specs.Booleans.{either}
 use Rattle.prelude.specs.Lists.{mapFirst, filterMap, reduce}
 use Rattle.prelude.specs.Each.{Each}
-use Rattle.prelude.specs.EachLaws.{each-take, each-at, each-set, fold-ind}
+use Rattle.prelude.specs.EachLaws.{each-take, each-at, each-set, fold-ind, each-filter, each-mapFirst}
 use Rattle.float.specs.Float.{k1, k104, k122}
 use Rattle.geometry.specs.declared.Rect.{Rect}
 use Rattle.geometry.specs.Rect.{emptyRect}
@@ -29,9 +30,8 @@ use Rattle.numerics.specs.Literals.{lit, i0·5, f2}
 use Rattle.numerics.specs.Shrunk.{shrunkMargin}
 use Rattle.search.specs.Bounded.{Every, Bounded, BoundedGame}
 use Rattle.search.specs.Widest.{WidestGame}
-use Rattle.search.proofs.Changes.{each-mapFirst, every-imp, dpad-in, controls-in, sticks-in}
+use Rattle.search.proofs.Changes.{every-imp, dpad-in, controls-in, sticks-in}
 use Rattle.search.proofs.Layouts.{place-bounded, place-game-in, place-widest}
-use Rattle.search.proofs.Placement.{each-filter}
 use Rattle.search.proofs.Shapes.{Shape}
 use Rattle.search.specs.Search.{centred}
 use Rattle.toolbar.specs.Toolbar.{toolbarHeight}
@@ -63,15 +63,15 @@ row-in {w} {h} {face} {stick} W H F S t =
     let r = measureRowOf w h face stick in
     let tight = lt (r .shouldery) toolbarHeight in
     let small = lt face k122 || lt stick k104 in
-    let n = nor-r tight small t in
-    let f = in-more (at 122) (at 8200) (not-below (most-in F tt) (lit 122) (nor-l (lt face k122) (lt stick k104) n)) tt tt in
-    let s = in-more (at 104) (at 8200) (not-below (most-in S tt) (lit 104) (nor-r (lt face k122) (lt stick k104) n)) tt tt in
+    let n = or-no tight small t .1 in
+    let f = in-more (at 122) (at 8200) (not-below (most-in F tt) (lit 122) (or-no (lt face k122) (lt stick k104) n .0)) tt tt in
+    let s = in-more (at 104) (at 8200) (not-below (most-in S tt) (lit 104) (or-no (lt face k122) (lt stick k104) n .1)) tt tt in
     let rowY = sub-in (sub-in H (lit 4) tt) (lit 48) tt in
     let stickY = sub-in (sub-in rowY (lit 8) tt) s tt in
     let faceY = sub-in (sub-in stickY (lit 8) tt) f tt in
     let above = sub-in faceY (lit 8) tt in
     let high = sub-in above (lit 48) tt in
-    let shoulderY = not-below high (lit 18) (nor-l tight small t) in
+    let shoulderY = not-below high (lit 18) (or-no tight small t .0) in
     record {
       w = W;
       face = f;

@@ -1,17 +1,20 @@
--- The box around the face controls, by the controls' own rectangles.
+-- The face controls: the box around them, by their own rectangles, and their number, by the labels.
 use mathlib.Core.Path.{_≡_, refl, ap, sym, _∙_}
+use mathlib.Core.Bool.{Bool, true, false, cond}
 use mathlib.Core.List.{List, [], _∷_, map}
 use Prim.Native.Nat.{ℕ, suc, _+_, _-_, _<_, _≤_}
 use native.Mathlib.Omega.{arith}
 use lib.ListN.{length, getD}
 use lib.Seq.{getD-take, length-take-le}
-use Rattle.prelude.specs.Lists.{filterMap, reduce, enumerateFrom}
+use Rattle.prelude.specs.Lists.{filterMap, reduce, enumerateFrom, retain}
 use Rattle.prelude.specs.ListLaws.{map-cond}
 use Rattle.geometry.specs.Rect.{emptyRect}
 use Rattle.layout.specs.declared.Control.{Control}
 use Rattle.layout.specs.declared.Layout.{Layout}
+use Rattle.layout.specs.declared.Label.{Label}
 use Rattle.layout.specs.Label.{isFaceOf}
 use Rattle.layout.specs.Layout.{anyControl, controlList, elementOf}
+use Rattle.layout.specs.Labels.{labelsOf}
 use Rattle.layout.specs.ElementLaws.{by-ltb}
 use Rattle.layout.specs.Actions.{joinOf, actionElementsOf, actionBoundsOf}
 
@@ -42,3 +45,17 @@ module _ (l : Layout) where
   pub action-bounds : l .count ≤ length (l .controls) → actionBoundsOf l ≡ reduce joinOf emptyRect (filterMap (λ c. isFaceOf (c .label)) (λ c. c .bounds) (controlList l))
   unfolding actionBoundsOf
   action-bounds h = ap (reduce joinOf emptyRect) (action-boxes h)
+
+-- ---- how many faces a layout has, by its labels
+count-faces : (j : ℕ) (cs : List Control)
+    → length (filterMap (λ (e : ℕ × Control). isFaceOf (e .1 .label)) (λ (e : ℕ × Control). e .0) (enumerateFrom j cs)) ≡ length (retain isFaceOf (map (λ (c : Control). c .label) cs))
+count-faces j [] = refl
+count-faces j (c ∷ cs) = go (isFaceOf (c .label)) _ _ (count-faces (suc j) cs)
+  where
+    go : (b : Bool) (is : List ℕ) (ks : List Label) → length is ≡ length ks → length (cond b (j ∷ is) is) ≡ length (cond b (c .label ∷ ks) ks)
+    go true is ks e = ap suc e
+    go false is ks e = e
+
+pub face-count : (l : Layout) (labels : List Label) → labelsOf l ≡ labels → length (actionElementsOf l) ≡ length (retain isFaceOf labels)
+unfolding actionElementsOf
+face-count l labels e = count-faces 1 (controlList l) ∙ ap (λ (ks : List Label). length (retain isFaceOf ks)) e

@@ -5,8 +5,8 @@ use Prim.Native.Nat.{ℕ, _+_, _≤_}
 use native.Mathlib.Omega.{arith}
 use lib.ListN.{length, take, drop, length-drop, length-map}
 use lib.Seq.{length-front, length-take-le}
-use Rattle.prelude.specs.Lists.{mapFirst, retain, replaceFirst}
-use Rattle.prelude.specs.ListLaws.{length-mapFirst, take-mapFirst, length-zipWith}
+use Rattle.prelude.specs.Lists.{mapFirst, retain}
+use Rattle.prelude.specs.ListLaws.{length-mapFirst, take-mapFirst, length-zipWith, length-replaceFirst}
 use Rattle.geometry.specs.declared.Rect.{Rect}
 use Rattle.layout.specs.declared.Control.{Control}
 use Rattle.layout.specs.declared.Label.{Label}
@@ -19,10 +19,6 @@ use Rattle.layout.specs.ElementLaws.{length-elements}
 use Rattle.layout.specs.SetElementLaws.{set-elements-kept}
 use Rattle.layout.specs.Psp.{atMostOneOf, onPsp, pspInputsOf}
 use Rattle.layout.specs.PspLaws.{psp-controls, psp-labels}
-
-module _ {A : Type 0} where
-  length-replaceFirst : (n : ℕ) (new old : List A) → n ≤ length new → n ≤ length old → length (replaceFirst n new old) ≡ length old
-  length-replaceFirst n new old h k = length-front old (take n new) n (length-take-le n new h ∙ sym (length-take-le n old k))
 
 module _ (labels : List Label) (sticks : ℕ) (l : Layout) where
   -- a change that keeps each control's label

@@ -5,9 +5,8 @@ use Prim.Native.Nat.{ℕ, zero, suc, _+_, _<_, _≤_}
 use native.Mathlib.Nat.{add-suc}
 use native.Mathlib.Omega.{arith}
 use lib.ListN.{length, take, drop, getD, length-drop, take-append-drop}
-use lib.Seq.{take-nil, take-take, getD-take, drop-cons, drop-drop, take-at, take-all, length-take-le}
-use Rattle.prelude.specs.Lists.{replaceFirst}
-use Rattle.prelude.specs.ListLaws.{length-zipWith, take-zipWith}
+use lib.Seq.{take-take, getD-take, drop-cons, drop-drop, take-all}
+use Rattle.prelude.specs.ListLaws.{length-zipWith, take-zipWith, take-replaceFirst, drop-take}
 use Rattle.geometry.specs.declared.Rect.{Rect}
 use Rattle.layout.specs.declared.Control.{Control}
 use Rattle.layout.specs.declared.Label.{Label}
@@ -16,18 +15,9 @@ use Rattle.layout.specs.Layout.{anyRect, withBounds, elementCountOf, bou
 use Rattle.layout.specs.Elements.{setElementsOf}
 use Rattle.layout.specs.Labels.{labelsOf}
 
-module _ {A : Type 0} where
-  drop-take : (n k : ℕ) (l : List A) → drop n (take (n + k) l) ≡ take k (drop n l)
-  drop-take zero k l = let e : 0 + k ≡ k = omega arith in ap (λ (i : ℕ). take i l) e
-  drop-take (suc n) k [] = let e : suc n + k ≡ suc (n + k) = omega arith in ap (λ (i : ℕ). drop (suc n) (take i [])) e ∙ sym (take-nil k)
-  drop-take (suc n) k (x ∷ l) = let e : suc n + k ≡ suc (n + k) = omega arith in ap (λ (i : ℕ). drop (suc n) (take i (x ∷ l))) e ∙ drop-take n k l
-
-  -- the elements from n + j on, the first of them apart
-  drop-next : (l : List A) (n j : ℕ) (d : A) → n + j < length l → drop (n + j) l ≡ getD l (n + j) d ∷ drop (n + suc j) l
-  drop-next l n j d h = rw add-suc (drop-cons l (n + j) d h)
-
-  take-replaceFirst : (n : ℕ) (new old : List A) → n ≤ length new → take n (replaceFirst n new old) ≡ take n new
-  take-replaceFirst n new old h = take-at (take n new) (drop n old) n (length-take-le n new h)
+-- the elements from n + j on, the first of them apart
+drop-next : {A : Type 0} (l : List A) (n j : ℕ) (d : A) → n + j < length l → drop (n + j) l ≡ getD l (n + j) d ∷ drop (n + suc j) l
+drop-next l n j d h = rw add-suc (drop-cons l (n + j) d h)
 
 -- new rectangles for controls
 new-bounds : (n : ℕ) (cs : List Control) (rs : List Rect) → n ≤ length cs → n ≤ length rs → map (λ c. c .bounds) (take n (zipWith withBounds cs rs)) ≡ take n rs

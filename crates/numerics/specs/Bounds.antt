@@ -11,7 +11,8 @@ use lib.Pow.{pow-pos}
 use lib.Ieee.{Float, ofBits, lt, le, eq, ne}
 use lib.Ieee.Compare.{differs-from-itself}
 use lib.Ieee.Bits.{is-false}
-use Rattle.prelude.specs.Booleans.{by-test, or-case, nor-l}
+use mir.Facts.{or-no}
+use Rattle.prelude.specs.Booleans.{by-test, or-case}
 use Rattle.float.specs.Float.{_⊕_, _⊖_, _⊗_, _⊘_, k0}
 use Rattle.float.specs.MinMax.{minOf, maxOf}
 use Rattle.numerics.specs.Value.{magnitude, Whole, posPart, negPart, eps, top, limit, AtMost, Fraction, P, N, E, Le}
@@ -163,7 +164,7 @@ le-law d x y p q t = or-case (lt x y) (eq x y) (lt-law d x y p q) (λ u. eq-law 
 
 pub le-not : (d : ℕ) (x y : Float) → Whole x → Whole y → T (not (le x y)) → Le d y x
 unfolding le
-le-not d x y p q t = lt-not d x y p q (nor-l (lt x y) (eq x y) t)
+le-not d x y p q t = lt-not d x y p q (or-no (lt x y) (eq x y) t .0)
 
 -- ---- the lesser and the greater, the first on a tie, a number before a NaN
 whole-same : (x : Float) → Whole x → ne x x ≡ false

@@ -4,7 +4,8 @@ use mathlib.Core.List.{List, [], _∷_}
 use mathlib.Core.Option.{Option, some, none}
 use lib.Dec.{T}
 use lib.Ieee.{Float, lt}
-use Rattle.prelude.specs.Booleans.{either, nor-l, nor-r}
+use mir.Facts.{or-no}
+use Rattle.prelude.specs.Booleans.{either}
 use Rattle.prelude.specs.Each.{Each}
 use Rattle.float.specs.Float.{_⊖_, k96, k124}
 use Rattle.geometry.specs.declared.Rect.{Rect}
@@ -23,7 +24,7 @@ module _ (C : Layout → Type 0) where
         let s = measureStackOf left right analog in
         let low = analog && lt (s .stick) k96 in
         let small = lt (s .well) minWell || lt (s .width) k124 in
-        guard C (low || small) (λ t. given C (f (nor-l low small t) (nor-l (lt (s .well) minWell) (lt (s .width) k124) (nor-r low small t))))
+        guard C (low || small) (λ t. given C (f (or-no low small t .0) (or-no (lt (s .well) minWell) (lt (s .width) k124) (or-no low small t .1) .0)))
 
     pub horizontal-case : (w : Float) (band : Rect) (analog psp : Bool)
         → (T (not (lt (measureRowOf w band analog psp .well) minWell)) → C (rowedOf base w (measureRowOf w band analog psp))) → Given C (horizontalOf base w band analog psp)
@@ -31,7 +32,7 @@ module _ (C : Layout → Type 0) where
     horizontal-case w band analog psp f =
         let row = measureRowOf w band analog psp in
         let narrow = lt (row .middleright ⊖ row .middleleft) (row .required) in
-        guard C (lt (row .well) minWell || narrow) (λ t. given C (f (nor-l (lt (row .well) minWell) narrow t)))
+        guard C (lt (row .well) minWell || narrow) (λ t. given C (f (or-no (lt (row .well) minWell) narrow t .0)))
 
   module _ (w h : Float) (game : Rect) (holes : List Rect) where
     pub first-case : (candidates : List (Option Layout)) → Each (Given C) candidates → Given C (firstFit w h game holes candidates)

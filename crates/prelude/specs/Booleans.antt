@@ -46,7 +46,7 @@ last-fails true true c t i j = t
 last-fails true false c t i j = absurd j
 last-fails false b c t i j = absurd i
 
--- ---- of two tests one passes, or neither
+-- ---- of two tests one passes
 pub or-case : (a b : Bool) → {C : Type 0} → (T a → C) → (T b → C) → T (a || b) → C
 or-case true b f g t = f tt
 or-case false b f g t = g t
@@ -58,11 +58,3 @@ or-l false b t = absurd t
 pub or-r : (a b : Bool) → T b → T (a || b)
 or-r true b t = tt
 or-r false b t = t
-
-pub nor-l : (a b : Bool) → T (not (a || b)) → T (not a)
-nor-l true b t = t
-nor-l false b t = tt
-
-pub nor-r : (a b : Bool) → T (not (a || b)) → T (not b)
-nor-r true b t = absurd t
-nor-r false b t = t

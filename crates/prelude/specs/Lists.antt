@@ -1,7 +1,8 @@
--- Loops over lists, as definitions write them: any, all, find, filter with map, retain, reduce, enumerate, `a..b`, and a change of the first elements in place. Definitions only.
+-- Loops over lists, as definitions write them: any, all, no element, find, filter with map, retain, reduce, enumerate, `a..b`, and a change of the first elements in place. Definitions only.
 use mathlib.Core.Bool.{Bool, true, false, _&&_, _||_, cond}
 use mathlib.Core.List.{List, [], _∷_, _++_, foldl}
 use Prim.Native.Nat.{ℕ, zero, suc, _-_}
+use lib.Dec.{eqb}
 use lib.ListN.{length, take, drop}
 
 module _ {A : Type 0} where
@@ -12,6 +13,9 @@ module _ {A : Type 0} where
   unfoldable pub allOf : (A → Bool) → List A → Bool
   allOf p [] = true
   allOf p (x ∷ xs) = p x && allOf p xs
+
+  abbrev pub isEmpty : List A → Bool
+  isEmpty xs = eqb (length xs) 0
 
   -- g of each of the first n elements, and the rest as it is
   unfoldable pub mapFirst : (A → A) → ℕ → List A → List A

@@ -1,4 +1,4 @@
--- What stands at the front of an array after stores.
+-- What stands at the front of an array after stores, and an array of two.
 use mathlib.Core.Path.{_≡_, refl, ap, sym, _∙_}
 use mathlib.Core.List.{List, [], _∷_, _++_, map, map-append, append-assoc}
 use Prim.Native.Nat.{ℕ, suc, _+_, _<_, _≤_}
@@ -13,6 +13,10 @@ use Rattle.prelude.specs.Loops.{Done, does}
 -- one more behind the first n
 pub put-more : {A : Type 0} (out : List A) (n : ℕ) (v : A) {xs xs' : List A} → n < length out → take n out ≡ xs → xs' ≡ xs ++ (v ∷ []) → take (n + 1) (set out n v) ≡ xs'
 put-more out n v h p e = rw (add-one n, take-suc-set out n v h, p, e)
+
+-- the same, with what is still to come
+pub put-rest : {A : Type 0} (out : List A) (n : ℕ) (v : A) (rest : List A) → n < length out → take (n + 1) (set out n v) ++ rest ≡ take n out ++ (v ∷ rest)
+put-rest out n v rest h = rw (add-one n, take-suc-set out n v h, append-snoc)
 
 module _ {A B : Type 0} where
   -- a turn of a loop that stores f of the next element behind xs
@@ -31,8 +35,8 @@ module _ {A : Type 0} where
   store-sets out n j (v ∷ vs) = store-sets (set out (n + j) v) n (suc j) vs ∙ ap (λ (k : ℕ). sets (set out (n + j) v) k vs) (add-suc n j)
 
   -- xs, and then the first m of the elements that were stored behind it
-  pub stored : (out xs vs : List A) (n j m k : ℕ) → take (n + j) out ≡ xs → n + j + length vs ≤ length out → m ≤ length vs → k ≡ n + j + m → take k (store out n j vs) ≡ xs ++ take m vs
-  stored out xs vs n j m k p h l e =
+  pub take-store : (out xs vs : List A) (n j m k : ℕ) → take (n + j) out ≡ xs → n + j + length vs ≤ length out → m ≤ length vs → k ≡ n + j + m → take k (store out n j vs) ≡ xs ++ take m vs
+  take-store out xs vs n j m k p h l e =
       let q : length xs ≡ n + j = ap length (sym p) ∙ length-take-le (n + j) out (omega arith) in
       let r : k ≡ length xs + m = omega arith in
       rw (store-sets out n j vs, sets-eq vs out (n + j) h, p, r, append-assoc, take-append-add xs, take-append-le m vs)

@@ -5,12 +5,12 @@ use lib.Dec.{T}
 use lib.Ieee.{Float}
 use lib.Ieee.Fits.{and-l, and-r}
 use Rattle.prelude.specs.Booleans.{by-test}
+use Rattle.prelude.specs.Lists.{isEmpty}
 use Rattle.geometry.specs.declared.Rect.{Rect}
 use Rattle.layout.specs.declared.Layout.{Layout}
 use Rattle.search.specs.Search.{placeGameInAspectOf}
 use Rattle.settings.specs.declared.Preset.{Preset}
 use Rattle.settings.specs.Settings.{savedList, untouchedOf}
-use Rattle.saved.specs.Saved.{isEmpty}
 use Rattle.band.specs.Band.{aspectOf}
 use Rattle.landscape.specs.Landscape.{fitLandscapeControlsOf}
 use Rattle.chosen.specs.Chosen.{firstOf, areaOf, arrangementOf}

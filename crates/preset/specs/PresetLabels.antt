@@ -3,6 +3,7 @@ use mathlib.Core.Bool.{Bool, _||_}
 use mathlib.Core.List.{List}
 use lib.Ieee.{Float, lt}
 use Rattle.prelude.specs.Booleans.{either}
+use Rattle.prelude.specs.Lists.{isEmpty}
 use Rattle.float.specs.Float.{k0, k1}
 use Rattle.float.specs.MinMax.{maxOf}
 use Rattle.geometry.specs.declared.Rect.{Rect}
@@ -12,7 +13,7 @@ use Rattle.layout.specs.Layout.{elementsOf}
 use Rattle.settings.specs.declared.Preset.{Preset}
 use Rattle.settings.specs.declared.Settings.{Settings}
 use Rattle.settings.specs.Settings.{savedList}
-use Rattle.saved.specs.Saved.{isEmpty, withSavedOf}
+use Rattle.saved.specs.Saved.{withSavedOf}
 use Rattle.saved.specs.SavedLaws.{length-restored}
 use Rattle.toolbar.specs.Toolbar.{anchorToolbarOf, reusableTopOf}
 use Rattle.band.specs.Band.{aspectOf}

@@ -5,6 +5,8 @@ use lib.Dec.{T}
 use lib.Ieee.{Float, lt}
 use Rattle.prelude.specs.Booleans.{either}
 use Rattle.prelude.specs.Each.{Each}
+use Rattle.prelude.specs.Lists.{isEmpty}
+use Rattle.prelude.specs.ListLaws.{not-empty}
 use Rattle.float.specs.Float.{k0}
 use Rattle.geometry.specs.declared.Rect.{Rect}
 use Rattle.layout.specs.declared.Layout.{Layout}
@@ -23,8 +25,7 @@ use Rattle.settings.specs.declared.Preset.{Preset}
 use Rattle.settings.specs.declared.Settings.{Settings}
 use Rattle.settings.specs.Settings.{savedList}
 use Rattle.limits.specs.InRange.{InRange}
-use Rattle.saved.specs.Saved.{isEmpty, withSavedOf}
-use Rattle.saved.specs.SavedLaws.{not-empty}
+use Rattle.saved.specs.Saved.{withSavedOf}
 use Rattle.saved.specs.SavedRanges.{saved-bounded}
 use Rattle.toolbar.specs.Toolbar.{anchorToolbarOf}
 use Rattle.toolbar.specs.ToolbarRanges.{avoided-in, anchor-in, anchored-in, reusable-in}

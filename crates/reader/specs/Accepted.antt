@@ -1,7 +1,7 @@
 -- An accepted order gives settings in document 01's limits, each number of which is a value of binary32; a refused one has a number from 1 to 7.
 use mathlib.Core.Path.{_≡_, refl, _∙_}
 use mathlib.Core.Bool.{Bool, true, false, _&&_, _||_}
-use mathlib.Core.List.{List, [], _∷_, _++_}
+use mathlib.Core.List.{List, [], _∷_}
 use Prim.Native.Nat.{ℕ, zero, suc, _+_, _-_, _*_, _/_, _<_, _≤_}
 use native.Mathlib.Omega.{arith}
 use borrow.Author.Tests.{ltb-true, leb-true}
@@ -13,6 +13,7 @@ use lib.Seq.{take-at}
 use Rattle.prelude.specs.Answer.{Answer, accepted, refused, must, andThen}
 use Rattle.prelude.specs.Booleans.{either, both}
 use Rattle.prelude.specs.Lists.{allOf}
+use Rattle.prelude.specs.ListLaws.{all-snoc}
 use Rattle.float.specs.Float.{k0, k1}
 use Rattle.float.specs.MinMax.{maxOf}
 use Rattle.geometry.specs.declared.Rect.{Rect}
@@ -181,11 +182,6 @@ rect-f32 v i = rw (number-f32 v (4 * i), number-f32 v (4 * i + 1), number-f32 v 
 default-f32 : (w h : Float) → fits binary32 w ≡ true → fits binary32 h ≡ true → rectIsF32 (newOf k0 k0 (maxOf w k1) (maxOf h k1)) ≡ true
 unfolding rectIsF32
 default-f32 w h p q = let one = bits-f32 0x3f80_0000 in rw (bits-f32 0, raised (fits binary32) w one p, raised (fits binary32) h one q)
-
-all-snoc : {A : Type 0} (p : A → Bool) (l : List A) (x : A) → allOf p l ≡ true → p x ≡ true → allOf p (l ++ (x ∷ [])) ≡ true
-unfolding allOf
-all-snoc p [] x a b = rw b
-all-snoc p (y ∷ l) x a b = let h = both (p y) (allOf p l) a in rw (h .0) (all-snoc p l x (h .1) b)
 
 pub length-rects : (v : List ℕ) (n : ℕ) → length (rects v n) ≡ n
 unfolding rects

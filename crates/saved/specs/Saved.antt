@@ -1,10 +1,8 @@
 -- Saved rectangles, as parts of the screen: what `Preset::layout_in` restores, and `Preset::capture` of input.rs. Definitions only.
 use mathlib.Core.Bool.{Bool, false, cond, _&&_}
 use mathlib.Core.List.{List, [], _∷_, map}
-use lib.Dec.{eqb}
 use lib.Ieee.{Float, inf, lt}
-use lib.ListN.{length}
-use Rattle.prelude.specs.Lists.{replaceFirst}
+use Rattle.prelude.specs.Lists.{replaceFirst, isEmpty}
 use Rattle.float.specs.Float.{_⊖_, _⊗_, _⊘_, k0, k24}
 use Rattle.float.specs.MinMax.{minOf, clampOf, absOf}
 use Rattle.geometry.specs.declared.Rect.{Rect}
@@ -38,9 +36,6 @@ unfoldable pub restoredOf : Float → Float → List Rect → List Rect → List
 restoredOf w h [] es = es
 restoredOf w h (r ∷ rs) [] = []
 restoredOf w h (r ∷ rs) (e ∷ es) = restoreOf w h r e ∷ restoredOf w h rs es
-
-abbrev pub isEmpty : List Rect → Bool
-isEmpty rs = eqb (length rs) 0
 
 unfoldable pub withSavedOf : Layout → Float → Float → List Rect → Layout
 withSavedOf l w h saved = cond (isEmpty saved) l (setElementsOf l (restoredOf w h saved (elementsOf l)))

@@ -9,6 +9,7 @@ use lib.Ieee.Scale.{finite}
 use lib.ListN.{length}
 use Rattle.prelude.specs.Booleans.{either, by-test, all-four}
 use Rattle.prelude.specs.Each.{Each}
+use Rattle.prelude.specs.Lists.{isEmpty}
 use Rattle.float.specs.MinMax.{absOf}
 use Rattle.geometry.specs.declared.Rect.{Rect}
 use Rattle.layout.specs.declared.Layout.{Layout}
@@ -22,7 +23,7 @@ use Rattle.numerics.specs.Literals.{lit}
 use Rattle.search.specs.Bounded.{Bounded}
 use Rattle.search.proofs.Changes.{set-elements-in}
 use Rattle.search.proofs.Layouts.{elements-in}
-use Rattle.saved.specs.Saved.{isEmpty, isFiniteOf, usableOf, onScreenOf, restoreOf, restoredOf, withSavedOf}
+use Rattle.saved.specs.Saved.{isFiniteOf, usableOf, onScreenOf, restoreOf, restoredOf, withSavedOf}
 use Rattle.saved.specs.SavedLaws.{length-restored}
 
 is-finite : (x : Float) → T (isFiniteOf x) → T (finite x)

@@ -1,14 +1,12 @@
 -- Layouts in range: arranged ones are bounded, scaled down or not, and what a change keeps: another d-pad, other controls or sticks, the inputs of a psp, a rectangle for each element, a change of every element.
 use mathlib.Core.Path.{_≡_, sym, ap, _∙_, subst}
-use mathlib.Core.Bool.{Bool}
 use mathlib.Core.List.{List, [], _∷_, _++_, map, map-append, zipWith}
 use Prim.Native.Nat.{ℕ, zero, suc, _+_, _≤_}
 use native.Mathlib.Omega.{arith}
 use lib.ListN.{length, take, drop, getD, length-map}
 use lib.Seq.{getD-append-add, drop-append-add}
-use Rattle.prelude.specs.Lists.{mapFirst, retain, compact, replaceFirst}
 use Rattle.prelude.specs.Each.{Each}
-use Rattle.prelude.specs.EachLaws.{each-take, each-drop, each-at, each-append, each-map, each-imp}
+use Rattle.prelude.specs.EachLaws.{each-take, each-drop, each-at, each-append, each-map, each-imp, each-replaced, each-compact}
 use Rattle.geometry.specs.declared.Rect.{Rect}
 use Rattle.layout.specs.declared.Control.{Control}
 use Rattle.layout.specs.declared.Layout.{Layout}
@@ -20,25 +18,6 @@ use Rattle.numerics.specs.Rects.{OnScreen, Key, margin}
 use Rattle.numerics.specs.Ranges.{placed-element}
 use Rattle.numerics.specs.Shrunk.{shrunkMargin, placed-shrunk}
 use Rattle.search.specs.Bounded.{Every, Bounded, Arranged, Shrunk}
-use Rattle.search.proofs.Placement.{each-filter}
-
--- ---- what holds of each element of a list, and of one that is made of it
-module _ {A : Type 0} (C : A → Type 0) where
-  each-replaced : (n : ℕ) (new old : List A) → Each C new → Each C old → Each C (replaceFirst n new old)
-  each-replaced n new old e f = each-append C (take n new) (drop n old) (each-take C n new e) (each-drop C n old f)
-
-  each-compact : (p : A → Bool) (n : ℕ) (xs : List A) → Each C xs → Each C (compact p n xs)
-  each-compact p n xs e =
-      let kept = retain p (take n xs) in
-      each-append C kept (drop (length kept) xs) (each-filter p (λ x. x) C C (λ x c. c) (take n xs) (each-take C n xs e)) (each-drop C (length kept) xs e)
-
--- the first elements are changed, so that D holds; of the others C holds still
-module _ {A : Type 0} (C D : A → Type 0) (g : A → A) (made : (x : A) → C x → D (g x)) (kept : (x : A) → C x → D x) where
-  pub each-mapFirst : (n : ℕ) (xs : List A) → Each C xs → Each D (mapFirst g n xs)
-  unfolding mapFirst
-  each-mapFirst zero xs e = each-imp C D kept xs e
-  each-mapFirst (suc n) [] e = tt
-  each-mapFirst (suc n) (x ∷ xs) e = (made x (e .0), each-mapFirst n xs (e .1))
 
 each-bounds : (C : Rect → Type 0) (cs : List Control) (rs : List Rect) → Each C rs → Each (λ c. C (c .bounds)) (zipWith withBounds cs rs)
 unfolding zipWith

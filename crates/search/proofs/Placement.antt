@@ -1,15 +1,15 @@
 -- The game over elements and area as they stand on the screen: the obstacles moved into the area's frame, the picture found, and the game placed in it. Bounds in 256ths.
 use mathlib.Core.Path.{_≡_, refl, sym, ap}
 use mathlib.Core.Logic.{_⊎_, inl, inr}
-use mathlib.Core.List.{List, [], _∷_}
+use mathlib.Core.List.{List}
 use mathlib.Core.Bool.{Bool, true, false, not, cond}
 use Prim.Native.Nat.{ℕ, _+_, _*_, _≤_, _<_}
 use native.Mathlib.Omega.{arith}
 use lib.Dec.{T, lit≤}
 use lib.Ieee.{Float, lt, eq, sub, ofBits}
 use Rattle.prelude.specs.Booleans.{either, by-test, one-fails}
-use Rattle.prelude.specs.Lists.{filterMap}
 use Rattle.prelude.specs.Each.{Each}
+use Rattle.prelude.specs.EachLaws.{each-filter, each-unfilter}
 use Rattle.float.specs.Float.{_⊕_, _⊖_, _⊗_, _⊘_, k0, k0·01, k0·25, k1, k3, k4}
 use Rattle.float.specs.MinMax.{clampOf}
 use Rattle.geometry.specs.declared.Rect.{Rect}
@@ -27,20 +27,6 @@ use Rattle.search.proofs.Widths.{Wide}
 use Rattle.search.proofs.Clearance.{Obstacle, Misses, isLeft, isRight, isAbove, isBelow, Apart, left, right, above, below, narrow, flat, Inside, Found}
 use Rattle.search.proofs.CentredSearch.{centred-widest, centred-found}
 use Rattle.search.proofs.SideSearch.{side-widest, side-found}
-
--- ---- a filter
-module _ {A B : Type 0} (p : A → Bool) (f : A → B) (C : A → Type 0) where
-  pub each-filter : (D : B → Type 0) → ((x : A) → C x → D (f x)) → (xs : List A) → Each C xs → Each D (filterMap p f xs)
-  each-filter D g [] e = tt
-  each-filter D g (x ∷ xs) e = let k = each-filter D g xs (e .1) in either (Each D) (p x) (g x (e .0), k) k
-
-  each-unfilter : (D : B → Type 0) (Q : A → Type 0) → ((x : A) → C x → D (f x) → Q x) → ((x : A) → C x → T (not (p x)) → Q x) → (xs : List A) → Each C xs → Each D (filterMap p f xs) → Each Q xs
-  each-unfilter D Q g n [] e k = tt
-  each-unfilter D Q g n (x ∷ xs) e k = go (p x) (n x (e .0)) k (each-unfilter D Q g n xs (e .1))
-    where
-      go : (b : Bool) → (T (not b) → Q x) → Each D (cond b (f x ∷ filterMap p f xs) (filterMap p f xs)) → (Each D (filterMap p f xs) → Each Q xs) → Q x × Each Q xs
-      go true u k on = (g x (e .0) (k .0), on (k .1))
-      go false u k on = (u tt, on k)
 
 -- ---- the obstacles
 module _ {b : Rect} (B : Area b) where

@@ -10,7 +10,8 @@ use lib.Dec.{T}
 use lib.Ieee.{Float, le}
 use Rattle.prelude.specs.Each.{Each}
 use Rattle.prelude.specs.EachLaws.{each-imp, each-both, each-unmap, fold-ind}
-use Rattle.prelude.specs.Booleans.{or-case, nor-l, nor-r}
+use mir.Facts.{or-no}
+use Rattle.prelude.specs.Booleans.{or-case}
 use Rattle.float.specs.Float.{_⊕_, _⊖_, _⊗_, _⊘_, k0, k0·01}
 use Rattle.float.specs.MinMax.{maxOf}
 use Rattle.geometry.specs.declared.Rect.{Rect}
@@ -55,9 +56,9 @@ module _ (d : ℕ) (D : 0 < d) {a : Float} {p q : ℕ} (S : Shape a p q) {w h : 
     limit-wide : (X0 Y0 W H : ℕ) → W * q ≡ H * p → X0 + W + N d w ≤ P d w → Y0 + H + N d h ≤ P d h → Le d k0 x → Le d k0 y → Good d X0 x → Good d Y0 y → Under d X0 w x (rightOf r) → Under d Y0 h y (bottomOf r)
         → Misses d 1 X0 0 Y0 0 W H r → T (not (skip x y r)) → Wide d W (limit x y r)
     limit-wide X0 Y0 W H shape broad tall lowx lowy goodx goody ux uy (isLeft l) n = omega (arith, sub-law d (o .x) xm tt, limit-law)
-    limit-wide X0 Y0 W H shape broad tall lowx lowy goodx goody ux uy (isRight l) n = omega (arith, thin-right d D S o W X0 wm xm broad lowx ux l (nor-l (le (rightOf r) (x ⊕ k0·01)) (le (bottomOf r) (y ⊕ k0·01)) n), limit-law)
+    limit-wide X0 Y0 W H shape broad tall lowx lowy goodx goody ux uy (isRight l) n = omega (arith, thin-right d D S o W X0 wm xm broad lowx ux l (or-no (le (rightOf r) (x ⊕ k0·01)) (le (bottomOf r) (y ⊕ k0·01)) n .0), limit-law)
     limit-wide X0 Y0 W H shape broad tall lowx lowy goodx goody ux uy (isAbove l) n = omega (arith, drop-grows d D S o ym W H Y0 (drop-most d D S o ym) (le-refl (P d (r .y ⊖ y) + N d (r .y ⊖ y))) shape goody l, limit-law)
-    limit-wide X0 Y0 W H shape broad tall lowx lowy goodx goody ux uy (isBelow l) n = omega (arith, thin-below d D S o W H Y0 hm ym shape tall lowy uy l (nor-r (le (rightOf r) (x ⊕ k0·01)) (le (bottomOf r) (y ⊕ k0·01)) n), limit-law)
+    limit-wide X0 Y0 W H shape broad tall lowx lowy goodx goody ux uy (isBelow l) n = omega (arith, thin-below d D S o W H Y0 hm ym shape tall lowy uy l (or-no (le (rightOf r) (x ⊕ k0·01)) (le (bottomOf r) (y ⊕ k0·01)) n .1), limit-law)
 
     -- a picture of width z, not above the limit, is apart
     by-cuts : {z : Float} → AtMost z width → Cuts d (skip x y) (limit x y) z r → Apart d 5 (newOf x y z (z ⊘ a)) r

@@ -9,7 +9,8 @@ use native.Mathlib.Omega.{arith}
 use lib.Dec.{T}
 use lib.Ieee.{Float, lt, eq}
 use lib.Ieee.Fits.{and-l}
-use Rattle.prelude.specs.Booleans.{either, by-test, or-case, nor-l}
+use mir.Facts.{or-no}
+use Rattle.prelude.specs.Booleans.{either, by-test, or-case}
 use Rattle.prelude.specs.Each.{Each}
 use Rattle.prelude.specs.EachLaws.{fold-ind, fold-each}
 use Rattle.float.specs.Float.{_⊖_, _⊗_, _⊘_, k0}
@@ -128,7 +129,7 @@ turn d best x y v a ok bm vm = go ok (lt (best .w) v || (eq v (best .w) && lt y 
         (λ e. eq-law d v (best .w) (vm .whole) (bm .whole) (and-l (eq v (best .w)) (lt y (best .y)) e) .1) t
 
     down : T (not (lt (best .w) v || (eq v (best .w) && lt y (best .y)))) → Le d v (best .w)
-    down t = lt-not d (best .w) v (bm .whole) (vm .whole) (nor-l (lt (best .w) v) (eq v (best .w) && lt y (best .y)) t)
+    down t = lt-not d (best .w) v (bm .whole) (vm .whole) (or-no (lt (best .w) v) (eq v (best .w) && lt y (best .y)) t .0)
 
     go : (ok b : Bool) → (T b → Le d (best .w) v) → (T (not b) → Le d v (best .w)) → Turn d best (cond ok (cond b (newOf x y v (v ⊘ a)) best) best) (λ g. T ok → Le d v (g .w))
     go true true u n = record { most = vm; grown = u tt; reached = λ t. le-refl (P d v + N d v) }

@@ -7,7 +7,7 @@ use mathlib.Core.Bool.{false}
 use mathlib.Core.List.{List, [], _∷_, _++_, map}
 use lib.ListN.{length, take, getD, length-set, length-map}
 use Rattle.prelude.specs.Loops.{sized, take-map}
-use Rattle.prelude.specs.Stores.{map-put, stored, two}
+use Rattle.prelude.specs.Stores.{map-put, take-store, two}
 use Rattle.geometry.specs.declared.Rect.{Rect}
 use Rattle.layout.specs.Layout.{anyRect, controlList}
 use Rattle.fits.specs.declared.Input.{Input}
@@ -37,7 +37,7 @@ returns c =
     let e : l .loop .i ≡ s .count = omega arith in
     let k : length (s .sticks) ≡ 2 = rw length-map at (start .good .0 .1 .1 .1 .1 .1 .1 .1 .1 .1 .1 .0 .1 .0 .1) in
     let xs = input (s .dpad) false ∷ map fromControl (controlList s) in (
-      stored (l .loop .at) xs (map fromStick (getD (s .sticks) 0 anyRect ∷ getD (s .sticks) 1 anyRect ∷ [])) (s .count) 1 (s .stickcount) (s .count + 1 + s .stickcount) (rw e at (l .loop .inv .2)) (omega arith) (omega arith) (omega arith)
+      take-store (l .loop .at) xs (map fromStick (getD (s .sticks) 0 anyRect ∷ getD (s .sticks) 1 anyRect ∷ [])) (s .count) 1 (s .stickcount) (s .count + 1 + s .stickcount) (rw e at (l .loop .inv .2)) (omega arith) (omega arith) (omega arith)
           ∙ ap (λ (t : List Rect). xs ++ take (s .stickcount) (map fromStick t)) (two (s .sticks) anyRect k)
           ∙ ap (λ (t : List Input). xs ++ t) (take-map fromStick (s .stickcount) (s .sticks)),
       refl,

@@ -6,7 +6,7 @@ use native.Mathlib.Omega.{arith}
 use lib.ListN.{length, length-map, take, getD}
 use lib.Seq.{take-take}
 use Rattle.prelude.specs.Loops.{sized}
-use Rattle.prelude.specs.Stores.{stored, two}
+use Rattle.prelude.specs.Stores.{take-store, two}
 use Rattle.geometry.specs.declared.Rect.{Rect}
 use Rattle.layout.specs.Layout.{anyRect, boundsOf}
 use Rattle.layout.specs.ElementLaws.{first-elements, controller-elements}
@@ -22,7 +22,7 @@ returns c =
     let m : length (s .sticks) ≡ 2 = rw length-map at (start .good .0 .1 .1 .1 .1 .1 .1 .1 .1 .1 .1 .0 .1 .0 .1) in
     let n : length (all .result .at) ≡ 19 = search sized in
     let p : take (s .count + 1) (all .result .at) ≡ s .dpad ∷ boundsOf s = sym (take-take (s .count + 1) (all .result .count) (all .result .at) (omega arith)) ∙ ap (take (s .count + 1)) (all .ensures .0) ∙ first-elements s (omega arith) (omega arith) in (
-      stored (all .result .at) (s .dpad ∷ boundsOf s) (getD (s .sticks) 0 anyRect ∷ getD (s .sticks) 1 anyRect ∷ []) (s .count) 1 (s .stickcount) (s .count + 1 + s .stickcount) p (omega arith) (omega arith) refl
+      take-store (all .result .at) (s .dpad ∷ boundsOf s) (getD (s .sticks) 0 anyRect ∷ getD (s .sticks) 1 anyRect ∷ []) (s .count) 1 (s .stickcount) (s .count + 1 + s .stickcount) p (omega arith) (omega arith) refl
           ∙ ap (λ (t : List Rect). s .dpad ∷ (boundsOf s ++ take (s .stickcount) t)) (two (s .sticks) anyRect m)
           ∙ sym (controller-elements s (omega arith) (omega arith)),
       refl,

@@ -6,7 +6,7 @@ use Rattle.geometry.specs.declared.Rect.{Rect}
 use mathlib.Core.List.{List, [], _∷_, _++_, map}
 use lib.ListN.{length, length-map, take, getD, length-set}
 use Rattle.prelude.specs.Loops.{sized}
-use Rattle.prelude.specs.Stores.{map-put, stored, two}
+use Rattle.prelude.specs.Stores.{map-put, take-store, two}
 use Rattle.layout.specs.Layout.{anyRect, boundsOf, elementsOf, elementCountOf}
 use Rattle.layout.proofs.Layout.elements.Statement.{statement}
 use Rattle.layout.proofs.Layout.elements.Tie as tie
@@ -33,7 +33,7 @@ returns c =
     let e : l .loop .i ≡ s .count = omega arith in
     let k : length (s .sticks) ≡ 2 = rw length-map at (start .good .0 .1 .1 .1 .1 .1 .1 .1 .1 .1 .1 .0 .1 .0 .1) in
     let two = two (s .sticks) anyRect k in (
-      rw (c .element-count .ensures) (stored (l .loop .at) (s .dpad ∷ boundsOf s) (s .pause ∷ s .playback ∷ s .speed ∷ s .mute ∷ getD (s .sticks) 0 anyRect ∷ getD (s .sticks) 1 anyRect ∷ []) (s .count) 1 (suc (suc (suc (suc (s .stickcount))))) (elementCountOf s) (rw e at (l .loop .inv .2)) (omega arith) (omega arith) (omega arith)
+      rw (c .element-count .ensures) (take-store (l .loop .at) (s .dpad ∷ boundsOf s) (s .pause ∷ s .playback ∷ s .speed ∷ s .mute ∷ getD (s .sticks) 0 anyRect ∷ getD (s .sticks) 1 anyRect ∷ []) (s .count) 1 (suc (suc (suc (suc (s .stickcount))))) (elementCountOf s) (rw e at (l .loop .inv .2)) (omega arith) (omega arith) (omega arith)
           ∙ ap (λ (t : List Rect). s .dpad ∷ (boundsOf s ++ (s .pause ∷ s .playback ∷ s .speed ∷ s .mute ∷ take (s .stickcount) t))) two),
       c .element-count .ensures,
     )
