@@ -6,12 +6,18 @@ use Prim.Native.Nat.{ℕ, zero, suc, _+_, _<_, _≤_}
 use native.Mathlib.Numerals.{add-one}
 use native.Mathlib.Omega.{arith}
 use lib.Ieee.{Float}
-use lib.ListN.{length, take, drop, getD, set, length-take, drop-of-length-le}
+use lib.ListN.{length, take, drop, getD, set}
 use lib.Seq.{drop-cons, drop-at, getD-take, length-take-le, set-split, take-set-le, take-set-lt, take-take}
 use Rattle.prelude.specs.ListLaws.{take-zipWith}
+use Rattle.prelude.specs.Loops.{none-left}
 use Rattle.moves.specs.declared.Move.{Move}
 use Rattle.moves.specs.declared.Move.the-variants.{Go}
 use Rattle.moves.specs.Moves.{Holds, lengthOf, shorterOf, placeOf, insertAtOf, insertOf, movesIn}
+
+drop-set : {A : Type 0} (l : List A) (i : ℕ) (v : A) → i < length l → drop i (set l i v) ≡ v ∷ drop (i + 1) l
+drop-set l i v h =
+    let e : length (take i l) ≡ i = length-take-le i l (omega arith) in
+    rw (set-split l i v h, add-one) (drop-at (take i l) (v ∷ drop (suc i) l) i e)
 
 -- ---- an array opened from its end: the first j are as before, those from j on stand one place further
 module _ {A : Type 0} (old : List A) (n : ℕ) where
@@ -19,16 +25,8 @@ module _ {A : Type 0} (old : List A) (n : ℕ) where
     pub before : take j new ≡ take j old
     pub after : drop (j + 1) (take (n + 1) new) ≡ drop j (take n old)
 
-  all-taken : (k : ℕ) (l : List A) → drop k (take k l) ≡ []
-  all-taken k l = drop-of-length-le (take k l) {i = k} (rw length-take (omega arith))
-
   pub open-start : Opened old n
-  open-start = record { before = refl; after = all-taken (n + 1) old ∙ sym (all-taken n old) }
-
-  drop-set : (l : List A) (i : ℕ) (v : A) → i < length l → drop i (set l i v) ≡ v ∷ drop (i + 1) l
-  drop-set l i v h =
-      let e : length (take i l) ≡ i = length-take-le i l (omega arith) in
-      rw (set-split l i v h, add-one) (drop-at (take i l) (v ∷ drop (suc i) l) i e)
+  open-start = record { before = refl; after = none-left old (n + 1) (n + 1) (omega arith) ∙ sym (none-left old n n (omega arith)) }
 
   pub open-step : (new : List A) (j k : ℕ) (d : A) → j ≡ k + 1 → j ≤ n → n < length new → n ≤ length old → Opened new j → Opened (set new j (getD new k d)) k
   open-step new j k d e h hn ho o =

@@ -5,8 +5,8 @@ use mathlib.Core.List.{List, [], _∷_, _++_, map, foldl, foldl-append, append-n
 use Prim.Native.Nat.{ℕ, zero, suc, _+_, _-_, _<_, _≤_}
 use native.Mathlib.Numerals.{add-one}
 use native.Mathlib.Omega.{arith}
-use lib.ListN.{length, take, drop, getD, set, length-map, length-set, drop-of-length-le, List·getD-map}
-use lib.Seq.{take-suc, drop-cons, getD-take, length-take-le}
+use lib.ListN.{length, take, drop, getD, set, length-map, length-set, length-take, drop-of-length-le, List·getD-map}
+use lib.Seq.{take-suc, take-all, drop-cons, getD-take, length-take-le}
 use borrow.Author.Needs.{length-unmapped}
 use Rattle.prelude.specs.Lists.{mapFirst, filterMap}
 
@@ -19,17 +19,15 @@ in-array X Y f l n k e h = let m = length-mapped X Y f l k e in omega arith
 
 pub ruleset sized = (length-mapped, length-unmapped)
 
--- the next of the first n elements of an array of k, and their end
+-- the next of the first n elements of an array, and their end
 module _ {A : Type 0} where
-  pub next-of : (d : A) (l : List A) (k n i : ℕ) → length l ≡ k → n ≤ k → i < n → drop i (take n l) ≡ getD l i d ∷ drop (i + 1) (take n l)
-  next-of d l k n i e h j =
-      let w : length (take n l) ≡ n = length-take-le n l (omega arith) in
+  next-of : (d : A) (l : List A) (n i : ℕ) → n ≤ length l → i < n → drop i (take n l) ≡ getD l i d ∷ drop (i + 1) (take n l)
+  next-of d l n i h j =
+      let w : length (take n l) ≡ n = length-take-le n l h in
       drop-cons (take n l) i d (omega arith) ∙ rw (add-one, getD-take)
 
-  pub none-left : (l : List A) (k n i : ℕ) → length l ≡ k → n ≤ k → n ≤ i → drop i (take n l) ≡ []
-  none-left l k n i e h j =
-      let w : length (take n l) ≡ n = length-take-le n l (omega arith) in
-      drop-of-length-le (take n l) {i = i} (omega arith)
+  pub none-left : (l : List A) (n i : ℕ) → n ≤ i → drop i (take n l) ≡ []
+  none-left l n i h = drop-of-length-le (take n l) {i = i} (rw length-take (omega arith))
 
 -- ---- a loop over the first n elements of an array: f of those from i on is k
 pub record Rest {A B : Type 0} (f : List A → B) (l : List A) (n : ℕ) (k : B) (i : ℕ) : Type 0 where
@@ -40,13 +38,17 @@ pub record Rest {A B : Type 0} (f : List A → B) (l : List A) (n : ℕ) (k : B)
 module _ {A B : Type 0} {f : List A → B} {l : List A} {n : ℕ} {k : B} {i : ℕ} where
   -- it stops at an element, it goes on past one, or none is left
   pub stops : (d : A) {b : B} → Rest f l n k i → i < n → f (getD l i d ∷ drop (i + 1) (take n l)) ≡ b → b ≡ k
-  stops d r h e = sym e ∙ (rw (next-of d l (length l) n i refl (r .size) h) at (r .left))
+  stops d r h e = sym e ∙ (rw (next-of d l n i (r .size) h) at (r .left))
 
   pub goes-on : (d : A) {g : List A → B} → Rest f l n k i → i < n → f (getD l i d ∷ drop (i + 1) (take n l)) ≡ g (drop (i + 1) (take n l)) → Rest g l n k (i + 1)
   goes-on d r h e = record { most = omega arith; size = r .size; left = stops d r h e }
 
   pub runs-out : Rest f l n k i → n ≤ i → f [] ≡ k
-  runs-out r h = rw (none-left l (length l) n i refl (r .size) h) at (r .left)
+  runs-out r h = rw (none-left l n i h) at (r .left)
+
+-- its start, over all of a list
+pub rest-all : {A B : Type 0} (f : List A → B) (l : List A) (n : ℕ) → length l ≡ n → Rest f l n (f l) 0
+rest-all f l n e = record { most = omega arith; size = omega arith; left = ap f (take-all n l (omega arith)) }
 
 -- ---- a loop that stores one element a turn: after i of n turns the array is f i, of length k
 pub record Done {A : Type 0} (f : ℕ → List A) (n k : ℕ) (out : List A) (i : ℕ) : Type 0 where

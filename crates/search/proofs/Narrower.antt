@@ -2,18 +2,18 @@
 use mathlib.Core.Path.{_≡_, refl, sym, _∙_}
 use mathlib.Core.Logic.{_⊎_, inl, inr}
 use mathlib.Core.Bool.{Bool, true, false, cond, _||_, _&&_}
-use mathlib.Core.List.{List, [], _∷_, foldl}
-use Prim.Native.Nat.{ℕ, _+_, _<_, _≤_}
-use lib.ListN.{length, take, drop, getD}
+use mathlib.Core.List.{List, foldl}
+use Prim.Native.Nat.{ℕ, _≤_}
+use lib.ListN.{take, drop}
 use lib.Dec.{T}
 use lib.Ieee.{Float, lt, le, eq}
 use Rattle.prelude.specs.Booleans.{either}
-use Rattle.prelude.specs.Loops.{next-of, none-left}
+use Rattle.prelude.specs.Loops.{Rest, runs-out}
+use Rattle.prelude.specs.EachLaws.{fold-keeps}
 use Rattle.float.specs.Float.{_⊕_, _⊘_, k0·01}
 use Rattle.float.proofs.Order.{lt-trans, lt-irrefl, lt-not-eq, min-below}
 use Rattle.geometry.specs.declared.Rect.{Rect}
 use Rattle.geometry.specs.Rect.{newOf}
-use Rattle.layout.specs.Layout.{anyRect}
 use Rattle.search.specs.Search.{bottomOf, rightOf, narrowOf, narrowSideOf, betterOf}
 
 -- f leaves a width that is below b below b
@@ -28,10 +28,6 @@ pub narrow-side-below : (aspect x y b : Float) → Narrows (narrowSideOf aspect 
 unfolding narrowSideOf
 narrow-side-below aspect x y b width r p = either (λ v. T (lt v b)) (le (rightOf r) (x ⊕ k0·01) || le (bottomOf r) (y ⊕ k0·01)) p (min-below width _ b p)
 
-fold-below : (f : Float → Rect → Float) (b : Float) → Narrows f b → (rest : List Rect) (width : Float) → T (lt width b) → T (lt (foldl f width rest) b)
-fold-below f b keeps [] width p = p
-fold-below f b keeps (r ∷ rest) width p = fold-below f b keeps rest (f width r) (keeps width r p)
-
 better-not : (best : Rect) (x y width aspect : Float) → T (lt width (best .w)) → betterOf best x y width aspect ≡ best
 unfolding betterOf
 better-not best x y width aspect p = go (lt (best .w) width) refl (eq width (best .w)) refl
@@ -41,18 +37,10 @@ better-not best x y width aspect p = go (lt (best .w) width) refl (eq width (bes
     go false h true k = absurd (lt-not-eq width (best .w) p (rw k tt))
     go false h false k = refl
 
--- ---- a loop over the first n of at most m obstacles that has come to the k-th: f over those that are left gives the full width
-module _ (f : Float → Rect → Float) (l : List Rect) (n : ℕ) where
-  abbrev pub Left : ℕ → Float → Float → Type 0
-  Left k width full = full ≡ foldl f width (drop k (take n l))
-
-  pub left-next : (k m : ℕ) (width full v : Float) → length l ≡ m → n ≤ m → k < n → Left k width full → v ≡ f width (getD l k anyRect) → Left (k + 1) v full
-  left-next k m width full v e h j p q = rw q (rw (next-of anyRect l m n k e h j) at p)
-
-  -- A turn's answer is that of the full width, if no obstacle is left or the picture was given up. `left` is where a picture of a width starts.
-  pub settled : (best : Rect) → Narrows f (best .w) → (left : Float → Float) (y aspect : Float) (k m : ℕ) (width full : Float) → length l ≡ m → n ≤ m → Left k width full
-      → (n ≤ k) ⊎ (lt width (best .w) ≡ true) → betterOf best (left width) y width aspect ≡ betterOf best (left full) y full aspect
-  settled best keeps left y aspect k m width full e h p (inl j) = let s : full ≡ width = rw (none-left l m n k e h j) at p in rw s
-  settled best keeps left y aspect k m width full e h p (inr t) =
-      let q : T (lt width (best .w)) = rw t tt in
-      better-not best (left width) y width aspect q ∙ sym (better-not best (left full) y full aspect (rw p (fold-below f (best .w) keeps (drop k (take n l)) width q)))
+-- A turn's answer is that of the full width, if no obstacle is left or the picture was given up. `left` is where a picture of a width starts.
+pub settled : {f : Float → Rect → Float} {l : List Rect} {n k : ℕ} {width full : Float} (best : Rect) → Narrows f (best .w) → (left : Float → Float) (y aspect : Float) → Rest (foldl f width) l n full k
+    → (n ≤ k) ⊎ (lt width (best .w) ≡ true) → betterOf best (left width) y width aspect ≡ betterOf best (left full) y full aspect
+settled best keeps left y aspect r (inl j) = rw (runs-out r j)
+settled {f} {l} {n} {k} {width} {full} best keeps left y aspect r (inr t) =
+    let q : T (lt width (best .w)) = rw t tt in
+    better-not best (left width) y width aspect q ∙ sym (better-not best (left full) y full aspect (rw (← r .left) (fold-keeps (λ v. T (lt v (best .w))) f keeps (drop k (take n l)) width q)))

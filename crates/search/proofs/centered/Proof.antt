@@ -6,18 +6,19 @@ use mathlib.Core.Logic.{⊎-elim, ⊎-map}
 use mathlib.Core.List.{foldl}
 use lib.ListN.{take, length, length-map}
 use Rattle.prelude.specs.Booleans.{cond-yes, cond-no}
-use Rattle.prelude.specs.Loops.{sized, fold-next, take-first}
+use Rattle.prelude.specs.Loops.{sized, fold-next, take-first, in-array, Rest, goes-on}
 use Rattle.float.specs.Float.{_⊖_, _⊘_, k2}
 use Rattle.geometry.specs.Rect.{emptyRect}
+use Rattle.layout.specs.Layout.{anyRect}
 use Rattle.search.specs.Search.{bottomOf, bottoms, narrowOf, widthAt, tryAt, centeredOf}
-use Rattle.search.proofs.Narrower.{narrow-below, Left, left-next, settled}
+use Rattle.search.proofs.Narrower.{narrow-below, settled}
 use Rattle.search.proofs.Steps.{first-start, later-start}
 use Prim.Native.Nat.{_+_, _-_, _<_, _≤_, zero-le}
 use Rattle.search.proofs.centered.Statement.{statement}
 use Rattle.search.proofs.centered.Tie as tie
 
 abbrev Inv-loop2 : tie.InvT-loop2
-Inv-loop2 w h count aspect obstacles center best j y width₀ k₀ j-end width k = (k ≤ count) × Left (narrowOf (w ⊘ k2) aspect y) obstacles count k width (widthAt w h (take count obstacles) aspect y)
+Inv-loop2 w h count aspect obstacles center best j y width₀ k₀ j-end width k = Rest (foldl (narrowOf (w ⊘ k2) aspect y) width) obstacles count (widthAt w h (take count obstacles) aspect y) k
 
 abbrev μ-loop2 : tie.MeasureT-loop2
 μ-loop2 w h count aspect obstacles center best j y width₀ k₀ j-end width k = count - k
@@ -30,11 +31,7 @@ abbrev μ-loop : tie.MeasureT-loop
 μ-loop w h count aspect obstacles center best₀ j₀ j-end best j = count + 1 - j
 
 loop2-again : tie.Need-loop2-again Inv-loop2 μ-loop2 Inv-loop μ-loop
-loop2-again c =
-    let l = c .before .before .before .before .before in
-    let s = l .before .before .before .before .before .before .before .before in
-    let n : length (s .args .t3) ≡ 19 = search sized in
-    (omega arith, left-next _ _ _ (l .loop2 .k) 19 _ _ _ n (s .pre) (c .before .before .before .before .loop2-test .taken) (l .loop2 .inv .1) (c .narrow .ensures))
+loop2-again c = let t = c .before .before .before .before in goes-on anyRect (t .before .loop2 .inv) (t .loop2-test .taken) (rw (c .narrow .ensures))
 
 loop-again : tie.Need-loop-again Inv-loop2 μ-loop2 Inv-loop μ-loop
 unfolding tryAt
@@ -53,7 +50,7 @@ loop-again c =
           (b .before .if1 .came))
           (⊎-elim
           (λ t. cond-yes _ _ _ (b .within .ensures) (t .0 .taken)
-          (t .6 ∙ t .5 .ensures ∙ settled _ _ _ _ (narrow-below _ _ _ _) (λ width. (s .args .w ⊖ width) ⊘ k2) _ _ _ 19 _ _ n (s .pre) (t .3 .inv .1)
+          (t .6 ∙ t .5 .ensures ∙ settled _ (narrow-below _ _ _ _) (λ width. (s .args .w ⊖ width) ⊘ k2) _ _ (t .3 .inv)
           (⊎-map (λ u. u .left) (λ u. u .2 .taken) (t .4 .came))))
           (λ t. cond-no _ _ _ (b .within .ensures) (t .0 .left) (t .1))
           (c .if2 .came)),
@@ -83,7 +80,7 @@ centered-spec =
     (λ c κs. search needs)
     (λ c κs. search needs)
     (λ c κs. search needs)
-    (λ c. (zero-le, rw (c .max .ensures, c .before .min .ensures)))
+    (λ c. record { most = zero-le; size = search (in-array, arith); left = rw (c .max .ensures, c .before .min .ensures) })
     (λ c. omega arith)
     (λ c. omega arith)
     (λ c κs. search needs)

@@ -6,17 +6,18 @@ use mathlib.Core.Logic.{⊎-elim, ⊎-map}
 use mathlib.Core.List.{foldl}
 use lib.ListN.{take, length, length-map}
 use Rattle.prelude.specs.Booleans.{cond-yes, cond-no}
-use Rattle.prelude.specs.Loops.{sized, fold-next, take-first}
+use Rattle.prelude.specs.Loops.{sized, fold-next, take-first, in-array, Rest, goes-on}
 use Rattle.geometry.specs.Rect.{emptyRect}
+use Rattle.layout.specs.Layout.{anyRect}
 use Rattle.search.specs.Search.{bottomOf, rightOf, bottoms, rights, narrowSideOf, sideWidthAt, trySideAt, tryColumn, sideOf}
-use Rattle.search.proofs.Narrower.{narrow-side-below, Left, left-next, settled}
+use Rattle.search.proofs.Narrower.{narrow-side-below, settled}
 use Rattle.search.proofs.Steps.{first-start, later-start}
 use Prim.Native.Nat.{_+_, _-_, _<_, _≤_, zero-le}
 use Rattle.search.proofs.side.Statement.{statement}
 use Rattle.search.proofs.side.Tie as tie
 
 abbrev Inv-loop3 : tie.InvT-loop3
-Inv-loop3 w h count aspect obstacles best i x j y width₀ k₀ i-end j-end width k = (k ≤ count) × Left (narrowSideOf aspect x y) obstacles count k width (sideWidthAt w h (take count obstacles) aspect x y)
+Inv-loop3 w h count aspect obstacles best i x j y width₀ k₀ i-end j-end width k = Rest (foldl (narrowSideOf aspect x y) width) obstacles count (sideWidthAt w h (take count obstacles) aspect x y) k
 
 abbrev μ-loop3 : tie.MeasureT-loop3
 μ-loop3 w h count aspect obstacles best i x j y width₀ k₀ i-end j-end width k = count - k
@@ -36,11 +37,7 @@ abbrev μ-loop : tie.MeasureT-loop
 μ-loop w h count aspect obstacles best₀ i₀ i-end best i = count + 1 - i
 
 loop3-again : tie.Need-loop3-again Inv-loop3 μ-loop3 Inv-loop2 μ-loop2 Inv-loop μ-loop
-loop3-again c =
-    let l = c .before .before .before .before .before in
-    let s = l .before .before .before .before .before .before .before .before .before .before .before .before .before in
-    let n : length (s .args .t3) ≡ 19 = search sized in
-    (omega arith, left-next _ _ _ (l .loop3 .k) 19 _ _ _ n (s .pre) (c .before .before .before .before .loop3-test .taken) (l .loop3 .inv .1) (c .narrow-side .ensures))
+loop3-again c = let t = c .before .before .before .before in goes-on anyRect (t .before .loop3 .inv) (t .loop3-test .taken) (rw (c .narrow-side .ensures))
 
 loop2-again : tie.Need-loop2-again Inv-loop3 μ-loop3 Inv-loop2 μ-loop2 Inv-loop μ-loop
 unfolding trySideAt
@@ -59,7 +56,7 @@ loop2-again c =
           (b .before .if3 .came))
           (⊎-elim
           (λ t. cond-yes _ _ _ (b .within2 .ensures) (t .0 .taken)
-          (t .6 ∙ t .5 .ensures ∙ settled _ _ _ _ (narrow-side-below _ _ _ _) (λ _. l .before .before .before .if1 .x) _ _ _ 19 _ _ n (s .pre) (t .3 .inv .1)
+          (t .6 ∙ t .5 .ensures ∙ settled _ (narrow-side-below _ _ _ _) (λ _. l .before .before .before .if1 .x) _ _ (t .3 .inv)
           (⊎-map (λ u. u .left) (λ u. u .2 .taken) (t .4 .came))))
           (λ t. cond-no _ _ _ (b .within2 .ensures) (t .0 .left) (t .1))
           (c .if4 .came)),
@@ -118,7 +115,7 @@ side-spec =
     (λ c κs. search needs)
     (λ c κs. search needs)
     (λ c κs. search needs)
-    (λ c. (zero-le, rw (c .max .ensures, c .before .min .ensures)))
+    (λ c. record { most = zero-le; size = search (in-array, arith); left = rw (c .max .ensures, c .before .min .ensures) })
     (λ c. omega arith)
     (λ c. omega arith)
     (λ c κs. search needs)
