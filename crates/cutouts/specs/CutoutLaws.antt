@@ -1,35 +1,27 @@
--- Laws of the cutout pass: each element stays, or lies on the screen in its old size; the number of faces.
+-- Laws of the cutout pass: each element stays, or lies on the screen in its old size.
 use mathlib.Core.Path.{_≡_, refl, ap, _∙_}
-use mathlib.Core.Bool.{Bool, true, false, cond}
-use mathlib.Core.List.{List, [], _∷_, map, foldl}
+use mathlib.Core.Bool.{true}
+use mathlib.Core.List.{List, [], _∷_, foldl}
 use mathlib.Core.Logic.{_⊎_, inl, inr}
 use Prim.Native.Nat.{ℕ, zero, suc}
 use native.Mathlib.Omega.{arith}
 use lib.Ieee.{Float, binary32}
 use lib.Ieee.Fits.{add-fits}
-use lib.Ieee.Bits.{is-true}
 use lib.ListN.{length, getD, set}
-use Rattle.prelude.specs.Booleans.{either, by-test, both}
-use Rattle.prelude.specs.Lists.{allOf, find, filterMap, retain, enumerateFrom}
+use Rattle.prelude.specs.Booleans.{either, both}
+use Rattle.prelude.specs.Lists.{allOf}
+use Rattle.prelude.specs.ListLaws.{find-passes}
+use Rattle.prelude.specs.EachLaws.{fold-keeps}
 use Rattle.geometry.specs.declared.Rect.{Rect}
 use Rattle.geometry.specs.Rect.{insideOf}
 use Rattle.layout.specs.declared.Layout.{Layout}
 use Rattle.layout.specs.Actions.{actionElementsOf}
-use Rattle.layout.specs.declared.Control.{Control}
-use Rattle.layout.specs.declared.Label.{Label}
-use Rattle.layout.specs.Label.{isFaceOf}
-use Rattle.layout.specs.Labels.{labelsOf}
-use Rattle.layout.specs.Layout.{anyRect, controlList, elementsOf}
+use Rattle.layout.specs.Layout.{anyRect, elementsOf}
 use Rattle.moves.specs.declared.Move.{Move}
 use Rattle.moves.specs.declared.Move.the-variants.{Stay, Go}
 use Rattle.moves.specs.Moves.{movedOf, clearOf, allClearOf, candidatesOf, orderedOf, searchOf}
 use Rattle.cutouts.specs.Cutouts.{withAreaOf, membersOf, othersOf, hitsOf, shiftOf, settleOf, singlesOf, avoidOf}
 use Rattle.cutouts.specs.Settled.{Settled, AllSettled, none, next}
-
--- the answer of a search is none, or passes the test
-find-passes : (p : Move → Bool) (ms : List Move) → (find p (λ m. m) Stay ms ≡ Stay) ⊎ (p (find p (λ m. m) Stay ms) ≡ true)
-find-passes p [] = inl refl
-find-passes p (x ∷ ms) = by-test (λ r. (r ≡ Stay) ⊎ (p r ≡ true)) (p x) (λ t. inr (is-true (p x) t)) (λ t. find-passes p ms)
 
 module _ {w h : Float} where
   all-length : {xs ys : List Rect} → AllSettled w h xs ys → length ys ≡ length xs
@@ -79,11 +71,7 @@ module _ (w h : Float) where
   all-settle holes elements group =
       let members = membersOf elements group in
       let others = othersOf elements group in
-      either (AllSettled w h elements) (hitsOf members holes) (all-shift holes others elements group _ (find-passes (allClearOf w h holes others members) (orderedOf (candidatesOf members holes)))) (all-same elements)
-
-  all-group : (holes old es : List Rect) (groups : List (List ℕ)) → AllSettled w h old es → AllSettled w h old (foldl (settleOf w h holes) es groups)
-  all-group holes old es [] e = e
-  all-group holes old es (g ∷ groups) e = all-group holes old (settleOf w h holes es g) groups (all-then e (all-settle holes es g))
+      either (AllSettled w h elements) (hitsOf members holes) (all-shift holes others elements group _ (find-passes (allClearOf w h holes others members) Stay (orderedOf (candidatesOf members holes)))) (all-same elements)
 
   module _ (l : Layout) (cutouts : List Rect) where
     -- the elements after the pass
@@ -91,21 +79,9 @@ module _ (w h : Float) where
     after = avoidOf w h (withAreaOf cutouts) (actionElementsOf l) (elementsOf l)
 
     pub all-after : AllSettled w h (elementsOf l) after
-    all-after = all-group (withAreaOf cutouts) (elementsOf l) (elementsOf l) (actionElementsOf l ∷ singlesOf (actionElementsOf l) (length (elementsOf l))) (all-same (elementsOf l))
+    all-after =
+        fold-keeps (AllSettled w h (elementsOf l)) (settleOf w h (withAreaOf cutouts)) (λ es g e. all-then e (all-settle (withAreaOf cutouts) es g)) (actionElementsOf l ∷ singlesOf (actionElementsOf l) (length (elementsOf l)))
+        (elementsOf l) (all-same (elementsOf l))
 
     pub length-after : length after ≡ length (elementsOf l)
     length-after = all-length all-after
-
--- ---- how many faces a layout has, by its labels
-count-faces : (j : ℕ) (cs : List Control)
-    → length (filterMap (λ (e : ℕ × Control). isFaceOf (e .1 .label)) (λ (e : ℕ × Control). e .0) (enumerateFrom j cs)) ≡ length (retain isFaceOf (map (λ (c : Control). c .label) cs))
-count-faces j [] = refl
-count-faces j (c ∷ cs) = go (isFaceOf (c .label)) _ _ (count-faces (suc j) cs)
-  where
-    go : (b : Bool) (is : List ℕ) (ks : List Label) → length is ≡ length ks → length (cond b (j ∷ is) is) ≡ length (cond b (c .label ∷ ks) ks)
-    go true is ks e = ap suc e
-    go false is ks e = e
-
-pub face-count : (l : Layout) (labels : List Label) → labelsOf l ≡ labels → length (actionElementsOf l) ≡ length (retain isFaceOf labels)
-unfolding actionElementsOf
-face-count l labels e = count-faces 1 (controlList l) ∙ ap (λ (ks : List Label). length (retain isFaceOf ks)) e

@@ -6,7 +6,7 @@ use mathlib.Core.Logic.{_⊎_, inl, inr}
 use Prim.Native.Nat.{ℕ, _+_, _-_, _*_, _^_, _≤_, _<_}
 use native.Mathlib.Nat.{le-of-lt, mul-le-mul-right, mul-pos}
 use native.Mathlib.Omega.{arith}
-use lib.Dec.{T, eqb, leb, ltb, leb→le, nleb→lt, ltb→lt}
+use lib.Dec.{T, leb, ltb, leb→le, nleb→lt, ltb→lt}
 use denote.Floats.{passes}
 use lib.ListN.{length}
 use lib.Pow.{pow-pos}
@@ -15,6 +15,7 @@ use lib.Ieee.Fits.{down-pos, add-fits}
 use lib.Ieee.Order.{round-mono}
 use Rattle.prelude.specs.Each.{Each}
 use Rattle.prelude.specs.Booleans.{either, by-test, all-four}
+use Rattle.prelude.specs.Lists.{isEmpty}
 use Rattle.float.specs.Float.{_⊕_, k0, k8192}
 use Rattle.geometry.specs.declared.Rect.{Rect}
 use Rattle.geometry.specs.Rect.{insideOf}
@@ -107,4 +108,4 @@ module _ {w h : Float} (W : In w (at 0) (at 8192)) (H : In h (at 0) (at 8192)) w
   unfolding avoidCutoutsOf
   avoid-bounded l cutouts cs ss L =
       let n = length-after w h l cutouts ∙ length-elements l cs ss in
-      either Bounded (eqb (length (withAreaOf cutouts)) 0) L (set-elements-in (after w h l cutouts) (omega (arith, n)) L (all-settled-in (all-after w h l cutouts) (elements-in l L)))
+      either Bounded (isEmpty (withAreaOf cutouts)) L (set-elements-in (after w h l cutouts) (omega (arith, n)) L (all-settled-in (all-after w h l cutouts) (elements-in l L)))

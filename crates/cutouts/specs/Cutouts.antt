@@ -1,11 +1,12 @@
 -- `Layout::avoid_cutouts` of input.rs: the elements moved off the cutouts, group by group. Definitions only.
 use mathlib.Core.Bool.{Bool, cond, not, _&&_}
 use mathlib.Core.List.{List, [], _∷_, map, foldl}
-use Prim.Native.Nat.{ℕ}
-use lib.Dec.{eqb, ltb}
+use Prim.Native.Nat.{ℕ, _<_}
+use lib.Dec.{eqb}
 use lib.Ieee.{Float, lt}
 use lib.ListN.{length, take, getD, set}
-use Rattle.prelude.specs.Lists.{range, anyOf, allOf, filterMap, retain}
+use Rattle.prelude.specs.Lists.{range, anyOf, filterMap, retain, isEmpty}
+use Rattle.prelude.specs.Each.{Each}
 use Rattle.float.specs.Float.{k0}
 use Rattle.geometry.specs.declared.Rect.{Rect}
 use Rattle.geometry.specs.Rect.{overlapsOf}
@@ -68,7 +69,7 @@ avoidOf w h holes faces elements = foldl (settleOf w h holes) elements (faces �
 unfoldable pub avoidCutoutsOf : Layout → Float → Float → List Rect → Layout
 avoidCutoutsOf l w h cutouts =
     let holes = withAreaOf cutouts in
-    cond (eqb (length holes) 0) l (setElementsOf l (avoidOf w h holes (actionElementsOf l) (elementsOf l)))
+    cond (isEmpty holes) l (setElementsOf l (avoidOf w h holes (actionElementsOf l) (elementsOf l)))
 
 -- ---- groups in an array
 
@@ -76,5 +77,5 @@ abbrev pub groupList : Group → List ℕ
 groupList g = take (g .count) (g .at)
 
 -- every index of the group is below n
-unfoldable pub belowAll : ℕ → List ℕ → Bool
-belowAll n group = allOf (λ i. ltb i n) group
+abbrev pub BelowAll : ℕ → List ℕ → Type 0
+BelowAll n group = Each (λ i. i < n) group

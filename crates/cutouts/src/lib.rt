@@ -1,12 +1,11 @@
 // `avoid_cutouts` of input.rs: a camera hole is a local obstruction, not an unusable strip, and elements that lie on one move off it.
 ghost use mathlib.Core.Path.{_≡_};
-ghost use mathlib.Core.Bool.{true};
 ghost use mathlib.Core.List.{[], _∷_};
 ghost use Prim.Native.Nat.{_≤_};
 ghost use lib.ListN.{length, take};
 ghost use Rattle.layout.specs.Actions.{actionElementsOf};
 ghost use Rattle.layout.specs.Layout.{cutoutList, elementCountOf, elementList};
-ghost use Rattle.cutouts.specs.Cutouts.{hasAreaOf, withAreaOf, inGroupOf, membersOf, othersOf, hitsOf, shiftByOf, shiftOf, settleOf, avoidOf, avoidCutoutsOf, groupList, belowAll};
+ghost use Rattle.cutouts.specs.Cutouts.{hasAreaOf, withAreaOf, inGroupOf, membersOf, othersOf, hitsOf, shiftByOf, shiftOf, settleOf, avoidOf, avoidCutoutsOf, groupList, BelowAll};
 use geometry::Rect;
 use layout::Cutouts;
 use layout::Elements;
@@ -59,7 +58,7 @@ fn in_group(group: Group, i: usize) -> bool
 }
 
 fn members(elements: Elements, group: Group) -> [Rect; 4]
-    requires { ⌜ ((elements .count ≤ 19) × (group .count ≤ 4)) × (belowAll (elements .count) (groupList group) ≡ true) ⌝ }
+    requires { ⌜ ((elements .count ≤ 19) × (group .count ≤ 4)) × BelowAll (elements .count) (groupList group) ⌝ }
     ensures { λ r. ⌜ take (group .count) r ≡ membersOf (elementList elements) (groupList group) ⌝ }
 {
     let el = elements.at;
@@ -104,7 +103,7 @@ fn hits(original: [Rect; 4], m: usize, holes: Cutouts) -> bool
 }
 
 fn shift_by(elements: Elements, group: Group, dx: f32, dy: f32) -> Elements
-    requires { ⌜ ((elements .count ≤ 19) × (group .count ≤ 4)) × (belowAll (elements .count) (groupList group) ≡ true) ⌝ }
+    requires { ⌜ ((elements .count ≤ 19) × (group .count ≤ 4)) × BelowAll (elements .count) (groupList group) ⌝ }
     ensures { λ r. ⌜ (elementList r ≡ shiftByOf (elementList elements) (groupList group) dx dy) × (r .count ≡ elements .count) ⌝ }
 {
     let old = elements.at;
@@ -122,7 +121,7 @@ fn shift_by(elements: Elements, group: Group, dx: f32, dy: f32) -> Elements
 }
 
 fn shift(elements: Elements, group: Group, to: Move) -> Elements
-    requires { ⌜ ((elements .count ≤ 19) × (group .count ≤ 4)) × (belowAll (elements .count) (groupList group) ≡ true) ⌝ }
+    requires { ⌜ ((elements .count ≤ 19) × (group .count ≤ 4)) × BelowAll (elements .count) (groupList group) ⌝ }
     ensures { λ r. ⌜ (elementList r ≡ shiftOf (elementList elements) (groupList group) to) × (r .count ≡ elements .count) ⌝ }
 {
     match to {
@@ -133,7 +132,7 @@ fn shift(elements: Elements, group: Group, to: Move) -> Elements
 
 // One group off the cutouts.
 fn settle(w: f32, h: f32, holes: Cutouts, elements: Elements, group: Group) -> Elements
-    requires { ⌜ ((elements .count ≤ 19) × ((group .count ≤ 4) × (holes .count ≤ 16))) × (belowAll (elements .count) (groupList group) ≡ true) ⌝ }
+    requires { ⌜ ((elements .count ≤ 19) × ((group .count ≤ 4) × (holes .count ≤ 16))) × BelowAll (elements .count) (groupList group) ⌝ }
     ensures { λ r. ⌜ (elementList r ≡ settleOf w h (cutoutList holes) (elementList elements) (groupList group)) × (r .count ≡ elements .count) ⌝ }
 {
     let original = members(elements, group);
@@ -158,7 +157,7 @@ fn single(i: usize) -> Group
 // The faces as one group, then every other element: later groups see the earlier ones moved. Most elements lie on no cutout
 // and are left before the arrays are handed on.
 fn avoid(w: f32, h: f32, holes: Cutouts, faces: Group, elements: Elements) -> Elements
-    requires { ⌜ ((elements .count ≤ 19) × ((faces .count ≤ 4) × (holes .count ≤ 16))) × (belowAll (elements .count) (groupList faces) ≡ true) ⌝ }
+    requires { ⌜ ((elements .count ≤ 19) × ((faces .count ≤ 4) × (holes .count ≤ 16))) × BelowAll (elements .count) (groupList faces) ⌝ }
     ensures { λ r. ⌜ (elementList r ≡ avoidOf w h (cutoutList holes) (groupList faces) (elementList elements)) × (r .count ≡ elements .count) ⌝ }
 {
     let count = elements.count;
@@ -177,7 +176,7 @@ fn avoid(w: f32, h: f32, holes: Cutouts, faces: Group, elements: Elements) -> El
 
 fn faces(l: Layout) -> Group
     requires { ⌜ (l .count ≤ 12) × (length (actionElementsOf l) ≤ 4) ⌝ }
-    ensures { λ r. ⌜ (groupList r ≡ actionElementsOf l) × ((r .count ≤ 4) × (belowAll (elementCountOf l) (groupList r) ≡ true)) ⌝ }
+    ensures { λ r. ⌜ (groupList r ≡ actionElementsOf l) × ((r .count ≤ 4) × BelowAll (elementCountOf l) (groupList r)) ⌝ }
 {
     let controls = l.controls;
     let n = l.count;

@@ -84,7 +84,7 @@ module _ {A B : Type 0} where
 
 -- ---- loops that take the elements that pass a test
 module _ {A B : Type 0} (p : A → Bool) (f : A → B) where
-  pub filterMap-append : (l m : List A) → filterMap p f (l ++ m) ≡ filterMap p f l ++ filterMap p f m
+  filterMap-append : (l m : List A) → filterMap p f (l ++ m) ≡ filterMap p f l ++ filterMap p f m
   filterMap-append [] m = refl
   filterMap-append (x ∷ l) m = go (p x) (filterMap-append l m)
     where

@@ -1,11 +1,14 @@
-use Prim.Native.Nat.{_-_, _<_, _≤_}
-use mathlib.Core.List.{[], _∷_, foldl}
-use Rattle.cutouts.proofs.Groups.{missed, outside, outside-more, outside-same, outside-all, below-one, fold-more}
-use mathlib.Core.Path.{refl, sym, ap, ap₂, _∙_, _≡_}
+use Prim.Native.Nat.{ℕ, _-_}
+use mathlib.Core.List.{List, [], _∷_, foldl}
+use mathlib.Core.Path.{sym, _∙_, _≡_}
 use lib.ListN.{length}
 use lib.Seq.{length-take-le}
-use Rattle.prelude.specs.Loops.{sized}
+use Rattle.prelude.specs.Lists.{range}
+use Rattle.prelude.specs.ListLaws.{length-range, range-at}
+use Rattle.prelude.specs.Loops.{sized, Rest, rest-all, goes-on, runs-out}
+use Rattle.geometry.specs.declared.Rect.{Rect}
 use Rattle.cutouts.specs.Cutouts.{settleOf, groupList}
+use Rattle.cutouts.proofs.Groups.{missed, outside, below-one}
 use Rattle.layout.specs.Layout.{elementList, cutoutList}
 use borrow.Author.Tests.{not-true}
 use borrow.Author.Needs.{needs}
@@ -14,7 +17,9 @@ use Rattle.cutouts.proofs.avoid.Statement.{statement}
 use Rattle.cutouts.proofs.avoid.Tie as tie
 
 abbrev Inv-loop : tie.InvT-loop
-Inv-loop w h holes faces count out₀ i₀ out i = ((i ≤ count) × (out .count ≡ count)) × (elementList out ≡ foldl (settleOf w h (cutoutList holes)) (elementList out₀) (outside (groupList faces) (λ i. i ∷ []) count i))
+Inv-loop w h holes faces count out₀ i₀ out i =
+    let settled : List Rect → List ℕ → List Rect = λ es is. foldl (settleOf w h (cutoutList holes)) es (outside (groupList faces) (λ i. i ∷ []) is) in
+    (out .count ≡ count) × Rest (settled (elementList out)) (range 0 count) count (settled (elementList out₀) (range 0 count)) i
 
 abbrev μ-loop : tie.MeasureT-loop
 μ-loop w h holes faces count out₀ i₀ out i = count - i
@@ -22,41 +27,35 @@ abbrev μ-loop : tie.MeasureT-loop
 loop-again : tie.Need-loop-again Inv-loop μ-loop
 loop-again c =
     let l = c .before .before .before .loop in
-    ((omega arith, l .inv .0 .1), l .inv .1 ∙ ap (foldl _ _) (sym (outside-same _ (λ i. i ∷ []) _ (l .i) (c .before .before .loop-test .taken) (c .before .in-group .ensures) (c .if1 .taken))))
+    let h = c .before .before .loop-test .taken in
+    (l .inv .0, goes-on 0 (l .inv .1) h (rw (range-at _ (l .i) h, ← c .before .in-group .ensures, c .if1 .taken)))
 
 loop-again-2 : tie.Need-loop-again-2 Inv-loop μ-loop
 loop-again-2 c =
-    let s = c .before .before .before .before .before .before .before .before in
-    let l = c .before .before .before .before .before .before .loop in
-    let n : l .i < l .out .count = omega arith in (
-      (omega arith, l .inv .0 .1),
-      fold-more _ _ _ _ (outside (groupList (s .args .faces)) (λ i. i ∷ []) (s .args .elements .count) (l .i)) _ (l .i ∷ []) (l .inv .1) (outside-more _ (λ i. i ∷ []) _ (l .i) (c .before .before .before .before .before .loop-test .taken) (c .before .before .before .before .in-group .ensures) (c .before .before .before .if1 .left))
-          (sym (missed (s .args .w) (s .args .h) (cutoutList (s .args .holes)) (l .out .at) (l .out .count) (l .i) n (sym (c .before .overlap .ensures) ∙ not-true _ (c .if2 .taken)))),
-    )
+    let t = c .before .before .before in
+    let s = t .before .before .before .before .before .args in
+    let l = t .before .before .before .loop in
+    let h = t .before .before .loop-test .taken in
+    let k = missed (s .w) (s .h) (cutoutList (s .holes)) (l .out .at) (l .out .count) (l .i) (omega arith) (sym (c .before .overlap .ensures) ∙ not-true _ (c .if2 .taken)) in
+    (l .inv .0, goes-on 0 (l .inv .1) h (rw (range-at _ (l .i) h, ← t .before .in-group .ensures, t .if1 .left, k, foldl)))
 
 settle-requires-2 : tie.Need-settle-requires-2 Inv-loop μ-loop
 settle-requires-2 c κs =
-    let s = c .before .before .before .before .before .before .before .before .before in
     let l = c .before .before .before .before .before .before .before .loop in
-    let h : l .i < s .args .elements .count = c .before .before .before .before .before .before .loop-test .taken in
     ((omega arith, (omega arith, omega arith)), below-one (l .out .count) (l .i) _ (omega arith) (c .single .ensures .0))
 
 loop-again-3 : tie.Need-loop-again-3 Inv-loop μ-loop
 loop-again-3 c =
-    let s = c .before .before .before .before .before .before .before .before .before .before in
-    let l = c .before .before .before .before .before .before .before .before .loop in (
-      (omega arith, c .settle2 .ensures .1 ∙ l .inv .0 .1),
-      fold-more _ _ _ _ (outside (groupList (s .args .faces)) (λ i. i ∷ []) (s .args .elements .count) (l .i)) _ (l .i ∷ []) (l .inv .1) (outside-more _ (λ i. i ∷ []) _ (l .i) (c .before .before .before .before .before .before .before .loop-test .taken) (c .before .before .before .before .before .before .in-group .ensures) (c .before .before .before .before .before .if1 .left))
-          (rw (c .before .single .ensures .0) at (c .settle2 .ensures .0)),
-    )
+    let t = c .before .before .before .before .before in
+    let l = t .before .before .before .loop in
+    let h = t .before .before .loop-test .taken in
+    (c .settle2 .ensures .1 ∙ l .inv .0, goes-on 0 (l .inv .1) h (rw (range-at _ (l .i) h, ← t .before .in-group .ensures, t .if1 .left, c .settle2 .ensures .0, c .before .single .ensures .0)))
 
 returns : tie.Need-returns Inv-loop μ-loop
 returns c =
-    let s = c .before .before .before in
-    let l = c .before .loop in
-    let a : length (s .args .elements .at) ≡ 19 = search sized in
-    let k : length (elementList (s .args .elements)) ≡ s .args .elements .count = length-take-le (s .args .elements .count) (s .args .elements .at) (omega arith) in
-    (l .inv .1 ∙ ap₂ (foldl _) (c .before .before .settle .ensures .0) (outside-all (groupList (s .args .faces)) (λ i. i ∷ []) _ (l .i) (omega arith) (elementList (s .args .elements)) k), l .inv .0 .1)
+    let s = c .before .before .before .args .elements in
+    let a : length (s .at) ≡ 19 = search sized in
+    (rw (length-take-le (s .count) (s .at) (omega arith), ← c .before .before .settle .ensures .0, foldl) (runs-out (c .before .loop .inv .1) (c .loop-test .left)), c .before .loop .inv .0)
 
 pub avoid-spec : {M : Type 1} → statement M
 avoid-spec =
@@ -65,7 +64,7 @@ avoid-spec =
     Inv-loop
     μ-loop
     (λ c κs. search needs)
-    (λ c. ((omega arith, c .settle .ensures .1), refl))
+    (λ c. (c .settle .ensures .1, rest-all _ _ _ (length-range _)))
     (λ c κs. search needs)
     (λ c. omega arith)
     (λ c. omega arith)

@@ -1,57 +1,65 @@
-use Prim.Native.Nat.{ℕ, _+_, _-_, _≤_}
+use Prim.Native.Nat.{_+_, _-_, _<_, _≤_}
 use borrow.Author.Tests.{not-true, not-false}
-use Rattle.prelude.specs.Stores.{put-more}
-use Rattle.cutouts.proofs.Groups.{face-more, face-same, faces-all, faces-few, faces-below, room}
-use Rattle.layout.specs.Actions.{actionElementsOf}
-use Rattle.layout.specs.Label.{isFaceOf}
-use Rattle.layout.specs.declared.Control.{Control}
-use mathlib.Core.Path.{refl, sym, _∙_, _≡_}
-use lib.ListN.{length, take, length-set}
-use Rattle.prelude.specs.Loops.{sized}
-use Rattle.prelude.specs.Lists.{filterMap, enumerateFrom}
+use mathlib.Core.Path.{refl, ap, sym, _≡_}
+use mathlib.Core.List.{_∷_, _++_, append-nil}
+use lib.ListN.{length, take, drop, length-append, length-set}
+use lib.Seq.{length-take-le}
+use Rattle.prelude.specs.Lists.{enumerateFrom}
+use Rattle.prelude.specs.Loops.{in-array, Rest, rest-all, stops, goes-on, runs-out}
+use Rattle.prelude.specs.Stores.{put-rest}
 use Rattle.cutouts.specs.Cutouts.{groupList}
+use Rattle.cutouts.proofs.Groups.{facesOf, length-numbered, face-at, faces-below}
+use Rattle.layout.specs.Actions.{actionElementsOf}
+use Rattle.layout.specs.Layout.{anyControl, controlList}
 use borrow.Author.Needs.{needs}
 use native.Mathlib.Omega.{arith}
 use Rattle.cutouts.proofs.faces.Statement.{statement}
 use Rattle.cutouts.proofs.faces.Tie as tie
 
 abbrev Inv-loop : tie.InvT-loop
-Inv-loop controls n at₀ count₀ i₀ at count i = ((i ≤ n) × (count ≤ 4)) × (((length controls ≡ 12) × (length at ≡ 4)) × (take count at ≡ filterMap (λ (e : ℕ × Control). isFaceOf (e .1 .label)) (λ (e : ℕ × Control). e .0) (take i (enumerateFrom 1 (take n controls)))))
+Inv-loop controls n at₀ count₀ i₀ at count i =
+    let numbered = enumerateFrom 1 (take n controls) in
+    (count ≤ 4) × (length at ≡ 4) × Rest (λ l. take count at ++ facesOf l) numbered n (facesOf numbered) i
 
 abbrev μ-loop : tie.MeasureT-loop
 μ-loop controls n at₀ count₀ i₀ at count i = n - i
 
 loop-again : tie.Need-loop-again Inv-loop μ-loop
 loop-again c =
-    let s = c .before .before .before .before .before .before in
+    let s = c .before .before .before .before .before .before .args .l in
     let l = c .before .before .before .before .loop in
-    let a = l .inv .1 .0 in
-    ((omega arith, omega arith), (a, l .inv .1 .1 ∙ sym (face-same (s .args .l) (omega arith) (l .i) (c .before .before .before .loop-test .taken) (c .before .is-face .ensures) (not-true _ (c .if1 .taken)))))
+    let h = c .before .before .before .loop-test .taken in
+    (l .inv .0, l .inv .1, goes-on (0, anyControl) (l .inv .2) h (rw (face-at s (search (in-array, arith)) (l .i) h, ← c .before .is-face .ensures, not-true (c .before .is-face .result) (c .if1 .taken))))
 
-array-write-at : tie.Need-array-write-at Inv-loop μ-loop
-array-write-at c =
+-- there is room for a face that was found
+room : (c : tie.Else1 Inv-loop μ-loop) → c .before .before .before .before .loop .count < 4
+unfolding actionElementsOf
+room c =
     let s = c .before .before .before .before .before .before in
     let l = c .before .before .before .before .loop in
-    let a = l .inv .1 .0 in
-    let more = face-more (s .args .l) (omega arith) (l .i) (c .before .before .before .loop-test .taken) (c .before .is-face .ensures) (not-false _ (c .if1 .left)) in
-    omega (arith, room (l .at) (l .count) 4 _ (omega arith) (l .inv .1 .1) more (omega (arith, faces-few (s .args .l) (omega arith) (l .i + 1), s .pre .1)))
+    let h = c .before .before .before .loop-test .taken in
+    let rest = facesOf (drop (l .i + 1) (take (s .args .l .count) (enumerateFrom 1 (controlList (s .args .l))))) in
+    let e : take (l .count) (l .at) ++ ((l .i + 1) ∷ rest) ≡ actionElementsOf (s .args .l) =
+    stops (0, anyControl) (l .inv .2) h (rw (face-at (s .args .l) (search (in-array, arith)) (l .i) h, ← c .before .is-face .ensures, not-false (c .before .is-face .result) (c .if1 .left))) in
+    omega (arith, length-take-le (l .count) (l .at) (omega arith), ap length e, length-append (take (l .count) (l .at)) ((l .i + 1) ∷ rest), s .pre .1)
 
 loop-again-2 : tie.Need-loop-again-2 Inv-loop μ-loop
 loop-again-2 c =
-    let s = c .before .before .before .before .before .before in
     let l = c .before .before .before .before .loop in
-    let a = l .inv .1 .0 in
-    let more = face-more (s .args .l) (omega arith) (l .i) (c .before .before .before .loop-test .taken) (c .before .is-face .ensures) (not-false _ (c .if1 .left)) in
-    let b = room (l .at) (l .count) 4 _ (omega arith) (l .inv .1 .1) more (omega (arith, faces-few (s .args .l) (omega arith) (l .i + 1), s .pre .1)) in
-    ((omega arith, omega arith), ((a .0, length-set (l .at) (l .count) (l .i + 1) ∙ a .1), put-more (l .at) (l .count) (l .i + 1) (omega arith) (l .inv .1 .1) more))
+    let h = c .before .before .before .loop-test .taken in
+    let k = room c in (
+      omega arith,
+      rw length-set (l .inv .1),
+      goes-on (0, anyControl) (l .inv .2) h (rw (face-at (c .before .before .before .before .before .before .args .l) (search (in-array, arith)) (l .i) h, ← c .before .is-face .ensures, not-false (c .before .is-face .result) (c .if1 .left)) (sym (put-rest (l .at) (l .count) (l .i + 1) _ (omega arith)))),
+    )
 
 returns : tie.Need-returns Inv-loop μ-loop
+unfolding actionElementsOf
 returns c =
-    let s = c .before .before .before in
+    let s = c .before .before .before .args .l in
     let l = c .before .loop in
-    let a = l .inv .1 .0 in
-    let p : groupList (record { at = l .at; count = l .count }) ≡ actionElementsOf (s .args .l) = l .inv .1 .1 ∙ faces-all (s .args .l) (omega arith) (l .i) (omega arith) in
-    (p, (omega arith, rw p (faces-below (s .args .l) _ (omega arith) (omega arith))))
+    let p : groupList (record { at = l .at; count = l .count }) ≡ actionElementsOf s = rw append-nil at (runs-out (l .inv .2) (c .loop-test .left)) in
+    (p, (omega arith, rw p (faces-below s _ (omega arith) (search (in-array, arith)))))
 
 pub faces-spec : {M : Type 1} → statement M
 faces-spec =
@@ -59,7 +67,7 @@ faces-spec =
     (tie.spec
     Inv-loop
     μ-loop
-    (λ c. ((omega arith, omega arith), ((search sized, refl), refl)))
+    (λ c. (omega arith, refl, rest-all _ _ _ (length-numbered (c .before .args .l) (search (in-array, arith)))))
     (λ c. omega arith)
     (λ c. omega arith)
     (λ c κs. search needs)
@@ -68,7 +76,7 @@ faces-spec =
     loop-again
     (λ c. omega arith)
     (λ c. omega arith)
-    array-write-at
+    (λ c. omega (arith, room c))
     (λ c. omega arith)
     (λ c. omega arith)
     (λ c. omega arith)

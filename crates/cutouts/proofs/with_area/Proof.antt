@@ -1,9 +1,10 @@
 use Prim.Native.Nat.{_-_, _≤_}
 use borrow.Author.Tests.{not-true, not-false}
-use mathlib.Core.Path.{refl, _∙_, _≡_}
-use lib.ListN.{length, take, getD, length-set}
-use Rattle.prelude.specs.Loops.{one-more, no-more, sized}
-use Rattle.prelude.specs.Stores.{put-more}
+use mathlib.Core.Path.{sym, _≡_}
+use mathlib.Core.List.{_++_, append-nil}
+use lib.ListN.{length, take, length-set}
+use Rattle.prelude.specs.Loops.{in-array, sized, Rest, goes-on, runs-out}
+use Rattle.prelude.specs.Stores.{put-rest}
 use Rattle.prelude.specs.Lists.{retain}
 use Rattle.cutouts.specs.Cutouts.{hasAreaOf}
 use Rattle.layout.specs.Layout.{anyRect}
@@ -13,31 +14,23 @@ use Rattle.cutouts.proofs.with_area.Statement.{statement}
 use Rattle.cutouts.proofs.with_area.Tie as tie
 
 abbrev Inv-loop : tie.InvT-loop
-Inv-loop at n out₀ count₀ i₀ out count i = ((i ≤ n) × (count ≤ i)) × (((length at ≡ 16) × (length out ≡ 16)) × (take count out ≡ retain hasAreaOf (take i at)))
+Inv-loop at n out₀ count₀ i₀ out count i = (count ≤ i) × (length out ≡ 16) × Rest (λ l. take count out ++ retain hasAreaOf l) at n (retain hasAreaOf (take n at)) i
 
 abbrev μ-loop : tie.MeasureT-loop
 μ-loop at n out₀ count₀ i₀ out count i = n - i
 
 loop-again : tie.Need-loop-again Inv-loop μ-loop
 loop-again c =
-    let s = c .before .before .before .before .before .before in
     let l = c .before .before .before .before .loop in
-    let a = l .inv .1 .0 .0 in
-    ((omega arith, omega arith), (l .inv .1 .0, rw (no-more hasAreaOf (λ x. x) (s .args .cutouts .at) (l .i) anyRect (omega arith) (c .before .has-area .ensures) (not-true _ (c .if1 .taken))) (l .inv .1 .1)))
+    (omega arith, l .inv .1, goes-on anyRect (l .inv .2) (c .before .before .before .loop-test .taken) (rw (← c .before .has-area .ensures, not-true (c .before .has-area .result) (c .if1 .taken))))
 
 loop-again-2 : tie.Need-loop-again-2 Inv-loop μ-loop
 loop-again-2 c =
-    let s = c .before .before .before .before .before .before in
-    let l = c .before .before .before .before .loop in
-    let a = l .inv .1 .0 in
-    ((omega arith, omega arith), ((l .inv .1 .0 .0, length-set (l .out) (l .count) (getD (s .args .cutouts .at) (l .i) anyRect) ∙ l .inv .1 .0 .1), put-more (l .out) (l .count) _ (omega arith) (l .inv .1 .1) (one-more hasAreaOf (λ x. x) (s .args .cutouts .at) (l .i) anyRect (omega arith) (c .before .has-area .ensures) (not-false _ (c .if1 .left)))))
-
-returns : tie.Need-returns Inv-loop μ-loop
-returns c =
-    let s = c .before .before .before in
-    let l = c .before .loop in
-    let e : s .args .cutouts .count ≡ l .i = omega arith in
-    (rw e (l .inv .1 .1), omega arith)
+    let l = c .before .before .before .before .loop in (
+      omega arith,
+      rw length-set (l .inv .1),
+      goes-on anyRect (l .inv .2) (c .before .before .before .loop-test .taken) (rw (← c .before .has-area .ensures, not-false (c .before .has-area .result) (c .if1 .left)) (sym (put-rest (l .out) (l .count) _ _ (omega arith)))),
+    )
 
 pub with-area-spec : {M : Type 1} → statement M
 with-area-spec =
@@ -45,7 +38,7 @@ with-area-spec =
     (tie.spec
     Inv-loop
     μ-loop
-    (λ c. ((omega arith, omega arith), ((search sized, search sized), refl)))
+    (λ c. (omega arith, search sized, search (in-array, arith)))
     (λ c. omega arith)
     (λ c. omega arith)
     (λ c κs. search needs)
@@ -58,4 +51,4 @@ with-area-spec =
     (λ c. omega arith)
     (λ c. omega arith)
     loop-again-2
-    returns)
+    (λ c. (rw append-nil at (runs-out (c .before .loop .inv .2) (c .loop-test .left)), omega arith)))
