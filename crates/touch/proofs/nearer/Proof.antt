@@ -1,7 +1,7 @@
 -- `nearer`: what a turn makes of the nearest button, with the margin and without.
 use borrow.Author.Needs.{needs}
-use mathlib.Core.Path.{_≡_, refl, sym, _∙_}
-use mathlib.Core.Bool.{Bool, true, false, cond, not, _&&_, _||_, true≢false}
+use mathlib.Core.Path.{_≡_, refl}
+use mathlib.Core.Bool.{Bool, true, false, cond, not, _&&_, _||_, and-assoc}
 use Prim.Native.Nat.{ℕ}
 use lib.Bits.{bitAnd}
 use lib.Dec.{eqb}
@@ -33,24 +33,14 @@ module _ (x y : Float) (previous : ℕ) (best : Face) (c : Control) (free : Bool
   -- a turn at a button that is not reached
   far : {t : Bool} → t ≡ near x y c free → t ≡ false → best ≡ nearerOf x y free previous best c
   unfolding nearerOf
-  far p q = go (isFaceOf (c .label)) (reachedOf (c .bounds) x y free) _ _ (sym p ∙ q)
-    where
-      go : (f t b : Bool) (face : Face) → (f && t) ≡ false → best ≡ cond (f && (t && b)) face best
-      go true true b face e = absurd (true≢false e)
-      go true false b face e = refl
-      go false t b face e = refl
+  far p q = rw (← and-assoc, ← p, q)
 
   -- and at one that is
   turn : {t : Bool} {m : ℕ} {d : Float} {r : Face} → t ≡ near x y c free → t ≡ true → m ≡ maskOf (c .label)
       → d ≡ distanceOf (c .bounds) x y (not (eqb (bitAnd previous m) 0)) → r ≡ cond (lt d (best .closest)) (record { mask = m; closest = d }) best
       → r ≡ nearerOf x y free previous best c
   unfolding nearerOf
-  turn p q m d e = go (isFaceOf (c .label)) (reachedOf (c .bounds) x y free) _ _ (sym p ∙ q) (rw (d, m) at e)
-    where
-      go : (f t b : Bool) (face : Face) {r : Face} → (f && t) ≡ true → r ≡ cond b face best → r ≡ cond (f && (t && b)) face best
-      go true true b face e q = q
-      go true false b face e q = absurd (true≢false (sym e))
-      go false t b face e q = absurd (true≢false (sym e))
+  turn p q m d e = rw (← and-assoc, ← p, q) (rw (d, m) at e)
 
 returns : tie.Need-returns
 returns c =
