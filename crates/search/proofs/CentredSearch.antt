@@ -87,7 +87,7 @@ module _ (d : ℕ) (D : 0 < d) {a : Float} {p q : ℕ} (S : Shape a p q) {w h : 
 
     module _ {y : Float} (ym : Edge y) where
       drop0-most : AtMost (maxOf (r .y ⊖ y) k0) way
-      drop0-most = max-most (drop-most d D S o ym) (most-more zero-most way tt)
+      drop0-most = max-most (drop-most o ym) (most-more zero-most way tt)
 
       over-width : AtMost (over y r) width
       over-width = times-most S drop0-most
@@ -105,7 +105,7 @@ module _ (d : ℕ) (D : 0 < d) {a : Float} {p q : ℕ} (S : Shape a p q) {w h : 
           go : Misses d 1 X0 0 Y0 0 W H r → Wide d W (limit y r)
           go (isLeft l) = omega (arith, c-law, beside-law, gap-law, sub-law d (o .x) c-most tt, g)
           go (isRight l) = omega (arith, c-law, beside-law, gap-law, sub-law d c-most (o .x) tt, sub-law d (sub-most c-most (o .x) tt) (o .w) tt, g)
-          go (isAbove l) = omega (arith, drop-grows d D S o ym W H Y0 drop0-most (max-law d (r .y ⊖ y) k0 (drop-most d D S o ym .whole) (zero-most .whole) .first) shape good l, g)
+          go (isAbove l) = omega (arith, drop-grows d D S o ym W H Y0 drop0-most (max-law d (r .y ⊖ y) k0 (drop-most o ym .whole) (zero-most .whole) .first) shape good l, g)
           go (isBelow l) = omega (arith, thin-below d D S o W H Y0 hm ym shape tall low u l n, beside-law, gap-law, g)
 
       -- ---- a picture of width z, not above the limit, is apart
@@ -133,13 +133,13 @@ module _ (d : ℕ) (D : 0 < d) {a : Float} {p q : ℕ} (S : Shape a p q) {w h : 
         by-over l =
             let t = r .y ⊖ y in
             let o0 = zero-parts d in
-            max-ind d t k0 (drop-most d D S o ym .whole) (zero-most .whole) (λ u. (AtMost u way → Le d z (u ⊗ a) → Apart d 5 box r))
+            max-ind d t k0 (drop-most o ym .whole) (zero-most .whole) (λ u. (AtMost u way → Le d z (u ⊗ a) → Apart d 5 box r))
             (λ k um (b : Le d z (t ⊗ a)). drop-above d D S o ym zm b)
             (λ k um (b : Le d z (k0 ⊗ a)). flat (omega (arith, stays S d um zm b)))
             drop0-most l
 
         by-cuts : Cuts d (skip y) (limit y) z r → Apart d 5 box r
-        by-cuts (inl t) = passed-below d D S o z (z ⊘ a) ym t
+        by-cuts (inl t) = passed-below d o z (z ⊘ a) ym t
         by-cuts (inr l) = max-ind d (beside r) (over y r) (beside-most .whole) (over-width .whole) (λ u. (Le d z u → Apart d 5 box r)) (λ k b. by-beside b) (λ k b. by-over b) l
 
   -- ---- the search
@@ -193,4 +193,4 @@ module _ (d : ℕ) (D : 0 < d) {a : Float} {p q : ℕ} (S : Shape a p q) {w h : 
     unfolding centeredOf tryAt
     centred-found =
         fold-ind (Found d w h os) Edge (tryAt w h os a) (λ g y f ym. turn-ind (Found d w h os) g _ y (widthOf y) a (withinOf y h) f (at-centre y ym)) (bottoms os) emptyRect
-        (none-found d os (le-law d k0 w (zero-most .whole) (wm .whole) w0) (le-law d k0 h (zero-most .whole) (hm .whole) h0) fair) (bottoms-most os fair)
+        (none-found d os wm hm w0 h0 fair) (bottoms-most os fair)

@@ -62,9 +62,11 @@ pub record Found (d : ℕ) (w h : Float) (os : List Rect) (g : Rect) : Type 0 wh
   pub apart : Each (Apart d 5 g) os
 
 -- nothing found
-pub none-found : (d : ℕ) {w h : Float} (os : List Rect) → Le d k0 w → Le d k0 h → Each Obstacle os → Found d w h os emptyRect
-none-found d os w0 h0 e =
+pub none-found : (d : ℕ) {w h : Float} (os : List Rect) → AtMost w maxArea → AtMost h maxArea → T (le k0 w) → T (le k0 h) → Each Obstacle os → Found d w h os emptyRect
+none-found d {w} {h} os wm hm w0 h0 e =
     let o = zero-parts d in
+    let x = le-law d k0 w (zero-most .whole) (wm .whole) w0 in
+    let y = le-law d k0 h (zero-most .whole) (hm .whole) h0 in
     record {
       inside = record {
         xm = most-more zero-most left-end tt;
@@ -146,14 +148,19 @@ module _ (d : ℕ) {u s : Float} (um : AtMost u corner) (sm : AtMost s maxSide) 
       let g : Good d Y0 (u ⊕ s) = omega (arith, add-law d um sm tt) in
       omega (arith, escape d D hm Y0 ym (add-most um sm tt) low g v n)
 
-module _ (d : ℕ) (D : 0 < d) {a : Float} {p q : ℕ} (S : Shape a p q) {r : Rect} (o : Obstacle r) where
-  -- ---- an obstacle that is passed over
+-- ---- an obstacle that is passed over
+module _ (d : ℕ) {r : Rect} (o : Obstacle r) where
   pub passed-below : {x y : Float} (w h : Float) → Edge y → T (le (bottomOf r) (y ⊕ k0·01)) → Apart d 5 (newOf x y w h) r
   passed-below w h ym t = below (passed d (o .y) (o .h) ym t)
 
   pub passed-right : {x y : Float} (w h : Float) → Edge x → T (le (rightOf r) (x ⊕ k0·01)) → Apart d 5 (newOf x y w h) r
   passed-right w h xm t = right (passed d (o .x) (o .w) xm t)
 
+-- the height above one
+pub drop-most : {r : Rect} → Obstacle r → {y : Float} → Edge y → AtMost (r .y ⊖ y) way
+drop-most o ym = sub-most (o .y) ym tt
+
+module _ (d : ℕ) (D : 0 < d) {a : Float} {p q : ℕ} (S : Shape a p q) {r : Rect} (o : Obstacle r) where
   -- one that the exact rectangle is below, or right of, is passed over, unless the rectangle is thin
   pub thin-below : {h y : Float} (W H Y0 : ℕ) → AtMost h maxArea → Edge y → W * q ≡ H * p → Y0 + H + N d h ≤ P d h → Le d k0 y → Under d Y0 h y (bottomOf r)
       → P d (r .y) + P d (r .h) + 0 ≤ Y0 + N d (r .y) + N d (r .h) + E d * 1 → T (not (le (bottomOf r) (y ⊕ k0·01))) → W ≤ E d * 4
@@ -165,11 +172,8 @@ module _ (d : ℕ) (D : 0 < d) {a : Float} {p q : ℕ} (S : Shape a p q) {r : Re
 
   -- ---- the height above an obstacle
   module _ {y : Float} (ym : Edge y) where
-    pub drop-most : AtMost (r .y ⊖ y) way
-    drop-most = sub-most (o .y) ym tt
-
     pub drop-grows : (W H Y0 : ℕ) {t : Float} → AtMost t way → Le d (r .y ⊖ y) t → W * q ≡ H * p → Good d Y0 y → Y0 + H + N d (r .y) ≤ P d (r .y) + 0 + E d * 1 → W + N d (t ⊗ a) ≤ P d (t ⊗ a) + E d * 9
     drop-grows W H Y0 tm l shape good h = grows S d W H tm shape (omega (arith, sub-law d (o .y) ym tt))
 
     pub drop-above : {x z : Float} → AtMost z width → Le d z ((r .y ⊖ y) ⊗ a) → Apart d 5 (newOf x y z (z ⊘ a)) r
-    drop-above zm l = above (omega (arith, stays S d drop-most zm l, sub-law d (o .y) ym tt))
+    drop-above zm l = above (omega (arith, stays S d (drop-most o ym) zm l, sub-law d (o .y) ym tt))

@@ -23,7 +23,7 @@ use Rattle.search.specs.Widest.{WidestGame}
 use Rattle.search.specs.Bounded.{Every, Bounded, BoundedGame}
 use Rattle.search.proofs.Shapes.{Shape}
 use Rattle.search.proofs.Clearance.{Inside}
-use Rattle.search.proofs.Placement.{game-is, obstacles-fair, picture-found}
+use Rattle.search.proofs.Placement.{game-is, offset-in, obstacles-fair, picture-found}
 use Rattle.search.proofs.Demand.{game-widest}
 
 pub bounds-in : {C D : Rect → Type 0} (l : Layout) → Every C D l → Each C (boundsOf l)
@@ -40,13 +40,13 @@ elements-in {C} l B =
 abbrev most : ℕ
 most = maxArea + 16
 
-pub record Picture (g : Rect) : Type 0 where
+record Picture (g : Rect) : Type 0 where
   pub x : AtMost (g .x) most
   pub y : AtMost (g .y) most
   pub w : AtMost (g .w) most
   pub h : AtMost (g .h) most
 
-pub picture-in : {b g : Rect} → Area b → Inside 1 (b .w) (b .h) g → Picture g
+picture-in : {b g : Rect} → Area b → Inside 1 (b .w) (b .h) g → Picture g
 picture-in {b} {g} B I =
     let w = most-size 1 (b .w) maxArea (B .w) in
     let h = most-size 1 (b .h) maxArea (B .h) in
@@ -57,14 +57,14 @@ picture-in {b} {g} B I =
       h = between-most (g .h) most (I .hm .whole) (omega (arith, I .tobottom, I .fromtop)) (omega (arith, I .high));
     }
 
-pub game-in : {a : Float} {p q : ℕ} → Shape a p q → (es : List Rect) → Each Element es → {b : Rect} → Area b → (factor : Float) → Whole factor → (offset : Offset) → Whole (offset .x) → Whole (offset .y)
+game-in : {a : Float} {p q : ℕ} → Shape a p q → (es : List Rect) → Each Element es → {b : Rect} → Area b → (factor : Float) → Whole factor → (offset : Offset) → Whole (offset .x) → Whole (offset .y)
     → BoundedGame (gameOf es b factor offset a)
 game-in {a} S es F {b} B factor fw offset ox oy =
     let g = picture-in B (picture-found B 1 (zero-lt-suc 0) S (obstaclesOf b es) (obstacles-fair B es F) .inside) in
     let s = clamp-whole-in factor fw i0·25 (lit 1) in
     let rest = range-most 193 (sub-in (lit 1) s tt) tt in
-    let px = range-most 256 (clamp-whole-in (offset .x) ox (lit 0) (lit 1)) tt in
-    let py = range-most 256 (clamp-whole-in (offset .y) oy (lit 0) (lit 1)) tt in
+    let px = offset-in (offset .x) ox in
+    let py = offset-in (offset .y) oy in
     let size = range-most 256 s tt in
     rw (game-is S es b factor offset)
     (record {

@@ -62,7 +62,7 @@ module _ {b : Rect} (B : Area b) where
     abbrev picture : Rect
     picture = clearPictureAspectOf (b .w) (b .h) os a
 
-    pub picture-widest : (X0 Y0 W H : ℕ) → W * q ≡ H * p → X0 + W + N d (b .w) ≤ P d (b .w) → Y0 + H + N d (b .h) ≤ P d (b .h) → Each (Misses d 1 X0 0 Y0 0 W H) os
+    picture-widest : (X0 Y0 W H : ℕ) → W * q ≡ H * p → X0 + W + N d (b .w) ≤ P d (b .w) → Y0 + H + N d (b .h) ≤ P d (b .h) → Each (Misses d 1 X0 0 Y0 0 W H) os
         → (X0 + X0 + W + N d (b .w) ≡ P d (b .w)) ⊎ T (not (lt k0 (centered .w))) → Wide d W (picture .w)
     unfolding clearPictureAspectOf
     picture-widest X0 Y0 W H shape broad tall misses c = go (lt k0 (centered .w)) c
@@ -95,7 +95,7 @@ game-is {a} S es b factor offset = by-test (λ g. put g ≡ put (clear a)) (eq a
     put : Rect → Rect
     put g = placed b g (clampOf factor k0·25 k1) (clampOf (offset .x) k0 k1) (clampOf (offset .y) k0 k1)
 
-offset-in : (x : Float) → Whole x → AtMost (clampOf x k0 k1) 256
+pub offset-in : (x : Float) → Whole x → AtMost (clampOf x k0 k1) 256
 offset-in x p = range-most 256 (clamp-whole-in x p (lit 0) (lit 1)) tt
 
 -- ---- at scale 1 the game is the picture, but for 2 across and down and 1 in size

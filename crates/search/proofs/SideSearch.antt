@@ -18,7 +18,7 @@ use Rattle.geometry.specs.declared.Rect.{Rect}
 use Rattle.geometry.specs.Rect.{newOf, emptyRect}
 use Rattle.numerics.specs.Value.{AtMost, P, N, Le}
 use Rattle.numerics.specs.Rects.{maxArea}
-use Rattle.numerics.specs.Bounds.{sub-law, sub-most, most-more, le-law, max-ind, max-law, max-most, zero-most, zero-parts}
+use Rattle.numerics.specs.Bounds.{sub-law, sub-most, most-more, max-ind, max-law, max-most, zero-most, zero-parts}
 use Rattle.search.specs.Search.{bottomOf, rightOf, bottoms, rights, withinOf, narrowSideOf, sideWidthAt, trySideAt, tryColumn, sideOf}
 use Rattle.search.proofs.Shapes.{width, left-end, Shape, times-most}
 use Rattle.search.proofs.Candidates.{Edge, Good, Under, within-low, within-high, zero-within, find-last}
@@ -38,7 +38,7 @@ module _ (d : ℕ) (D : 0 < d) {a : Float} {p q : ℕ} (S : Shape a p q) {w h : 
     before-most = most-more (sub-most (o .x) xm tt) width tt
 
     over-width : AtMost ((r .y ⊖ y) ⊗ a) width
-    over-width = times-most S (drop-most d D S o ym)
+    over-width = times-most S (drop-most o ym)
 
     both-most : AtMost (maxOf (r .x ⊖ x) ((r .y ⊖ y) ⊗ a)) width
     both-most = max-most before-most over-width
@@ -57,12 +57,12 @@ module _ (d : ℕ) (D : 0 < d) {a : Float} {p q : ℕ} (S : Shape a p q) {w h : 
         → Misses d 1 X0 0 Y0 0 W H r → T (not (skip x y r)) → Wide d W (limit x y r)
     limit-wide X0 Y0 W H shape broad tall lowx lowy goodx goody ux uy (isLeft l) n = omega (arith, sub-law d (o .x) xm tt, limit-law)
     limit-wide X0 Y0 W H shape broad tall lowx lowy goodx goody ux uy (isRight l) n = omega (arith, thin-right d D S o W X0 wm xm broad lowx ux l (or-no (le (rightOf r) (x ⊕ k0·01)) (le (bottomOf r) (y ⊕ k0·01)) n .0), limit-law)
-    limit-wide X0 Y0 W H shape broad tall lowx lowy goodx goody ux uy (isAbove l) n = omega (arith, drop-grows d D S o ym W H Y0 (drop-most d D S o ym) (le-refl (P d (r .y ⊖ y) + N d (r .y ⊖ y))) shape goody l, limit-law)
+    limit-wide X0 Y0 W H shape broad tall lowx lowy goodx goody ux uy (isAbove l) n = omega (arith, drop-grows d D S o ym W H Y0 (drop-most o ym) (le-refl (P d (r .y ⊖ y) + N d (r .y ⊖ y))) shape goody l, limit-law)
     limit-wide X0 Y0 W H shape broad tall lowx lowy goodx goody ux uy (isBelow l) n = omega (arith, thin-below d D S o W H Y0 hm ym shape tall lowy uy l (or-no (le (rightOf r) (x ⊕ k0·01)) (le (bottomOf r) (y ⊕ k0·01)) n .1), limit-law)
 
     -- a picture of width z, not above the limit, is apart
     by-cuts : {z : Float} → AtMost z width → Cuts d (skip x y) (limit x y) z r → Apart d 5 (newOf x y z (z ⊘ a)) r
-    by-cuts {z} zm (inl t) = or-case (le (rightOf r) (x ⊕ k0·01)) (le (bottomOf r) (y ⊕ k0·01)) (passed-right d D S o z (z ⊘ a) xm) (passed-below d D S o z (z ⊘ a) ym) t
+    by-cuts {z} zm (inl t) = or-case (le (rightOf r) (x ⊕ k0·01)) (le (bottomOf r) (y ⊕ k0·01)) (passed-right d o z (z ⊘ a) xm) (passed-below d o z (z ⊘ a) ym) t
     by-cuts {z} zm (inr l) =
         let e = sub-law d (o .x) xm tt in
         let o0 = zero-parts d in
@@ -138,7 +138,7 @@ module _ (d : ℕ) (D : 0 < d) {a : Float} {p q : ℕ} (S : Shape a p q) {w h : 
     unfolding sideOf tryColumn trySideAt
     side-found =
         fold-ind (Found d w h os) Edge (tryColumn w h os a) (λ g x f xm. col g x f xm (withinOf x w) (λ t. t)) (rights os) emptyRect
-        (none-found d os (le-law d k0 w (zero-most .whole) (wm .whole) w0) (le-law d k0 h (zero-most .whole) (hm .whole) h0) fair) (rights-most os fair)
+        (none-found d os wm hm w0 h0 fair) (rights-most os fair)
       where
         col : (g : Rect) (x : Float) → Found d w h os g → Edge x → (ok : Bool) → (T ok → T (withinOf x w)) → Found d w h os (cond ok (foldl (trySideAt w h os a x) g (bottoms os)) g)
         col g x f xm false s = f
