@@ -2,7 +2,7 @@
 use mathlib.Core.Path.{_≡_, sym}
 use mathlib.Core.Logic.{_⊎_, inl, inr}
 use mathlib.Core.Bool.{Bool, true, false, _&&_, _||_, Bool·beq}
-use Prim.Native.Nat.{ℕ, zero, suc, _+_, _*_, _≤_, _<_}
+use Prim.Native.Nat.{ℕ, _+_, _*_, _≤_, _<_}
 use native.Mathlib.Nat.{le-of-lt, le-of-eq, lt-of-lt-of-le, eq-zero-or-pos, mul-le-mul-right, mul-lt-mul-of-pos-right, lt-of-mul-lt-mul-right, mul-pos}
 use native.Mathlib.Omega.{arith}
 use lib.Dec.{T, eqb, ltb, ltb→lt, lt→ltb, eqb→eq}
@@ -10,13 +10,13 @@ use lib.Ieee.{Float, nan, inf, fin, up, down, below, level, lt, le, eq, ne}
 use lib.Ieee.Compare.{differs-from-itself}
 use lib.Ieee.Fits.{down-pos, and-l, and-r}
 use lib.Ieee.Bits.{is-true}
+use lib.Ieee.Positive.{first-pos}
 use Rattle.prelude.specs.Booleans.{by-test, or-case}
 use Rattle.float.specs.MinMax.{minOf}
 
 -- the factor of a product that is above something
 above : (a x d g : ℕ) → 0 < g → a < x * d → 0 < x * g
-above a zero d g G h = absurd (omega arith)
-above a (suc x) d g G h = mul-pos {m = suc x} {n = g} (omega arith) G
+above a x d g G h = mul-pos (first-pos x d (omega arith)) G
 
 -- ---- x / e, y / d and z / g, each with a sign
 module _ (x y z e d g : ℕ) (E : 0 < e) (D : 0 < d) (G : 0 < g) where

@@ -1,8 +1,8 @@
 -- `isqrt n` is the largest r with r * r ≤ n, and `rootOf` compares with even numbers as twice the root does.
-use mathlib.Core.Path.{_≡_, refl}
+use mathlib.Core.Path.{_≡_}
 use mathlib.Core.Logic.{inl, inr}
 use Prim.Native.Nat.{ℕ, zero, suc, _+_, _*_, _/_, _^_, _≤_, _<_, Ordering, Ordering·lt, Ordering·eq, Ordering·gt}
-use native.Mathlib.Nat.{le-of-eq, le-trans, le-antisymm, lt-of-lt-of-le, lt-of-le-of-lt, pow-succ'}
+use native.Mathlib.Nat.{le-trans, pow-le-pow-left, le-antisymm, lt-of-lt-of-le, lt-of-le-of-lt, pow-succ'}
 use native.Mathlib.Omega.{arith}
 use mathlib.Core.Bool.{Bool, true, false, not, cond}
 use lib.Dec.{T, leb, ltb, leb→le, nleb→lt, ltb→lt, nltb→le}
@@ -29,13 +29,9 @@ below (suc d) n h =
     let ih : IsRoot (n / 4) r = below d (n / 4) (omega arith) in
     grown n (2 * r) (omega (arith, ih .0)) (omega (arith, ih .1))
 
-two-four : (d : ℕ) → 2 ^ d ≤ 4 ^ d
-two-four zero = le-of-eq refl
-two-four (suc d) = omega (arith, pow-succ' 4 d, pow-succ' 2 d, two-four d)
-
 pub is-root : (n : ℕ) → IsRoot n (isqrt n)
 unfolding isqrt
-is-root n = below (size n) n (lt-of-lt-of-le (size-lt n) (two-four (size n)))
+is-root n = below (size n) n (lt-of-lt-of-le (size-lt n) (pow-le-pow-left (omega arith) (size n)))
 
 root-le : (n a b : ℕ) → a * a ≤ n → n < (b + 1) * (b + 1) → a ≤ b
 root-le n a b h k = elim (lt-or-ge b a) [ inl g ↦ absurd (omega (arith, square-le {a = b + 1} {b = a} (omega arith))) | inr g ↦ g ]
