@@ -21,13 +21,13 @@ and-bit : (b i : ℕ) → bitAnd b (2 ^ i) ≡ b / 2 ^ i % 2 * 2 ^ i
 and-bit b i = ap (bitAnd b) (sym (high-ones 1 i ∙ one-mul (2 ^ i))) ∙ and-high b 1 i
 
 digit : (x p : ℕ) → x < 2 → 0 < p → not (eqb (x * p) 0) ≡ eqb x 1
-digit zero p h k = ap (λ n. not (eqb n 0)) (zero-mul p)
-digit (suc zero) p h k = ap (λ n. not (eqb n 0)) (one-mul p) ∙ ap not (ne-eqb p 0 (λ e. omega arith))
+digit zero p h k = rw zero-mul
+digit (suc zero) p h k = rw (one-mul, ne-eqb p 0 (λ e. omega arith))
 digit (suc (suc x)) p h k = absurd (let z : ⊥ = omega arith in z)
 
 pub test-bit : (b i : ℕ) → not (eqb (bitAnd b (2 ^ i)) 0) ≡ hasBit b i
 unfolding hasBit
-test-bit b i = ap (λ n. not (eqb n 0)) (and-bit b i) ∙ digit (b / 2 ^ i % 2) (2 ^ i) (mod-lt (b / 2 ^ i) (lit< tt)) (pow-pos i)
+test-bit b i = rw and-bit (digit (b / 2 ^ i % 2) (2 ^ i) (mod-lt (b / 2 ^ i) (lit< tt)) (pow-pos i))
 
 -- ---- the first rectangles of a value, put into an array
 pub fill-next : (size : ℕ) (v : List ℕ) (i : ℕ) → i < size → set (filled size v i) i (rectAtOf v i) ≡ filled size v (i + 1)

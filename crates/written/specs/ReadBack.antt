@@ -21,7 +21,7 @@ use Rattle.layout.specs.declared.Layout.{Layout}
 use Rattle.layout.specs.Layout.{elementsOf}
 use Rattle.numerics.specs.Value.{magnitude, Whole, value}
 use Rattle.numerics.specs.Bounds.{zero-most}
-use Rattle.reader.specs.Order.{shortOf, numberAtOf, rectAtOf, rects}
+use Rattle.reader.specs.Order.{shortOf, numberAtOf, rectAtOf, rects, wordOf}
 use Rattle.settings.specs.Settings.{rectIsF32}
 use Rattle.writer.specs.Bytes.{shortBytes, patternOf, numberBytes, rectBytes, headBytes, layoutBytes}
 use Rattle.writer.specs.Length.{length-rect, length-items}
@@ -84,7 +84,7 @@ number-back x f =
     plus-zero-ind (λ y. ofBits binary32 (patternOf x) ≡ y) x (λ e. ap (ofBits binary32) (zero-pattern x t e)) (other-pattern x t)
 
 -- ---- a rectangle
-bytes-back : (n : ℕ) → ((n / 2 ^ 24 * 256 + n / 2 ^ 16 % 2 ^ 8) * 256 + n / 2 ^ 8 % 2 ^ 8) * 256 + n % 2 ^ 8 ≡ n
+bytes-back : (n : ℕ) → wordOf (n / 2 ^ 24) (n / 2 ^ 16 % 2 ^ 8) (n / 2 ^ 8 % 2 ^ 8) (n % 2 ^ 8) ≡ n
 bytes-back n = omega arith
 
 rect-back : (r : Rect) (rest : List ℕ) → rectIsF32 r ≡ true → rectAtOf (rectBytes r ++ rest) 0 ≡ plusZeroRect r
