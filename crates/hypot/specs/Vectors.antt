@@ -11,6 +11,7 @@ gives a b r = eqb (toBits binary32 (hypotOf (ofBits binary32 a) (ofBits binary32
 
 -- In turn: 3 and 4; -3 and 4; 9 and 0; two ties, to the even number below and above; two pairs at which platforms differ by a last place;
 -- subnormal numbers, exact and rounded; overflow; the infinity before NaN; NaN.
+-- For the reader: no proof cites this.
 vectors : T (gives 0x40400000 0x40800000 0x40a00000
     && gives 0xc0400000 0x40800000 0x40a00000
     && gives 0x41100000 0x00000000 0x41100000

@@ -37,6 +37,7 @@ cases =
     ∷ (screen ++ (4 ∷ 0 ∷ 1 ∷ 3 ∷ []), 5)
     ∷ []
 
+-- for the reader: no proof cites this
 pub orders : map (λ c. refusal (readOrderOf (c .0))) cases ≡ map (λ c. c .1) cases
 unfolding readOrderOf fields must readFieldOf fromByteOf readScreenOf readPictureOf readModeOf readFitOf readPlaceOf readCutoutsOf readSavedOf blankOf defaultOf numberAtOf rectAtOf rects filled hasBit fitMarkOf inLimitsOf screenInLimitsOf rectInLimitsOf placeInLimitsOf cutoutsInLimitsOf allOf maxOf ofBits lt le eq ne neg
 orders = refl
