@@ -1,20 +1,19 @@
 -- The labels, counts and arrays of `controller_band`.
 use mathlib.Core.Path.{_≡_, refl, ap, _∙_}
-use mathlib.Core.Bool.{Bool, true, false, cond}
+use mathlib.Core.Bool.{Bool, true, false}
 use mathlib.Core.List.{List, [], _∷_, _++_, map, map-append}
-use Prim.Native.Nat.{ℕ, _+_, _≤_}
+use Prim.Native.Nat.{_+_, _≤_}
 use native.Mathlib.Omega.{arith}
 use lib.Ieee.{Float}
 use lib.ListN.{length, length-set}
-use Rattle.prelude.specs.Lists.{retain}
 use Rattle.prelude.specs.Stores.{take-store}
 use Rattle.geometry.specs.declared.Rect.{Rect}
 use Rattle.layout.specs.declared.Control.{Control}
 use Rattle.layout.specs.declared.Label.{Label}
 use Rattle.layout.specs.declared.Label.the-variants.{L3, R3}
 use Rattle.layout.specs.declared.Layout.{Layout}
-use Rattle.layout.specs.Label.{idOf, maskOf, isFaceOf, onPspOf}
-use Rattle.layout.specs.Labels.{standardLabels, analogLabels, pspLabels, Inputs, Formed}
+use Rattle.layout.specs.Label.{idOf, maskOf, onPspOf}
+use Rattle.layout.specs.Labels.{standardLabels, analogLabels, Formed, OfMode}
 use Rattle.layout.specs.LabelLaws.{psp-inputs-formed}
 use Rattle.layout.specs.Layout.{controlList}
 use Rattle.layout.specs.Psp.{atMostOneOf}
@@ -27,26 +26,6 @@ use Rattle.arranged.specs.ArrangedLabels.{placed-formed, arranged-formed}
 use Rattle.band.specs.declared.Band.{Band}
 use Rattle.band.specs.Band.{measureBandOf, withAnalogOf, bandedOf, withInputsOf, controllerBandOf}
 use Rattle.band.specs.BandCases.{bandRoom, bandAnchored, controller-band-case}
-
--- with sticks or without, and of those what a psp has
-abbrev pub bandLabels : Bool → Bool → List Label
-bandLabels analog psp = cond psp pspLabels (cond analog analogLabels standardLabels)
-
-abbrev pub bandSticks : Bool → Bool → ℕ
-bandSticks analog psp = cond psp (cond analog 1 0) (cond analog 2 0)
-
--- four faces in each
-pub band-faces : (analog psp : Bool) → length (retain isFaceOf (bandLabels analog psp)) ≡ 4
-unfolding isFaceOf
-band-faces analog true = refl
-band-faces true false = refl
-band-faces false false = refl
-
-pub band-counts : (analog psp : Bool) (l : Layout) → Inputs (bandLabels analog psp) (bandSticks analog psp) l → (l .count ≤ 12) × (l .stickcount ≤ 2)
-band-counts true true l i = let n = i .1 in let s = i .2 in (omega arith, omega arith)
-band-counts true false l i = let n = i .1 in let s = i .2 in (omega arith, omega arith)
-band-counts false true l i = let n = i .1 in let s = i .2 in (omega arith, omega arith)
-band-counts false false l i = let n = i .1 in let s = i .2 in (omega arith, omega arith)
 
 -- L3 and R3 after the other controls
 pub with-analog-controls : (l : Layout) (l3 r3 left right : Rect) → l .count + 2 ≤ length (l .controls) → controlList (withAnalogOf l l3 r3 left right) ≡ controlList l ++ (control l3 L3 ∷ control r3 R3 ∷ [])
@@ -68,20 +47,20 @@ with-analog-formed l l3 r3 left right f =
       (rw (length-set, length-set) m, refl),
     )
 
-banded-formed : (w h : Float) (analog deep : Bool) (b : Band) → Formed (bandLabels analog false) (bandSticks analog false) (bandedOf w h analog deep b)
+banded-formed : (w h : Float) (analog deep : Bool) (b : Band) → OfMode analog false (bandedOf w h analog deep b)
 unfolding bandedOf
 banded-formed w h true deep b = with-analog-formed _ _ _ _ _ (placed-formed standardLabels 0 (arrangedOf w h false) _ (arranged-formed w h false))
 banded-formed w h false deep b = placed-formed standardLabels 0 (arrangedOf w h false) _ (arranged-formed w h false)
 
-pub with-inputs-formed : (analog psp : Bool) (l : Layout) → Formed (bandLabels analog false) (bandSticks analog false) l → Formed (bandLabels analog psp) (bandSticks analog psp) (withInputsOf l psp)
+pub with-inputs-formed : (analog psp : Bool) (l : Layout) → OfMode analog false l → OfMode analog psp (withInputsOf l psp)
 unfolding atMostOneOf onPspOf maskOf idOf
 with-inputs-formed analog false l f = f
 with-inputs-formed true true l f = psp-inputs-formed analogLabels 2 l refl f
 with-inputs-formed false true l f = psp-inputs-formed standardLabels 0 l refl f
 
-pub band-formed : (w h : Float) (analog psp : Bool) (picture : Rect) → Given (Formed (bandLabels analog psp) (bandSticks analog psp)) (controllerBandOf w h analog psp picture)
+pub band-formed : (w h : Float) (analog psp : Bool) (picture : Rect) → Given (OfMode analog psp) (controllerBandOf w h analog psp picture)
 unfolding placeGameInAspectOf anchorToolbarOf
 band-formed w h analog psp picture =
     let room = bandRoom w h analog psp picture in
-    controller-band-case w h analog psp picture (Formed (bandLabels analog psp) (bandSticks analog psp))
+    controller-band-case w h analog psp picture (OfMode analog psp)
     (λ t. with-inputs-formed analog psp (bandAnchored w h analog psp picture) (banded-formed w h analog (room .deep) (measureBandOf w h analog room)))

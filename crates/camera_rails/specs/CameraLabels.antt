@@ -12,14 +12,14 @@ use Rattle.geometry.specs.declared.Rect.{Rect}
 use Rattle.layout.specs.declared.Label.{Label}
 use Rattle.layout.specs.declared.Layout.{Layout}
 use Rattle.layout.specs.Actions.{actionElementsOf}
-use Rattle.layout.specs.Labels.{analogLabels, Formed}
-use Rattle.layout.specs.LabelLaws.{set-elements-formed}
+use Rattle.layout.specs.Labels.{analogLabels, Formed, OfMode}
+use Rattle.layout.specs.LabelLaws.{set-elements-formed, mode-faces, mode-counts}
 use Rattle.layout.specs.ActionLaws.{face-count}
 use Rattle.search.specs.Search.{placeGameInAspectOf}
 use Rattle.toolbar.specs.Toolbar.{anchorToolbarOf}
 use Rattle.arranged.specs.Found.{Given}
 use Rattle.arranged.specs.ArrangedLabels.{placed-formed}
-use Rattle.band.specs.BandLabels.{bandLabels, bandSticks, band-faces, band-counts, with-inputs-formed}
+use Rattle.band.specs.BandLabels.{with-inputs-formed}
 use Rattle.defaults.specs.Defaults.{analogDefaultOf}
 use Rattle.defaults.specs.DefaultLabels.{analog-formed}
 use Rattle.cutouts.specs.Cutouts.{withAreaOf, avoidCutoutsOf}
@@ -41,7 +41,7 @@ module _ (w h rail face : Float) where
       (g .0, (g .1 .0, refl))
 
   module _ (picture : Rect) (cutouts : List Rect) where
-    pub anchored-formed : (psp : Bool) → Formed (bandLabels true psp) (bandSticks true psp) (anchoredRailsOf w h picture cutouts psp rail face)
+    pub anchored-formed : (psp : Bool) → OfMode true psp (anchoredRailsOf w h picture cutouts psp rail face)
     unfolding anchoredRailsOf anchorToolbarOf
     anchored-formed true = with-inputs-formed true true (cameraRailedOf w h rail face) railed-formed
     anchored-formed false = railed-formed
@@ -51,27 +51,27 @@ module _ (w h rail face : Float) where
       anchored = anchoredRailsOf w h picture cutouts psp rail face
 
       pub anchored-faces : length (actionElementsOf anchored) ≡ 4
-      anchored-faces = face-count anchored (bandLabels true psp) (anchored-formed psp .0 .0) ∙ band-faces true psp
+      anchored-faces = face-count anchored _ (anchored-formed psp .0 .0) ∙ mode-faces true psp
 
       -- the arrays hold what is counted
       pub anchored-holds : (anchored .count ≤ length (anchored .controls)) × (anchored .stickcount ≤ length (anchored .sticks))
       anchored-holds =
           let f = anchored-formed psp in
-          let n = band-counts true psp anchored (f .0) in
+          let n = mode-counts true psp anchored (f .0) in
           let c = n .0 in
           let s = n .1 in
           let cs = f .1 .0 in
           let ss = f .1 .1 in
           (omega arith, omega arith)
 
-      pub cleared-formed : Formed (bandLabels true psp) (bandSticks true psp) (avoidCutoutsOf anchored w h cutouts)
-      cleared-formed = let n = band-counts true psp anchored (anchored-formed psp .0) in avoid-formed (bandLabels true psp) (bandSticks true psp) w h anchored (n .0) (n .1) cutouts (anchored-formed psp)
+      pub cleared-formed : OfMode true psp (avoidCutoutsOf anchored w h cutouts)
+      cleared-formed = let n = mode-counts true psp anchored (anchored-formed psp .0) in avoid-formed _ _ w h anchored (n .0) (n .1) cutouts (anchored-formed psp)
 
       pub cleared-counts : (avoidCutoutsOf anchored w h cutouts .count ≤ 12) × (avoidCutoutsOf anchored w h cutouts .stickcount ≤ 2)
-      cleared-counts = band-counts true psp (avoidCutoutsOf anchored w h cutouts) (cleared-formed .0)
+      cleared-counts = mode-counts true psp (avoidCutoutsOf anchored w h cutouts) (cleared-formed .0)
 
 module _ (w h : Float) (picture : Rect) (cutouts : List Rect) (psp : Bool) where
-  pub camera-rails-formed : Given (Formed (bandLabels true psp) (bandSticks true psp)) (analogCameraRailsOf w h picture cutouts psp)
+  pub camera-rails-formed : Given (OfMode true psp) (analogCameraRailsOf w h picture cutouts psp)
   unfolding placeGameInAspectOf
   camera-rails-formed =
-      camera-case w h picture cutouts psp (Formed (bandLabels true psp) (bandSticks true psp)) (λ r f. cleared-formed w h (cameraRail w h picture cutouts psp) (cameraFace w h picture cutouts psp) picture cutouts psp)
+      camera-case w h picture cutouts psp (OfMode true psp) (λ r f. cleared-formed w h (cameraRail w h picture cutouts psp) (cameraFace w h picture cutouts psp) picture cutouts psp)

@@ -12,23 +12,20 @@ use Rattle.float.specs.Float.{k0, k1}
 use Rattle.geometry.specs.declared.Rect.{Rect}
 use Rattle.layout.specs.declared.Layout.{Layout}
 use Rattle.layout.specs.Actions.{actionElementsOf}
-use Rattle.layout.specs.Labels.{Formed}
+use Rattle.layout.specs.Labels.{OfMode}
+use Rattle.layout.specs.LabelLaws.{mode-faces, mode-counts}
 use Rattle.layout.specs.ActionLaws.{face-count}
 use Rattle.search.specs.declared.Offset.{Offset}
 use Rattle.search.specs.Search.{centred, placeGameInAspectOf}
 use Rattle.toolbar.specs.Toolbar.{anchorToolbarOf, reusableTopOf}
 use Rattle.band.specs.Band.{aspectOf}
-use Rattle.band.specs.BandLabels.{bandLabels, bandSticks, band-faces, band-counts, band-formed}
+use Rattle.band.specs.BandLabels.{band-formed}
 use Rattle.defaults.specs.DefaultLabels.{default-formed, analog-formed, psp-formed}
 use Rattle.cutouts.specs.Cutouts.{avoidCutoutsOf}
 use Rattle.camera_rails.specs.CameraLabels.{avoid-formed, camera-rails-formed}
 use Rattle.picture.specs.PictureLabels.{controls-formed}
 use Rattle.chosen.specs.Chosen.{startOf, largestOf, aroundOf, bandOrRailsOf, firstOf, arrangementOf}
 use Rattle.chosen.specs.ChosenCases.{found-case, band-or-rails-case}
-
--- a layout of a mode: its labels, its sticks, and arrays of 12 and 2
-abbrev pub OfMode : Bool → Bool → Layout → Type 0
-OfMode analog psp l = Formed (bandLabels analog psp) (bandSticks analog psp) l
 
 -- what is asked of a layout by the steps
 pub record Few (l : Layout) : Type 0 where
@@ -38,8 +35,8 @@ pub record Few (l : Layout) : Type 0 where
 
 pub few : (analog psp : Bool) (l : Layout) → OfMode analog psp l → Few l
 few analog psp l f =
-    let n = band-counts analog psp l (f .0) in
-    let k : length (actionElementsOf l) ≡ 4 = face-count l _ (f .0 .0) ∙ band-faces analog psp in
+    let n = mode-counts analog psp l (f .0) in
+    let k : length (actionElementsOf l) ≡ 4 = face-count l _ (f .0 .0) ∙ mode-faces analog psp in
     record { count = n .0; stickcount = n .1; faces = omega arith }
 
 module _ (w h : Float) (cutouts : List Rect) (picture : Rect) where
@@ -60,7 +57,7 @@ module _ (analog psp : Bool) (l : Layout) (f : OfMode analog psp l) where
   place-mode area overlap scale offset aspect = f
 
   pub avoid-mode : (w h : Float) (cutouts : List Rect) → OfMode analog psp (avoidCutoutsOf l w h cutouts)
-  avoid-mode w h cutouts = let n = few analog psp l f in avoid-formed (bandLabels analog psp) (bandSticks analog psp) w h l (n .count) (n .stickcount) cutouts f
+  avoid-mode w h cutouts = let n = few analog psp l f in avoid-formed _ _ w h l (n .count) (n .stickcount) cutouts f
 
 module _ (w h : Float) (area : Rect) (cutouts : List Rect) where
   band-or-rails-mode : (analog psp : Bool) (l : Layout) → OfMode analog psp l → OfMode analog psp (bandOrRailsOf l w h area cutouts analog psp)

@@ -11,6 +11,7 @@ use Rattle.prelude.specs.Each.{Each}
 use Rattle.float.specs.Float.{k1}
 use Rattle.geometry.specs.declared.Rect.{Rect}
 use Rattle.layout.specs.declared.Layout.{Layout}
+use Rattle.layout.specs.Labels.{OfMode}
 use Rattle.numerics.specs.Rects.{Element, Area}
 use Rattle.numerics.specs.Range.{In, at}
 use Rattle.numerics.specs.Ranges.{in-more, area-side}
@@ -29,7 +30,7 @@ use Rattle.camera_rails.specs.CameraRanges.{camera-bounded, camera-in}
 use Rattle.picture.specs.PictureRanges.{controls-in}
 use Rattle.chosen.specs.Chosen.{startOf, aroundOf, bandOrRailsOf, firstOf, areaOf, arrangementOf}
 use Rattle.chosen.specs.ChosenCases.{found-case, band-or-rails-case}
-use Rattle.chosen.specs.ChosenLabels.{OfMode, few}
+use Rattle.chosen.specs.ChosenLabels.{few}
 use Rattle.chosen.specs.MaximumRanges.{largest-in, below-toolbar-in}
 
 -- a layout's arrays hold what is counted

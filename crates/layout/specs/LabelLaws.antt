@@ -1,5 +1,6 @@
--- Changes of a layout and what they leave of its labels, counts and arrays: its controls changed in place, new rectangles for its elements, the inputs of a psp.
-use mathlib.Core.Path.{_≡_, ap, sym, _∙_}
+-- Changes of a layout and what they leave of its labels, counts and arrays: its controls changed in place, new rectangles for its elements, the inputs of a psp. Faces and counts of each mode.
+use mathlib.Core.Path.{_≡_, refl, ap, sym, _∙_}
+use mathlib.Core.Bool.{Bool, true, false}
 use mathlib.Core.List.{List, map, map-map, zipWith}
 use Prim.Native.Nat.{ℕ, _+_, _≤_}
 use native.Mathlib.Omega.{arith}
@@ -11,9 +12,9 @@ use Rattle.geometry.specs.declared.Rect.{Rect}
 use Rattle.layout.specs.declared.Control.{Control}
 use Rattle.layout.specs.declared.Label.{Label}
 use Rattle.layout.specs.declared.Layout.{Layout}
-use Rattle.layout.specs.Label.{onPspOf}
+use Rattle.layout.specs.Label.{isFaceOf, onPspOf}
 use Rattle.layout.specs.Layout.{withBounds, withControls, controlList, elementCountOf, elementsOf}
-use Rattle.layout.specs.Labels.{labelsOf, pspLabels, Formed}
+use Rattle.layout.specs.Labels.{labelsOf, pspLabels, Inputs, Formed, modeLabels, modeSticks}
 use Rattle.layout.specs.Elements.{setElementsOf}
 use Rattle.layout.specs.ElementLaws.{length-elements}
 use Rattle.layout.specs.SetElementLaws.{set-elements-kept}
@@ -59,3 +60,16 @@ module _ (labels : List Label) (sticks : ℕ) (l : Layout) where
   -- one that is equal to a layout so formed, with its counts
   pub with-counts : {r : Layout} → Formed labels sticks l → r ≡ l → (r ≡ l) × (r .count ≡ length labels) × (r .stickcount ≡ sticks)
   with-counts f e = (e, ap (λ (m : Layout). m .count) e ∙ f .0 .1, ap (λ (m : Layout). m .stickcount) e ∙ f .0 .2)
+
+-- four faces in each mode
+pub mode-faces : (analog psp : Bool) → length (retain isFaceOf (modeLabels analog psp)) ≡ 4
+unfolding isFaceOf
+mode-faces analog true = refl
+mode-faces true false = refl
+mode-faces false false = refl
+
+pub mode-counts : (analog psp : Bool) (l : Layout) → Inputs (modeLabels analog psp) (modeSticks analog psp) l → (l .count ≤ 12) × (l .stickcount ≤ 2)
+mode-counts true true l i = let n = i .1 in let s = i .2 in (omega arith, omega arith)
+mode-counts true false l i = let n = i .1 in let s = i .2 in (omega arith, omega arith)
+mode-counts false true l i = let n = i .1 in let s = i .2 in (omega arith, omega arith)
+mode-counts false false l i = let n = i .1 in let s = i .2 in (omega arith, omega arith)

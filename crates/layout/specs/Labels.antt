@@ -1,5 +1,6 @@
 -- The labels of a layout's controls, its counts and the lengths of its arrays. Definitions only.
 use mathlib.Core.Path.{_≡_}
+use mathlib.Core.Bool.{Bool, cond}
 use mathlib.Core.List.{List, [], _∷_, _++_, map}
 use Prim.Native.Nat.{ℕ}
 use lib.ListN.{length}
@@ -33,3 +34,13 @@ Arrays l = (length (l .controls) ≡ 12) × (length (l .sticks) ≡ 2)
 -- these labels, so many sticks, and the arrays
 abbrev pub Formed : List Label → ℕ → Layout → Type 0
 Formed labels sticks l = Inputs labels sticks l × Arrays l
+
+-- what a mode has: controls with sticks or without, and of those what a psp has
+abbrev pub modeLabels : Bool → Bool → List Label
+modeLabels analog psp = cond psp pspLabels (cond analog analogLabels standardLabels)
+
+abbrev pub modeSticks : Bool → Bool → ℕ
+modeSticks analog psp = cond psp (cond analog 1 0) (cond analog 2 0)
+
+abbrev pub OfMode : Bool → Bool → Layout → Type 0
+OfMode analog psp l = Formed (modeLabels analog psp) (modeSticks analog psp) l

@@ -11,18 +11,18 @@ use Rattle.prelude.specs.Answer.{Answer, accepted, refused, must}
 use Rattle.prelude.specs.AnswerLaws.{never, refused-then}
 use Rattle.prelude.specs.Booleans.{either}
 use Rattle.layout.specs.declared.Layout.{Layout}
+use Rattle.layout.specs.Labels.{modeLabels, modeSticks, OfMode}
 use Rattle.limits.specs.SettingsRanges.{accepted-in-range}
 use Rattle.settings.specs.declared.Preset.{Preset}
 use Rattle.settings.specs.declared.Settings.{Settings}
 use Rattle.settings.specs.Settings.{topsInLimitsOf}
-use Rattle.band.specs.BandLabels.{bandLabels, bandSticks}
 use Rattle.reader.specs.Accepted.{accepted-order, refused-order, order-f32}
 use Rattle.reader.specs.Order.{readOrderOf}
 use Rattle.writer.specs.Bytes.{layoutBytes, roomFor, writeLayoutOf, outputOf}
 use Rattle.writer.specs.Length.{lengthFor, length-layout}
 use Rattle.written.specs.Written.{LayoutIsF32}
 use Rattle.written.specs.WidestWritten.{widest-written}
-use Rattle.chosen.specs.ChosenLabels.{OfMode, few}
+use Rattle.chosen.specs.ChosenLabels.{few}
 use Rattle.preset.specs.Preset.{hasSticks, settingsLayoutOf}
 use Rattle.preset.specs.PresetLabels.{settings-mode, settings-viewport-mode}
 use Rattle.preset.specs.PresetWidest.{settings-widest}
@@ -33,7 +33,7 @@ use Rattle.order.specs.Demands.{WidestWritten}
 abbrev pub bytesFor : Bool → Bool → ℕ
 bytesFor analog psp = cond psp 265 (cond analog 353 285)
 
-mode-bytes : (analog psp : Bool) → lengthFor (length (bandLabels (analog || psp) psp)) (bandSticks (analog || psp) psp) ≡ bytesFor analog psp
+mode-bytes : (analog psp : Bool) → lengthFor (length (modeLabels (analog || psp) psp)) (modeSticks (analog || psp) psp) ≡ bytesFor analog psp
 mode-bytes true true = refl
 mode-bytes false true = refl
 mode-bytes true false = refl

@@ -9,11 +9,10 @@ use Rattle.prelude.specs.Each.{_&_}
 use Rattle.geometry.specs.declared.Rect.{Rect}
 use Rattle.layout.specs.declared.Label.{Label}
 use Rattle.layout.specs.declared.Layout.{Layout}
-use Rattle.layout.specs.Labels.{Formed}
+use Rattle.layout.specs.Labels.{Formed, OfMode}
 use Rattle.arranged.specs.declared.Places.{Places}
 use Rattle.arranged.specs.Found.{Given}
 use Rattle.arranged.specs.ArrangedLabels.{placed-formed, arranged-formed}
-use Rattle.band.specs.BandLabels.{bandLabels, bandSticks}
 use Rattle.defaults.specs.DefaultLabels.{analog-formed, psp-formed}
 use Rattle.picture.specs.Picture.{arrangeOf, stackedOf, verticalOf, rowedOf, horizontalOf, fittedOf, baseOf, controlsOf}
 use Rattle.picture.specs.PictureCases.{vertical-case, horizontal-case, first-case}
@@ -38,12 +37,12 @@ module _ (labels : List Label) (sticks : ℕ) (base : Layout) (f : Formed labels
 
 module _ (w h : Float) where
   -- a psp has a stick
-  base-formed : (analog psp : Bool) → (T psp → T analog) → Formed (bandLabels analog psp) (bandSticks analog psp) (baseOf w h analog psp)
+  base-formed : (analog psp : Bool) → (T psp → T analog) → OfMode analog psp (baseOf w h analog psp)
   unfolding baseOf
   base-formed true true k = psp-formed w h
   base-formed true false k = analog-formed w h
   base-formed false true k = absurd (k tt)
   base-formed false false k = arranged-formed w h false
 
-  pub controls-formed : (game : Rect) (analog psp : Bool) (holes : List Rect) → (T psp → T analog) → Given (Formed (bandLabels analog psp) (bandSticks analog psp)) (controlsOf w h game analog psp holes)
-  controls-formed game analog psp holes k = fitted-formed (bandLabels analog psp) (bandSticks analog psp) (baseOf w h analog psp) (base-formed analog psp k) w h game analog psp holes
+  pub controls-formed : (game : Rect) (analog psp : Bool) (holes : List Rect) → (T psp → T analog) → Given (OfMode analog psp) (controlsOf w h game analog psp holes)
+  controls-formed game analog psp holes k = fitted-formed _ _ (baseOf w h analog psp) (base-formed analog psp k) w h game analog psp holes

@@ -8,6 +8,7 @@ use Rattle.float.specs.Float.{k0, k1}
 use Rattle.float.specs.MinMax.{maxOf}
 use Rattle.geometry.specs.declared.Rect.{Rect}
 use Rattle.layout.specs.declared.Layout.{Layout}
+use Rattle.layout.specs.Labels.{OfMode}
 use Rattle.layout.specs.LabelLaws.{set-elements-formed}
 use Rattle.layout.specs.Layout.{elementsOf}
 use Rattle.settings.specs.declared.Preset.{Preset}
@@ -17,16 +18,15 @@ use Rattle.saved.specs.Saved.{withSavedOf}
 use Rattle.saved.specs.SavedLaws.{length-restored}
 use Rattle.toolbar.specs.Toolbar.{anchorToolbarOf, reusableTopOf}
 use Rattle.band.specs.Band.{aspectOf}
-use Rattle.band.specs.BandLabels.{bandLabels, bandSticks}
 use Rattle.cutouts.specs.Cutouts.{avoidCutoutsOf}
 use Rattle.landscape.specs.LandscapeLaws.{landscape-formed}
-use Rattle.chosen.specs.ChosenLabels.{OfMode, Few, few, anchor-mode, place-mode, avoid-mode, arrangement-mode}
+use Rattle.chosen.specs.ChosenLabels.{Few, few, anchor-mode, place-mode, avoid-mode, arrangement-mode}
 use Rattle.preset.specs.PresetCases.{areaFor, arrangementFor, placedFor, laid-out-case}
 use Rattle.preset.specs.Preset.{settledOf, maximumOf, plainOf, hasSticks, laidOutOf, layoutInOf, viewportLayoutOf, settingsLayoutOf, settingsViewportOf}
 
 pub saved-mode : (analog psp : Bool) (l : Layout) → OfMode analog psp l → (w h : Float) (saved : List Rect) → OfMode analog psp (withSavedOf l w h saved)
 unfolding withSavedOf
-saved-mode analog psp l f w h saved = let n = few analog psp l f in either (OfMode analog psp) (isEmpty saved) f (set-elements-formed (bandLabels analog psp) (bandSticks analog psp) l (n .count) (n .stickcount) _ (length-restored w h saved (elementsOf l)) f)
+saved-mode analog psp l f w h saved = let n = few analog psp l f in either (OfMode analog psp) (isEmpty saved) f (set-elements-formed _ _ l (n .count) (n .stickcount) _ (length-restored w h saved (elementsOf l)) f)
 
 module _ (w h : Float) (cutouts : List Rect) (picture : Rect) where
   pub settled-mode : (analog psp : Bool) (l : Layout) → OfMode analog psp l → (saved : List Rect) → OfMode analog psp (settledOf l w h picture cutouts saved)
@@ -47,9 +47,7 @@ module _ (p : Preset) (w h : Float) (cutouts : List Rect) (picture : Rect) where
 
   pub laid-out-mode : OfMode (hasSticks p) (p .psp) (laidOutOf p w h cutouts picture)
   laid-out-mode =
-      let labels = bandLabels (hasSticks p) (p .psp) in
-      let sticks = bandSticks (hasSticks p) (p .psp) in
-      laid-out-case p w h cutouts picture (OfMode (hasSticks p) (p .psp)) placed-mode (λ t. landscape-formed labels sticks _ placed-mode w h (areaFor p w h cutouts picture) (aspectOf (p .psp)))
+      laid-out-case p w h cutouts picture (OfMode (hasSticks p) (p .psp)) placed-mode (λ t. landscape-formed _ _ _ placed-mode w h (areaFor p w h cutouts picture) (aspectOf (p .psp)))
 
 module _ (p : Preset) (w h : Float) (cutouts : List Rect) (picture : Rect) where
   pub layout-mode : OfMode (hasSticks p) (p .psp) (layoutInOf p w h cutouts picture)

@@ -10,6 +10,7 @@ use Rattle.prelude.specs.ListLaws.{not-empty}
 use Rattle.float.specs.Float.{k0}
 use Rattle.geometry.specs.declared.Rect.{Rect}
 use Rattle.layout.specs.declared.Layout.{Layout}
+use Rattle.layout.specs.Labels.{OfMode}
 use Rattle.layout.specs.Layout.{cutoutList}
 use Rattle.numerics.specs.Value.{Whole}
 use Rattle.numerics.specs.Rects.{Element, Area, OnScreen, Key, margin}
@@ -34,7 +35,7 @@ use Rattle.cutouts.specs.Cutouts.{avoidCutoutsOf}
 use Rattle.landscape.specs.LandscapeRanges.{landscape-bounded, landscape-game-in}
 use Rattle.chosen.specs.Chosen.{areaOf}
 use Rattle.chosen.specs.ChosenCases.{whole-area}
-use Rattle.chosen.specs.ChosenLabels.{OfMode, anchor-mode, first-mode}
+use Rattle.chosen.specs.ChosenLabels.{anchor-mode, first-mode}
 use Rattle.chosen.specs.MaximumRanges.{shape, lowered-game-in, below-toolbar-in}
 use Rattle.chosen.specs.ChosenRanges.{Holds, holds, wide, high, avoid-in, first-in, arrangement-bounded, arrangement-in}
 use Rattle.preset.specs.Preset.{settledOf, maximumOf, plainOf, hasSticks, rowAllowedOf, laidOutOf, layoutInOf, viewportLayoutOf, settingsLayoutOf}

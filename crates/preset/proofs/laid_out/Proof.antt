@@ -1,10 +1,11 @@
 use Rattle.layout.specs.declared.Layout.{Layout}
+use Rattle.layout.specs.Labels.{OfMode}
 use Rattle.layout.specs.Layout.{cutoutList}
 use Rattle.search.specs.Search.{placeGameInAspectOf}
 use Rattle.settings.specs.declared.Preset.{Preset}
 use Rattle.toolbar.specs.Toolbar.{anchorToolbarOf}
 use Rattle.chosen.proofs.Keys.{same-area}
-use Rattle.chosen.specs.ChosenLabels.{OfMode, few, avoid-mode, arrangement-mode}
+use Rattle.chosen.specs.ChosenLabels.{few, avoid-mode, arrangement-mode}
 use Rattle.preset.specs.PresetLabels.{saved-mode}
 use Rattle.preset.specs.Preset.{settledOf, hasSticks, laidOutOf}
 use borrow.Author.Needs.{needs}
