@@ -1,10 +1,8 @@
 -- Places in range: the faces about a centre, and a layout whose controls are put at such places.
-use mathlib.Core.Bool.{_&&_}
 use mathlib.Core.List.{List}
 use Prim.Native.Nat.{ℕ}
 use lib.Dec.{T, leb}
 use lib.Ieee.{Float}
-use lib.Ieee.Fits.{and-l, and-r}
 use Rattle.prelude.specs.Each.{Each, _&_}
 use Rattle.prelude.specs.EachLaws.{each-mapFirst}
 use Rattle.geometry.specs.declared.Rect.{Rect}
@@ -14,7 +12,7 @@ use Rattle.layout.specs.declared.Label.the-variants.{Tri, O, X, Sq, L1, L2, R2,
 use Rattle.layout.specs.declared.Layout.{Layout}
 use Rattle.numerics.specs.Rects.{OnScreen, margin}
 use Rattle.numerics.specs.Range.{In, at, minus}
-use Rattle.numerics.specs.Ranges.{in-more, add-in, sub-in, div-in, placed-in}
+use Rattle.numerics.specs.Ranges.{in-more, add-in, sub-in, div-in, inside, in-wide, placed-in}
 use Rattle.numerics.specs.Literals.{lit, i4√2, f1√2, f2}
 use Rattle.search.specs.Bounded.{Every}
 use Rattle.search.proofs.Changes.{controls-in}
@@ -26,8 +24,8 @@ use Rattle.arranged.specs.Places.{placeFacesOf, wellFacesOf, atOf, contr
 abbrev pub Coordinate : Float → Type 0
 Coordinate x = In x (minus 512) (at 8448)
 
-pub coordinate : {x : Float} {a b : ℕ} → In x a b → T (leb (minus 512) a && leb b (at 8448)) → Coordinate x
-coordinate {a = a} {b = b} i t = in-more (minus 512) (at 8448) i (and-l (leb (minus 512) a) (leb b (at 8448)) t) (and-r (leb (minus 512) a) (leb b (at 8448)) t)
+pub coordinate : {x : Float} {a b : ℕ} → In x a b → T (inside (minus 512) (at 8448) a b) → Coordinate x
+coordinate i t = in-wide i t
 
 -- ---- faces
 pub record FacesIn (f : Faces) : Type 0 where

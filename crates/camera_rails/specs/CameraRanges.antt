@@ -15,7 +15,7 @@ use Rattle.numerics.specs.Value.{P, N, E}
 use Rattle.numerics.specs.Rects.{Element, Area}
 use Rattle.numerics.specs.Range.{In, at, minus}
 use Rattle.numerics.specs.Bounds.{sub-law, div-law}
-use Rattle.numerics.specs.Ranges.{in-reach, in-more, most-in, area-side, add-in, sub-in, mul-in, div-in, min-in, cond-in, not-below, placed-in}
+use Rattle.numerics.specs.Ranges.{in-reach, in-more, most-in, from-zero, area-side, add-in, sub-in, mul-in, div-in, min-in, cond-in, not-below, placed-in}
 use Rattle.numerics.specs.Literals.{lit, f2, f3, f4, psp-wide}
 use Rattle.numerics.specs.Shrunk.{signed-in, placed-shrunk}
 use Rattle.search.specs.Bounded.{Bounded, Shrunk}
@@ -103,12 +103,6 @@ camera-places-in W R face =
 
 -- ---- the layout
 module _ {w h : Float} (W : In w (at 1) (at 8192)) (H : In h (at 1) (at 8192)) where
-  wide : In w (at 0) (at 8192)
-  wide = in-more (at 0) (at 8192) W tt tt
-
-  high : In h (at 0) (at 8192)
-  high = in-more (at 0) (at 8192) H tt tt
-
   railed-in : {rail face : Float} → RailIn w rail → In face (at 122) (at 184) → Shrunk (cameraRailedOf w h rail face)
   unfolding cameraRailedOf
   railed-in R face =
@@ -122,13 +116,13 @@ module _ {w h : Float} (W : In w (at 1) (at 8192)) (H : In h (at 1) (at 8192)) w
     anchored-rails-in cutouts O r f =
         let R = rail-in psp W A r in
         let L = railed-in R (face-in w cutouts H (R .width) O f) in
-        anchored-shrunk (anchored-in _ cutouts wide high (reusable-in A) O (either Shrunk psp (psp-in L) L))
+        anchored-shrunk (anchored-in _ cutouts (from-zero W) (from-zero H) (reusable-in A) O (either Shrunk psp (psp-in L) L))
 
     pub camera-bounded : (cutouts : List Rect) → Each Element cutouts → Given Bounded (analogCameraRailsOf w h picture cutouts psp)
     camera-bounded cutouts O =
         let holds = anchored-holds w h (cameraRail w h picture cutouts psp) (cameraFace w h picture cutouts psp) picture cutouts psp in
         camera-case w h picture cutouts psp Bounded
-        (λ r f. place-bounded (avoid-bounded wide high (cameraLayout w h picture cutouts psp) cutouts (holds .0) (holds .1) (shrunk-bounded (anchored-rails-in cutouts O r f))) picture false k1 centred (aspectOf psp))
+        (λ r f. place-bounded (avoid-bounded (from-zero W) (from-zero H) (cameraLayout w h picture cutouts psp) cutouts (holds .0) (holds .1) (shrunk-bounded (anchored-rails-in cutouts O r f))) picture false k1 centred (aspectOf psp))
 
     -- with no cutouts no element moves
     pub camera-in : Given Shrunk (analogCameraRailsOf w h picture [] psp)

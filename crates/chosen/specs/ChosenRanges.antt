@@ -14,7 +14,7 @@ use Rattle.layout.specs.declared.Layout.{Layout}
 use Rattle.layout.specs.Labels.{OfMode}
 use Rattle.numerics.specs.Rects.{Element, Area}
 use Rattle.numerics.specs.Range.{In, at}
-use Rattle.numerics.specs.Ranges.{in-more, area-side}
+use Rattle.numerics.specs.Ranges.{from-zero, area-side}
 use Rattle.search.specs.Bounded.{Bounded, Shrunk}
 use Rattle.search.proofs.Changes.{shrunk-bounded, arranged-shrunk, anchored-shrunk}
 use Rattle.search.proofs.Layouts.{place-bounded}
@@ -48,14 +48,8 @@ holds analog psp l f =
     record { controls = omega arith; sticks = omega arith; stick = omega arith }
 
 module _ {w h : Float} (W : In w (at 1) (at 8192)) (H : In h (at 1) (at 8192)) where
-  pub wide : In w (at 0) (at 8192)
-  wide = in-more (at 0) (at 8192) W tt tt
-
-  pub high : In h (at 0) (at 8192)
-  high = in-more (at 0) (at 8192) H tt tt
-
   pub avoid-in : (cutouts : List Rect) (l : Layout) → Holds l → Bounded l → Bounded (avoidCutoutsOf l w h cutouts)
-  avoid-in cutouts l K L = avoid-bounded wide high l cutouts (K .controls) (K .sticks) L
+  avoid-in cutouts l K L = avoid-bounded (from-zero W) (from-zero H) l cutouts (K .controls) (K .sticks) L
 
   module _ {picture : Rect} (A : Area picture) where
     module _ (cutouts : List Rect) (O : Each Element cutouts) where
@@ -63,18 +57,18 @@ module _ {w h : Float} (W : In w (at 1) (at 8192)) (H : In h (at 1) (at 8192)) w
       unfolding startOf
       start-in true analog = psp-default-in W H
       start-in false true = analog-in W H
-      start-in false false = arranged-shrunk (default-in cutouts wide high O A (area-side (A .h) (A .h0)))
+      start-in false false = arranged-shrunk (default-in cutouts (from-zero W) (from-zero H) O A (area-side (A .h) (A .h0)))
 
       pub first-in : (psp analog maximum : Bool) → Shrunk (firstOf psp analog maximum w h cutouts picture)
       unfolding firstOf
-      first-in psp analog maximum = let S = start-in psp analog in either Shrunk maximum (anchored-shrunk (anchored-in _ cutouts wide high (reusable-in A) O S)) S
+      first-in psp analog maximum = let S = start-in psp analog in either Shrunk maximum (anchored-shrunk (anchored-in _ cutouts (from-zero W) (from-zero H) (reusable-in A) O S)) S
 
       module _ (analog psp : Bool) (first : Layout) (F : Shrunk first) (f : OfMode analog psp first) where
         band-or-rails-bounded : Bounded (bandOrRailsOf first w h picture cutouts analog psp)
         band-or-rails-bounded =
             band-or-rails-case w h picture cutouts psp Bounded (λ m. Shrunk m × OfMode analog psp m) (λ m d. shrunk-bounded (d .0))
             (λ m d. place-bounded (avoid-in cutouts m (holds analog psp m (d .1)) (shrunk-bounded (d .0))) picture false k1 centred (aspectOf psp)) analog (F, f)
-            (λ m e. (arranged-shrunk (band-in analog psp wide high A m e), band-formed w h analog psp picture m e)) (λ t. camera-bounded W H A psp cutouts O)
+            (λ m e. (arranged-shrunk (band-in analog psp (from-zero W) (from-zero H) A m e), band-formed w h analog psp picture m e)) (λ t. camera-bounded W H A psp cutouts O)
 
         pub arrangement-bounded : (maximum plain : Bool) → Bounded (arrangementOf maximum plain first w h (areaOf maximum first picture) cutouts analog psp)
         unfolding arrangementOf areaOf aroundOf
@@ -87,7 +81,7 @@ module _ {w h : Float} (W : In w (at 1) (at 8192)) (H : In h (at 1) (at 8192)) w
     band-or-rails-in : (analog psp : Bool) {first : Layout} → Shrunk first → Shrunk (bandOrRailsOf first w h picture [] analog psp)
     unfolding avoidCutoutsOf
     band-or-rails-in analog psp F =
-        band-or-rails-case w h picture [] psp Shrunk Shrunk (λ m d. d) (λ m d. place-bounded d picture false k1 centred (aspectOf psp)) analog F (λ m e. arranged-shrunk (band-in analog psp wide high A m e)) (λ t. camera-in W H A psp)
+        band-or-rails-case w h picture [] psp Shrunk Shrunk (λ m d. d) (λ m d. place-bounded d picture false k1 centred (aspectOf psp)) analog F (λ m e. arranged-shrunk (band-in analog psp (from-zero W) (from-zero H) A m e)) (λ t. camera-in W H A psp)
 
     pub arrangement-in : (analog psp maximum plain : Bool) {first : Layout} → T (not maximum) → Shrunk first → Shrunk (arrangementOf maximum plain first w h (areaOf maximum first picture) [] analog psp)
     unfolding arrangementOf areaOf

@@ -15,7 +15,7 @@ use Rattle.layout.specs.declared.Layout.{Layout}
 use Rattle.numerics.specs.Rects.{Element, maxArea, Area, OnScreen, Key, margin}
 use Rattle.numerics.specs.Range.{In, at}
 use Rattle.numerics.specs.Bounds.{most-more, max-law, zero-most}
-use Rattle.numerics.specs.Ranges.{in-more, add-in, sub-in, div-in, max-in, above-zero, clamp-in, cond-in, range-most, placed-in}
+use Rattle.numerics.specs.Ranges.{in-more, add-in, sub-in, div-in, max-in, above-zero, clamp-in, cond-in, range-most, from-zero, placed-in}
 use Rattle.numerics.specs.Literals.{lit, f2}
 use Rattle.numerics.specs.Shrunk.{Shrinks, shrunkMargin, shrunk-placed, placed-shrunk}
 use Rattle.search.specs.Bounded.{Arranged, Shrunk}
@@ -124,8 +124,9 @@ unfolding analogFullOf
 full-in W H =
     let B = halves-in W H (sizes-in W H) in
     let places = half-places-in B in
-    let high = in-more (at 0) (at 8192) H tt tt in
-    let standard = default-in [] (in-more (at 0) (at 8192) W tt tt) high tt (screen-area (in-more (at 1) (at 8192) W tt tt) (in-more (at 1) (at 8192) H tt tt)) high in
+    let wide = in-more (at 1) (at 8192) W tt tt in
+    let high = in-more (at 1) (at 8192) H tt tt in
+    let standard = default-in [] (from-zero wide) (from-zero high) tt (screen-area wide high) (from-zero high) in
     let digital = dpad-in (controls-placed (λ r P. P) standard places) (placed-in (B .digitalx) (B .facey) (B .face) (B .face) tt) in
     with-analog-in digital (places .l3) (places .r3) (placed-in (lit 16) (B .mainy) (B .stick) (B .stick) tt) (placed-in (sub-in (sub-in (B .w) (lit 16) tt) (B .stick) tt) (B .mainy) (B .stick) (B .stick) tt)
 
@@ -148,15 +149,13 @@ module _ {w h : Float} (W : In w (at 1) (at 8192)) (H : In h (at 1) (at 8192)) w
   analog-in =
       let full = size (maxOf w k360) (maxOf h k360) in
       let layout = analogFullOf (full .w) (full .h) in
-      let wide = in-more (at 0) (at 8192) W tt tt in
-      let high = in-more (at 0) (at 8192) H tt tt in
       let f = full-formed (full .w) (full .h) in
       let c = f .0 .1 in
       let s = f .0 .2 in
       let cs = f .1 .0 in
       let ss = f .1 .1 in
       let shrunk = shrunk-layout-in layout {requested = size w h} {full = full} (shrinks W) (shrinks H) (omega arith) (omega arith) (full-in (shrinks W .full) (shrinks H .full)) in
-      band-case Shrunk w h true (newOf k0 k0 w h) (anchored-shrunk (finished-in (shrunkOf layout (size w h) full) wide high shrunk)) (λ band e. arranged-shrunk (band-in true false wide high (screen-area W H) band e))
+      band-case Shrunk w h true (newOf k0 k0 w h) (anchored-shrunk (finished-in (shrunkOf layout (size w h) full) (from-zero W) (from-zero H) shrunk)) (λ band e. arranged-shrunk (band-in true false (from-zero W) (from-zero H) (screen-area W H) band e))
 
   pub psp-default-in : Shrunk (pspOf w h)
   unfolding pspOf

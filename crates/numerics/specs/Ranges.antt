@@ -261,7 +261,10 @@ neg-in {x} {a} {b} i t =
     let l = times-sub eps (limit + limit) a (leb→le a (limit + limit) (and-l (leb a (limit + limit)) (leb b (limit + limit)) t)) in
     record { whole = neg-whole x (i .whole); lo = omega (arith, i .hi, v, k); hi = omega (arith, i .lo, v, l) }
 
--- ---- a side of a picture's area
+-- ---- a side of a screen, and of a picture's area
+pub from-zero : {x : Float} → In x (at 1) (at 8192) → In x (at 0) (at 8192)
+from-zero i = in-more (at 0) (at 8192) i tt tt
+
 pub area-side : {x : Float} → AtMost x maxArea → T (le k0 x) → In x (at 0) (at 8192)
 area-side {x} m t = raise (most-in m tt) (most-in zero-most tt) (le-law 1 k0 x (zero-most .whole) (m .whole) t)
 
@@ -275,7 +278,7 @@ element-in {a = a} {b = b} {a' = a'} {b' = b'} {c = c} {d = d} {c' = c'} {d' = d
 abbrev pub inside : ℕ → ℕ → ℕ → ℕ → Bool
 inside a' b' a b = leb a' a && leb b b'
 
-in-wide : {x : Float} {a b a' b' : ℕ} → In x a b → T (inside a' b' a b) → In x a' b'
+pub in-wide : {x : Float} {a b a' b' : ℕ} → In x a b → T (inside a' b' a b) → In x a' b'
 in-wide {a = a} {b = b} {a' = a'} {b' = b'} i t = in-more a' b' i (and-l (leb a' a) (leb b b') t) (and-r (leb a' a) (leb b b') t)
 
 -- the same for an element of an arrangement

@@ -16,7 +16,7 @@ use Rattle.numerics.specs.Value.{AtMost}
 use Rattle.numerics.specs.Rects.{maxCorner, Element}
 use Rattle.numerics.specs.Range.{In, at, minus}
 use Rattle.numerics.specs.Bounds.{add-most}
-use Rattle.numerics.specs.Ranges.{in-more, add-in, sub-in, times-in, div-in, min-in, max-in, clamp-in, clamp-whole-in, cond-in, neg-in, not-below, range-most, element-in}
+use Rattle.numerics.specs.Ranges.{in-more, add-in, sub-in, times-in, div-in, min-in, max-in, clamp-in, clamp-whole-in, cond-in, neg-in, not-below, range-most, from-zero, element-in}
 use Rattle.numerics.specs.Literals.{lit, i4√2, f1√2, f2, f3, f4}
 use Rattle.search.specs.Bounded.{Bounded, BoundedGame}
 use Rattle.search.proofs.Changes.{shrunk-bounded, arranged-bounded, dpad-in, sticks-in}
@@ -242,7 +242,7 @@ module _ {w h : Float} (W : In w (at 1) (at 8192)) (H : In h (at 1) (at 8192)) w
   unfolding baseOf
   base-in analog true = shrunk-bounded (psp-default-in W H)
   base-in true false = shrunk-bounded (analog-in W H)
-  base-in false false = arranged-bounded (arranged-in false (in-more (at 0) (at 8192) W tt tt) (in-more (at 0) (at 8192) H tt tt))
+  base-in false false = arranged-bounded (arranged-in false (from-zero W) (from-zero H))
 
   pub controls-in : {game : Rect} (analog psp : Bool) (holes : List Rect) → BoundedGame game → Given Bounded (controlsOf w h game analog psp holes)
   controls-in analog psp holes G = fitted-in analog psp holes (base-in analog psp) G

@@ -15,7 +15,7 @@ use Rattle.layout.specs.Layout.{cutoutList}
 use Rattle.numerics.specs.Value.{Whole}
 use Rattle.numerics.specs.Rects.{Element, Area, OnScreen, Key, margin}
 use Rattle.numerics.specs.Range.{In, at, minus}
-use Rattle.numerics.specs.Ranges.{max-in, placed-element}
+use Rattle.numerics.specs.Ranges.{max-in, from-zero, placed-element}
 use Rattle.numerics.specs.Literals.{lit}
 use Rattle.numerics.specs.Shrunk.{shrunkMargin}
 use Rattle.search.specs.Bounded.{Every, Bounded, Shrunk, BoundedGame}
@@ -37,7 +37,7 @@ use Rattle.chosen.specs.Chosen.{areaOf}
 use Rattle.chosen.specs.ChosenCases.{whole-area}
 use Rattle.chosen.specs.ChosenLabels.{anchor-mode, first-mode}
 use Rattle.chosen.specs.MaximumRanges.{shape, lowered-game-in, below-toolbar-in}
-use Rattle.chosen.specs.ChosenRanges.{Holds, holds, wide, high, avoid-in, first-in, arrangement-bounded, arrangement-in}
+use Rattle.chosen.specs.ChosenRanges.{Holds, holds, avoid-in, first-in, arrangement-bounded, arrangement-in}
 use Rattle.preset.specs.Preset.{settledOf, maximumOf, plainOf, hasSticks, rowAllowedOf, laidOutOf, layoutInOf, viewportLayoutOf, settingsLayoutOf}
 use Rattle.preset.specs.PresetCases.{firstFor, settledFor, placedFor, laid-out-case, RowAllowed, row-allowed}
 use Rattle.preset.specs.PresetLabels.{saved-mode, arranged-mode, placed-mode, layout-mode}
@@ -53,12 +53,12 @@ module _ {w h : Float} (W : In w (at 1) (at 8192)) (H : In h (at 1) (at 8192)) {
       let restored = withSavedOf l w h saved in
       let J = holds analog psp l f in
       let K = holds analog psp restored (saved-mode analog psp l f w h saved) in
-      keys-in (anchored-in _ cutouts (wide W H) (high W H) (reusable-in A) O (avoid-in W H cutouts restored K (saved-bounded W H l (J .controls) (J .sticks) L saved)))
+      keys-in (anchored-in _ cutouts (from-zero W) (from-zero H) (reusable-in A) O (avoid-in W H cutouts restored K (saved-bounded W H l (J .controls) (J .sticks) L saved)))
 
   -- ---- with no cutouts and nothing saved no element moves
   settled-in : (saved : List Rect) → T (isEmpty saved) → {l : Layout} → Shrunk l → Every (OnScreen shrunkMargin) Element (settledOf l w h picture [] saved)
   unfolding settledOf withSavedOf avoidCutoutsOf
-  settled-in [] t L = keys-in (anchored-in _ [] (wide W H) (high W H) (reusable-in A) tt L)
+  settled-in [] t L = keys-in (anchored-in _ [] (from-zero W) (from-zero H) (reusable-in A) tt L)
   settled-in (r ∷ rs) t L = absurd (not-empty r rs t)
 
   pub row-in : (p : Preset) (cutouts : List Rect) → Each Element cutouts → T (rowAllowedOf p cutouts) → Every (OnScreen shrunkMargin) Element (placedFor p w h cutouts picture)
