@@ -89,7 +89,7 @@ pub largest-in : (psp : Bool) {b : Rect} → Lowered b → BoundedGame (largestO
 unfolding largestOf
 largest-in psp B =
     let g = clear-in psp (B .w) (B .h) in
-    record { x = range-most (256 * 22561) (add-in (B .x) (g .x) tt) tt; y = range-most (256 * 22561) (add-in (B .y) (g .y) tt) tt; w = range-most (256 * 8193) (g .w) tt; h = range-most (256 * 8193) (g .h) tt }
+    record { x = range-most _ (add-in (B .x) (g .x) tt) tt; y = range-most _ (add-in (B .y) (g .y) tt) tt; w = range-most _ (g .w) tt; h = range-most _ (g .h) tt }
 
 pub shape : (psp : Bool) → Shape (aspectOf psp) (cond psp 480 4) (cond psp 272 3)
 shape true = psp-shape
@@ -108,10 +108,10 @@ lowered-game-in psp {b} B factor fw offset ox oy =
     let down = product-most 1581070 (product-most 1581069 high rest tt tt) (in-reach (clamp-whole-in (offset .y) oy (lit 0) (lit 1))) tt tt in
     rw (game-is (shape psp) [] b factor offset)
     (record {
-      x = most-more (add-most (in-reach (add-in (B .x) (g .x) tt)) across tt) (256 * 22561) tt;
-      y = most-more (add-most (in-reach (add-in (B .y) (g .y) tt)) down tt) (256 * 22561) tt;
-      w = most-more (product-most most wide (in-reach s) tt tt) (256 * 8193) tt;
-      h = most-more (product-most most high (in-reach s) tt tt) (256 * 8193) tt;
+      x = most-more (add-most (in-reach (add-in (B .x) (g .x) tt)) across tt) _ tt;
+      y = most-more (add-most (in-reach (add-in (B .y) (g .y) tt)) down tt) _ tt;
+      w = most-more (product-most most wide (in-reach s) tt tt) _ tt;
+      h = most-more (product-most most high (in-reach s) tt tt) _ tt;
     })
 
 -- ---- the area below the toolbar

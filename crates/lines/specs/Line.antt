@@ -9,6 +9,7 @@ use lib.ListN.{length}
 use lib.Signed.{shrZ}
 use Rattle.geometry.specs.declared.Rect.{Rect}
 use Rattle.numerics.specs.Value.{value, magnitude, sign, AtMost}
+use Rattle.numerics.specs.Rects.{maxGameCorner}
 use Rattle.writer.specs.Bytes.{stored}
 
 -- a name in ASCII, and ten times x, y, w and h in whole numbers
@@ -60,9 +61,9 @@ headText word n = word ++ (digitsOf n ++ (10 ∷ []))
 
 -- ---- what the functions that print ask and do
 
--- how far a number may lie from zero, in 256ths: a game's corner
+-- how far a number may lie from zero, in 256ths
 abbrev pub most : ℕ
-most = 256 * 22561
+most = maxGameCorner
 
 -- more than ten times that
 abbrev pub mostTenths : ℕ

@@ -27,6 +27,13 @@ pub record Element (e : Rect) : Type 0 where
   pub w : AtMost (e .w) maxSide
   pub h : AtMost (e .h) maxSide
 
+-- the same for a game: 16384 for the picture's corner and 3/4 of 8192 for the offset in it, and 8192, but for roundings
+abbrev pub maxGameCorner : ℕ
+maxGameCorner = 256 * 22561
+
+abbrev pub maxGameSide : ℕ
+maxGameSide = 256 * 8193
+
 -- document 01's limits of tag 2
 abbrev pub maxArea : ℕ
 maxArea = 256 * 8192

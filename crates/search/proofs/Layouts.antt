@@ -68,10 +68,10 @@ game-in {a} S es F {b} B factor fw offset ox oy =
     let size = range-most 256 s tt in
     rw (game-is S es b factor offset)
     (record {
-      x = most-more (add-most (add-most (B .x) (g .x) tt) (product-most 1581070 (product-most 1581069 (g .w) rest tt tt) px tt tt) tt) (256 * 22561) tt;
-      y = most-more (add-most (add-most (B .y) (g .y) tt) (product-most 1581070 (product-most 1581069 (g .h) rest tt tt) py tt tt) tt) (256 * 22561) tt;
-      w = most-more (product-most most (g .w) size tt tt) (256 * 8193) tt;
-      h = most-more (product-most most (g .h) size tt tt) (256 * 8193) tt;
+      x = most-more (add-most (add-most (B .x) (g .x) tt) (product-most 1581070 (product-most 1581069 (g .w) rest tt tt) px tt tt) tt) _ tt;
+      y = most-more (add-most (add-most (B .y) (g .y) tt) (product-most 1581070 (product-most 1581069 (g .h) rest tt tt) py tt tt) tt) _ tt;
+      w = most-more (product-most most (g .w) size tt tt) _ tt;
+      h = most-more (product-most most (g .h) size tt tt) _ tt;
     })
 
 -- ---- the layout with its game placed

@@ -1,10 +1,9 @@
 -- Layouts whose numbers are in range. Definitions only.
-use Prim.Native.Nat.{_*_}
 use Rattle.prelude.specs.Each.{Each}
 use Rattle.geometry.specs.declared.Rect.{Rect}
 use Rattle.layout.specs.declared.Layout.{Layout}
 use Rattle.numerics.specs.Value.{AtMost}
-use Rattle.numerics.specs.Rects.{Element, OnScreen, Key, margin}
+use Rattle.numerics.specs.Rects.{Element, maxGameCorner, maxGameSide, OnScreen, Key, margin}
 use Rattle.numerics.specs.Shrunk.{shrunkMargin}
 
 -- C holds of the d-pad, the controls and the sticks, D of the toolbar's keys: of every rectangle but the game, and of the unused places of the arrays too
@@ -30,7 +29,7 @@ Shrunk l = Every (OnScreen shrunkMargin) (Key shrunkMargin) l
 
 -- a game
 pub record BoundedGame (g : Rect) : Type 0 where
-  pub x : AtMost (g .x) (256 * 22561)
-  pub y : AtMost (g .y) (256 * 22561)
-  pub w : AtMost (g .w) (256 * 8193)
-  pub h : AtMost (g .h) (256 * 8193)
+  pub x : AtMost (g .x) maxGameCorner
+  pub y : AtMost (g .y) maxGameCorner
+  pub w : AtMost (g .w) maxGameSide
+  pub h : AtMost (g .h) maxGameSide
