@@ -1,7 +1,7 @@
 -- Under Maximum the game has the area below the toolbar, with no element in its way: that area, the largest picture in it and the game are in range.
 use mathlib.Core.Bool.{Bool, true, false, cond, _&&_, _||_}
 use mathlib.Core.List.{List, [], _∷_, map, foldl}
-use Prim.Native.Nat.{ℕ, _+_, _*_, _≤_}
+use Prim.Native.Nat.{ℕ, _+_, _≤_}
 use native.Mathlib.Omega.{arith}
 use lib.Ieee.{Float, lt, eq}
 use Rattle.prelude.specs.Booleans.{either}
@@ -13,25 +13,21 @@ use Rattle.geometry.specs.declared.Rect.{Rect}
 use Rattle.geometry.specs.Rect.{emptyRect}
 use Rattle.layout.specs.declared.Layout.{Layout}
 use Rattle.numerics.specs.Value.{Whole, P, N, E, Le}
-use Rattle.numerics.specs.Rects.{maxArea, Area, Key}
+use Rattle.numerics.specs.Rects.{Area, Key}
 use Rattle.numerics.specs.Range.{In, at, minus}
-use Rattle.numerics.specs.Bounds.{add-law, sub-law, min-ind, max-law, add-most, most-more}
-use Rattle.numerics.specs.Ranges.{in-more, in-reach, most-in, area-side, add-in, sub-in, mul-in, div-in, min-in, max-in, clamp-whole-in, range-most}
-use Rattle.numerics.specs.Products.{product-most}
-use Rattle.numerics.specs.Literals.{lit, i0·25, f2, f4/3, f480/272}
+use Rattle.numerics.specs.Bounds.{add-law, sub-law, min-ind, max-law}
+use Rattle.numerics.specs.Ranges.{in-more, in-reach, most-in, area-side, add-in, sub-in, mul-in, div-in, min-in, max-in, range-most}
+use Rattle.numerics.specs.Literals.{lit, f2, f4/3, f480/272}
 use Rattle.numerics.specs.Shrunk.{shrunkMargin}
 use Rattle.search.specs.declared.Offset.{Offset}
 use Rattle.search.specs.Bounded.{Shrunk, BoundedGame}
 use Rattle.search.specs.Search.{bottomOf, withinOf, betterOf, widthAt, tryAt, centeredOf, sideWidthAt, trySideAt, tryColumn, sideOf, clearPictureAspectOf, obstaclesOf, gameOf}
-use Rattle.search.proofs.Placement.{game-is}
+use Rattle.search.proofs.Layouts.{game-of}
 use Rattle.search.proofs.Shapes.{Shape, standard-shape, psp-shape}
 use Rattle.band.specs.Band.{aspectOf}
 use Rattle.chosen.specs.Chosen.{belowToolbarOf, largestOf}
 
--- 8192 and a sixteenth, as a size and as an end of a range
-abbrev most : ℕ
-most = maxArea + 16
-
+-- 8192 and a sixteenth
 abbrev end : ℕ
 end = at 8192 + 16
 
@@ -100,19 +96,7 @@ pub lowered-game-in : (psp : Bool) {b : Rect} → Lowered b → (factor : Float)
 unfolding obstaclesOf
 lowered-game-in psp {b} B factor fw offset ox oy =
     let g = clear-in psp (B .w) (B .h) in
-    let s = clamp-whole-in factor fw i0·25 (lit 1) in
-    let rest = in-reach (sub-in (lit 1) s tt) in
-    let wide = range-most most (g .w) tt in
-    let high = range-most most (g .h) tt in
-    let across = product-most 1581070 (product-most 1581069 wide rest tt tt) (in-reach (clamp-whole-in (offset .x) ox (lit 0) (lit 1))) tt tt in
-    let down = product-most 1581070 (product-most 1581069 high rest tt tt) (in-reach (clamp-whole-in (offset .y) oy (lit 0) (lit 1))) tt tt in
-    rw (game-is (shape psp) [] b factor offset)
-    (record {
-      x = most-more (add-most (in-reach (add-in (B .x) (g .x) tt)) across tt) _ tt;
-      y = most-more (add-most (in-reach (add-in (B .y) (g .y) tt)) down tt) _ tt;
-      w = most-more (product-most most wide (in-reach s) tt tt) _ tt;
-      h = most-more (product-most most high (in-reach s) tt tt) _ tt;
-    })
+    game-of (shape psp) [] b factor fw offset ox oy (range-most _ (add-in (B .x) (g .x) tt) tt) (range-most _ (add-in (B .y) (g .y) tt) tt) (range-most _ (g .w) tt) (range-most _ (g .h) tt)
 
 -- ---- the area below the toolbar
 lowest-in : {y : Float} (bottoms : List Float) → In y (minus 8192) (at 8192) → Each (λ b. In b (minus 17500) (at 17500)) bottoms → In (foldl maxOf y bottoms) (minus 8192) (at 17500) × Le 1 y (foldl maxOf y bottoms)
