@@ -18,26 +18,23 @@ use Rattle.arranged.specs.ControlLaws.{anchored-anew, game-anew}
 use Rattle.band.specs.declared.Band.{Band}
 use Rattle.band.specs.Band.{aspectOf, plainPlacesOf, withAnalogOf, bandedOf, bandControlsOf, withInputsOf}
 
-module _ (w h : Float) (analog deep : Bool) (b : Band) where
-  banded-bare : bareOf (bandedOf w h analog deep b) ≡ bareOf (bandControlsOf analog deep b)
-  unfolding bandedOf bandControlsOf arrangedOf finishedOf dockedOf dockPlacesOf placedOf mapFirst atOf controllerOf withAnalogOf plainPlacesOf placeGameInAspectOf anchorToolbarOf
-  banded-bare = go analog
-    where
-      go : (a : Bool) → bareOf (bandedOf w h a deep b) ≡ bareOf (bandControlsOf a deep b)
-      go true = refl
-      go false = refl
+banded-bare : (w h : Float) (analog deep : Bool) (b : Band) → bareOf (bandedOf w h analog deep b) ≡ bareOf (bandControlsOf analog deep b)
+unfolding bandedOf bandControlsOf arrangedOf finishedOf dockedOf dockPlacesOf placedOf mapFirst atOf controllerOf withAnalogOf plainPlacesOf placeGameInAspectOf anchorToolbarOf
+banded-bare w h true deep b = refl
+banded-bare w h false deep b = refl
 
-  -- the last steps
-  abbrev endedOf : Bool → Rect → Layout → Layout
-  endedOf psp picture l = placeGameInAspectOf (withInputsOf l psp) picture false k1 centred (aspectOf psp)
+-- the last steps
+abbrev endedOf : Bool → Rect → Layout → Layout
+endedOf psp picture l = placeGameInAspectOf (withInputsOf l psp) picture false k1 centred (aspectOf psp)
 
-  psp-game : (psp : Bool) (picture : Rect) (l : Layout) (old : Rect) → endedOf psp picture (withGame l old) ≡ endedOf psp picture l
-  unfolding pspInputsOf
-  psp-game true picture l old = game-anew (pspInputsOf l) old picture false k1 centred _
-  psp-game false picture l old = game-anew l old picture false k1 centred _
+psp-game : (psp : Bool) (picture : Rect) (l : Layout) (old : Rect) → endedOf psp picture (withGame l old) ≡ endedOf psp picture l
+unfolding pspInputsOf
+psp-game true picture l old = game-anew (pspInputsOf l) old picture false k1 centred _
+psp-game false picture l old = game-anew l old picture false k1 centred _
 
-  pub band-anew : (psp : Bool) (top : Float) (picture : Rect) → endedOf psp picture (anchorToolbarOf (bandedOf w h analog deep b) w h top k0 []) ≡ endedOf psp picture (anchorToolbarOf (bandControlsOf analog deep b) w h top k0 [])
-  band-anew psp top picture =
-      let new = bandControlsOf analog deep b in
-      let old = bandedOf w h analog deep b in
-      rw (anchored-anew w h top [] old new banded-bare) (psp-game psp picture (anchorToolbarOf new w h top k0 []) (old .game))
+pub band-anew : (w h : Float) (analog deep : Bool) (b : Band) (psp : Bool) (top : Float) (picture : Rect)
+    → endedOf psp picture (anchorToolbarOf (bandedOf w h analog deep b) w h top k0 []) ≡ endedOf psp picture (anchorToolbarOf (bandControlsOf analog deep b) w h top k0 [])
+band-anew w h analog deep b psp top picture =
+    let new = bandControlsOf analog deep b in
+    let old = bandedOf w h analog deep b in
+    rw (anchored-anew w h top [] old new (banded-bare w h analog deep b)) (psp-game psp picture (anchorToolbarOf new w h top k0 []) (old .game))

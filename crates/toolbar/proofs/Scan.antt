@@ -1,9 +1,9 @@
 -- Searches of an array that go on while `!met & (i < n)`.
-use mathlib.Core.Path.{_≡_, refl, sym, subst}
-use mathlib.Core.Bool.{Bool, true, false, not, _&&_, _||_, cond}
+use mathlib.Core.Path.{_≡_, refl, sym}
+use mathlib.Core.Bool.{Bool, true, false, not, _&&_, _||_, cond, false≢true}
 use mathlib.Core.List.{List, [], _∷_}
 use Prim.Native.Nat.{ℕ, _+_, _<_}
-use lib.Dec.{T, ltb}
+use lib.Dec.{ltb}
 use lib.ListN.{getD}
 use borrow.Author.Tests.{ltb-true, ltb-false}
 use Rattle.prelude.specs.Lists.{anyOf, find}
@@ -15,7 +15,7 @@ pub record Scanned {A B : Type 0} (p : A → Bool) (hit : A → B) (none : B) (l
 
 module _ {A B : Type 0} {p : A → Bool} {hit : A → B} {none : B} {l : List A} {n : ℕ} {k : B} {i : ℕ} {v : B} {met : Bool} where
   going : Scanned p hit none l n k i v met → (b : Bool) → not b && ltb i n ≡ true → (b ≡ false) × (i < n)
-  going s true t = absurd (subst T (sym t) tt)
+  going s true t = absurd (false≢true t)
   going s false t = (refl, ltb-true i n t)
 
   pub scan-open : Scanned p hit none l n k i v met → not met && ltb i n ≡ true → i < n

@@ -1,8 +1,10 @@
 use native.Mathlib.Omega.{arith}
 use borrow.Author.Needs.{needs}
+use Rattle.search.specs.Search.{placeGameInAspectOf}
+use Rattle.toolbar.specs.Toolbar.{anchorToolbarOf}
 use Rattle.band.specs.Band.{controllerBandOf}
 use Rattle.band.proofs.Anew.{band-anew}
-use Rattle.band.proofs.Counts.{Counted, anchor-counts, game-counts}
+use Rattle.band.proofs.Counts.{Counted}
 use Rattle.band.proofs.controller_band.Statement.{statement}
 use Rattle.band.proofs.controller_band.Tie as tie
 
@@ -15,7 +17,7 @@ returns-2 c =
 with-inputs-requires : tie.Need-with-inputs-requires
 with-inputs-requires c κs =
     let b = c .before .before .band-controls in
-    let k : Counted (c .anchor-toolbar .result) = rw (c .anchor-toolbar .ensures) (anchor-counts (b .result) _ _ _ _ _ (b .ensures .1, b .ensures .2)) in
+    let k : Counted (c .anchor-toolbar .result) = unfold anchorToolbarOf in (rw (c .anchor-toolbar .ensures) (b .ensures .1, b .ensures .2)) in
     k
 
 returns-3 : tie.Need-returns-3
@@ -25,7 +27,7 @@ returns-3 c =
     let p = i .before .before .before in
     let t = p .before .before in
     let a = t .before .before .before .before .args in
-    let k : Counted (c .place-game-in-aspect .result) = rw (c .place-game-in-aspect .ensures) (game-counts (i .with-inputs .result) _ _ _ _ _ (i .with-inputs .ensures .1, i .with-inputs .ensures .2)) in (
+    let k : Counted (c .place-game-in-aspect .result) = unfold placeGameInAspectOf in (rw (c .place-game-in-aspect .ensures) (i .with-inputs .ensures .1, i .with-inputs .ensures .2)) in (
       rw (
         t .before .before .before .if1 .left,
         ← t .before .before .find-room .ensures,

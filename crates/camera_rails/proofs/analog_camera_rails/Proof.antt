@@ -3,7 +3,8 @@ use native.Mathlib.Omega.{arith}
 use mathlib.Core.Path.{_≡_}
 use lib.ListN.{length}
 use Rattle.layout.specs.Actions.{actionElementsOf}
-use Rattle.band.proofs.Counts.{Counted, game-counts}
+use Rattle.search.specs.Search.{placeGameInAspectOf}
+use Rattle.band.proofs.Counts.{Counted}
 use Rattle.camera_rails.specs.CameraLabels.{anchored-faces, cleared-counts}
 use Rattle.camera_rails.specs.CameraRails.{analogCameraRailsOf}
 use Rattle.camera_rails.proofs.analog_camera_rails.Statement.{statement}
@@ -65,7 +66,7 @@ returns-5 c =
     let f = a .before .before in
     let r = f .before .before in
     let k : Counted (v .avoid-cutouts .result) = rw (v .avoid-cutouts .ensures, a .anchored-rails .ensures .0) (cleared-counts _ _ _ _ _ _ _) in
-    let n : Counted (c .place-game-in-aspect .result) = rw (c .place-game-in-aspect .ensures) (game-counts (v .avoid-cutouts .result) _ _ _ _ _ k) in (
+    let n : Counted (c .place-game-in-aspect .result) = unfold placeGameInAspectOf in (rw (c .place-game-in-aspect .ensures) k) in (
       rw (
         r .before .if1 .left,
         ← r .measure-rail .ensures,

@@ -1,5 +1,6 @@
 use borrow.Author.Needs.{needs}
-use Rattle.band.proofs.Counts.{Counted, anchor-counts}
+use Rattle.toolbar.specs.Toolbar.{anchorToolbarOf}
+use Rattle.band.proofs.Counts.{Counted}
 use Rattle.camera_rails.specs.CameraRails.{anchoredRailsOf}
 use Rattle.camera_rails.proofs.anchored_rails.Statement.{statement}
 use Rattle.camera_rails.proofs.anchored_rails.Tie as tie
@@ -9,7 +10,7 @@ unfolding anchoredRailsOf
 returns c =
     let p = c .before .before in
     let i = p .with-inputs in
-    let k : Counted (c .anchor-toolbar .result) = rw (c .anchor-toolbar .ensures) (anchor-counts (i .result) _ _ _ _ _ (i .ensures .1, i .ensures .2)) in
+    let k : Counted (c .anchor-toolbar .result) = unfold anchorToolbarOf in (rw (c .anchor-toolbar .ensures) (i .ensures .1, i .ensures .2)) in
     (rw (← p .before .camera-railed .ensures .0, ← i .ensures .0, ← c .before .reusable-top .ensures, ← c .anchor-toolbar .ensures), k .0, k .1)
 
 pub anchored-rails-spec : {M : Type 1} → statement M

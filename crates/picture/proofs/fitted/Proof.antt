@@ -1,4 +1,4 @@
--- `controls`: each candidate that does not fit leaves the answer to those after it.
+-- `fitted`: each candidate that does not fit leaves the answer to those after it.
 use native.Mathlib.Omega.{arith}
 use borrow.Author.Needs.{needs}
 use Rattle.picture.specs.Picture.{fittedOf}
