@@ -2,7 +2,6 @@
 use mathlib.Core.Bool.{Bool, true, false, cond, _||_}
 use mathlib.Core.List.{List, [], foldl}
 use lib.Ieee.{Float, lt}
-use lib.ListN.{replicate}
 use Rattle.float.specs.Float.{_⊕_, _⊖_, _⊗_, _⊘_, k0, k0·4, k1, k2, k3, k4, k8, k16, k20, k24, k32, k48, k56, k64, k76, k80, k84, k96, k100, k112, k122, k128, k140, k160, k168, k196, k200, k224}
 use Rattle.float.specs.MinMax.{minOf, maxOf, clampOf}
 use Rattle.geometry.specs.declared.Rect.{Rect}
@@ -15,7 +14,7 @@ use Rattle.arranged.specs.declared.Wells.{Wells}
 use Rattle.arranged.specs.declared.Dock.{Dock}
 use Rattle.arranged.specs.declared.Rails.{Rails}
 use Rattle.arranged.specs.declared.Places.{Places}
-use Rattle.arranged.specs.Places.{placeFacesOf, wellFacesOf, controllerOf, placedOf}
+use Rattle.arranged.specs.Places.{placeFacesOf, wellFacesOf, standardOf, placedOf}
 
 -- with the toolbar at its place
 abbrev pub anchoredOf : Layout → Float → Float → Layout
@@ -74,7 +73,7 @@ dockedOf w h compact =
     let wells = sizeWellsOf w h compact in
     let dock = placeDockOf compact w h wells (maxOf (w ⊘ k2 ⊖ k196) k16) (minOf (w ⊘ k2 ⊕ k100) (w ⊖ k112)) in
     let dpad = newOf k16 (dock .fy ⊖ wells .height ⊘ k2) (wells .cluster) (wells .height) in
-    controllerOf (dockPlacesOf w wells dock) dpad 10 (replicate 2 emptyRect) 0
+    standardOf (dockPlacesOf w wells dock) dpad
 
 unfoldable pub arrangedOf : Float → Float → Bool → Layout
 arrangedOf w h compact = finishedOf (dockedOf w h compact) w h

@@ -3,14 +3,13 @@
 use mathlib.Core.Bool.{false, cond}
 use mathlib.Core.List.{List}
 use lib.Ieee.{Float, lt}
-use lib.ListN.{replicate}
 use Rattle.float.specs.Float.{k122}
 use Rattle.geometry.specs.declared.Rect.{Rect}
 use Rattle.geometry.specs.Rect.{emptyRect}
 use Rattle.layout.specs.declared.Layout.{Layout}
 use Rattle.layout.specs.Layout.{withGame}
 use Rattle.toolbar.specs.Toolbar.{withToolbar}
-use Rattle.arranged.specs.Places.{controllerOf}
+use Rattle.arranged.specs.Places.{standardOf}
 use Rattle.arranged.specs.Arranged.{dockedOf, measureRailsOf, railPlacesOf, railDpad, clusterOf}
 
 -- the layout without toolbar and game
@@ -20,7 +19,7 @@ bareOf l = withGame (withToolbar l emptyRect emptyRect emptyRect emptyRect) empt
 unfoldable pub railControlsOf : Float → Float → Float → Layout
 railControlsOf w h cluster =
     let rails = measureRailsOf w h cluster in
-    controllerOf (railPlacesOf rails) (railDpad rails cluster) 10 (replicate 2 emptyRect) 0
+    standardOf (railPlacesOf rails) (railDpad rails cluster)
 
 unfoldable pub sideControlsOf : Float → Float → Float → List Rect → Layout
 sideControlsOf w h pictureHeight cutouts =

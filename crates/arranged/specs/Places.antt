@@ -1,6 +1,6 @@
 -- A place for each label, and the controls of a layout put there: the loops over `layout.controls` of input.rs. Definitions only.
 use mathlib.Core.Bool.{cond}
-use mathlib.Core.List.{List, map}
+use mathlib.Core.List.{List, [], _∷_, map}
 use mathlib.Core.Option.{Option, some, none}
 use Prim.Native.Nat.{ℕ}
 use lib.Ieee.{Float}
@@ -99,6 +99,13 @@ controllerOf p dpad count sticks stickcount =
       sticks = sticks;
       stickcount = stickcount;
     }
+
+-- one with the standard labels, and one with all labels and two sticks
+abbrev pub standardOf : Places → Rect → Layout
+standardOf p dpad = controllerOf p dpad 10 (replicate 2 emptyRect) 0
+
+abbrev pub analogOf : Places → Rect → Rect → Rect → Layout
+analogOf p dpad left right = controllerOf p dpad 12 (left ∷ right ∷ []) 2
 
 -- a control at the place of its label
 abbrev pub moved : Places → Control → Control

@@ -16,7 +16,8 @@ use Rattle.arranged.specs.Arranged.{finishedOf, dockPlacesOf, dockedOf, arrange
 use Rattle.arranged.specs.Controls.{bareOf}
 use Rattle.arranged.specs.ControlLaws.{anchored-anew, game-anew}
 use Rattle.band.specs.declared.Band.{Band}
-use Rattle.band.specs.Band.{aspectOf, plainPlacesOf, withAnalogOf, bandedOf, bandControlsOf, withInputsOf}
+use Rattle.band.specs.Band.{aspectOf, plainPlacesOf, withAnalogOf, bandedOf, withInputsOf}
+use Rattle.band.specs.Controls.{bandControlsOf}
 
 banded-bare : (w h : Float) (analog deep : Bool) (b : Band) → bareOf (bandedOf w h analog deep b) ≡ bareOf (bandControlsOf analog deep b)
 unfolding bandedOf bandControlsOf arrangedOf finishedOf dockedOf dockPlacesOf placedOf mapFirst atOf controllerOf withAnalogOf plainPlacesOf placeGameInAspectOf anchorToolbarOf

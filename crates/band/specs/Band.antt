@@ -4,7 +4,7 @@ use mathlib.Core.List.{_∷_, []}
 use mathlib.Core.Option.{Option, some, none}
 use Prim.Native.Nat.{_+_}
 use lib.Ieee.{Float, lt, le}
-use lib.ListN.{set, replicate}
+use lib.ListN.{set}
 use Rattle.float.specs.Float.{_⊕_, _⊖_, _⊗_, _⊘_, k0, k0·75, k1, k1·35, k2, k3, k4, k8, k16, k24, k28, k48, k52, k56, k64, k72, k80, k100, k104, k112, k122, k128, k136, k160, k176, k184, k192, k204, k272, k288, k480, k600, k800}
 use Rattle.float.specs.MinMax.{minOf, clampOf}
 use Rattle.geometry.specs.declared.Rect.{Rect}
@@ -16,7 +16,7 @@ use Rattle.layout.specs.Psp.{pspInputsOf}
 use Rattle.search.specs.Search.{centred, placeGameInAspectOf}
 use Rattle.toolbar.specs.Toolbar.{toolbarHeight, anchorToolbarOf, reusableTopOf}
 use Rattle.arranged.specs.declared.Places.{Places}
-use Rattle.arranged.specs.Places.{wellFacesOf, control, controllerOf, placedOf}
+use Rattle.arranged.specs.Places.{wellFacesOf, control, placedOf}
 use Rattle.arranged.specs.Arranged.{arrangedOf, bottom}
 use Rattle.band.specs.declared.Room.{Room}
 use Rattle.band.specs.declared.Band.{Band}
@@ -139,12 +139,6 @@ bandedOf w h analog deep b =
     let places = bandPlacesOf analog deep b in
     let layout = withDpad (placedOf (arrangedOf w h false) places) (bandDpad b) in
     cond analog (withAnalogOf layout (places .l3) (places .r3) (leftStick b) (rightStick b)) layout
-
--- An inner function of the code: these controls, without toolbar and game (`band-anew` of proofs/Anew).
-unfoldable pub bandControlsOf : Bool → Bool → Band → Layout
-bandControlsOf analog deep b =
-    let places = bandPlacesOf analog deep b in
-    cond analog (controllerOf places (bandDpad b) 12 (leftStick b ∷ rightStick b ∷ []) 2) (controllerOf places (bandDpad b) 10 (replicate 2 emptyRect) 0)
 
 -- a psp has some of the inputs only
 abbrev pub withInputsOf : Layout → Bool → Layout

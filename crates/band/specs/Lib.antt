@@ -1,4 +1,5 @@
 pub mod Band
+pub mod Controls
 pub mod BandCases
 pub mod BandLabels
 pub mod BandRanges

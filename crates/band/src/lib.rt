@@ -2,7 +2,8 @@
 ghost use mathlib.Core.Path.{_≡_};
 ghost use Prim.Native.Nat.{_≤_};
 ghost use Rattle.arranged.specs.Places.{maybe};
-ghost use Rattle.band.specs.Band.{findRoomOf, measureBandOf, plainPlacesOf, deepPlacesOf, rowPlacesOf, bandPlacesOf, bandControlsOf, withInputsOf, aspectOf, controllerBandOf};
+ghost use Rattle.band.specs.Band.{findRoomOf, measureBandOf, plainPlacesOf, deepPlacesOf, rowPlacesOf, bandPlacesOf, withInputsOf, aspectOf, controllerBandOf};
+ghost use Rattle.band.specs.Controls.{bandControlsOf};
 use arranged::BOTTOM;
 use arranged::Faces;
 use arranged::MaybeLayout;

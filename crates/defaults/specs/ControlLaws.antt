@@ -17,14 +17,11 @@ use Rattle.toolbar.specs.Toolbar.{withToolbar}
 use Rattle.arranged.specs.declared.Places.{Places}
 use Rattle.arranged.specs.ArrangedLabels.{placed-formed}
 use Rattle.arranged.specs.Controls.{bareOf}
-use Rattle.arranged.specs.Places.{control, controlAtOf, controllerOf, atOf, moved, placedOf}
+use Rattle.arranged.specs.Places.{control, controlAtOf, controllerOf, analogOf, atOf, moved, placedOf}
 use Rattle.band.specs.Band.{withAnalogOf}
 use Rattle.band.specs.BandLabels.{with-analog-controls, with-analog-formed}
 use Rattle.defaults.specs.declared.Size.{Size}
 use Rattle.defaults.specs.Defaults.{scaledRectOf, shrunkOf}
-
-abbrev pub analogOf : Places → Rect → Rect → Rect → Layout
-analogOf p dpad left right = controllerOf p dpad 12 (left ∷ right ∷ []) 2
 
 module _ (p : Places) (dpad left right : Rect) (l : Layout) where
   placed-controls : controlList (placedOf l p) ≡ map (controlAtOf p) (labelsOf l)

@@ -1,10 +1,9 @@
 -- Inner functions of the code that the Rust does not have. Definitions only.
-use mathlib.Core.List.{[], _∷_}
 use lib.Ieee.{Float}
 use Rattle.geometry.specs.declared.Rect.{Rect}
 use Rattle.layout.specs.declared.Layout.{Layout}
 use Rattle.arranged.specs.Arranged.{finishedOf}
-use Rattle.arranged.specs.Places.{controllerOf}
+use Rattle.arranged.specs.Places.{analogOf}
 use Rattle.defaults.specs.Defaults.{clearOf, sizeHalvesOf, measureHalvesOf, halfPlacesOf, halfDpad, leftStick, rightStick}
 
 -- controls with the toolbar at its place and the largest game in the picture's area
@@ -15,4 +14,4 @@ finishedInOf controls w h picture = clearOf (finishedOf controls w h) picture
 unfoldable pub analogControlsOf : Float → Float → Layout
 analogControlsOf w h =
     let b = measureHalvesOf w h (sizeHalvesOf w h) in
-    controllerOf (halfPlacesOf b) (halfDpad b) 12 (leftStick b ∷ rightStick b ∷ []) 2
+    analogOf (halfPlacesOf b) (halfDpad b) (leftStick b) (rightStick b)

@@ -1,6 +1,6 @@
 use borrow.Author.Needs.{needs}
 use native.Mathlib.Omega.{arith}
-use Rattle.band.specs.Band.{bandControlsOf}
+use Rattle.band.specs.Controls.{bandControlsOf}
 use Rattle.band.proofs.band_controls.Statement.{statement}
 use Rattle.band.proofs.band_controls.Tie as tie
 
