@@ -1,6 +1,6 @@
 -- The labels, counts and arrays of `analog_camera_rails`.
 use mathlib.Core.Path.{_≡_, refl, _∙_}
-use mathlib.Core.Bool.{Bool, true, false}
+use mathlib.Core.Bool.{Bool, true}
 use mathlib.Core.List.{List}
 use native.Mathlib.Omega.{arith}
 use lib.Dec.{eqb}
@@ -43,8 +43,7 @@ module _ (w h rail face : Float) where
   module _ (picture : Rect) (cutouts : List Rect) where
     pub anchored-formed : (psp : Bool) → OfMode true psp (anchoredRailsOf w h picture cutouts psp rail face)
     unfolding anchoredRailsOf anchorToolbarOf
-    anchored-formed true = with-inputs-formed true true (cameraRailedOf w h rail face) railed-formed
-    anchored-formed false = railed-formed
+    anchored-formed psp = with-inputs-formed true psp (cameraRailedOf w h rail face) railed-formed
 
     module _ (psp : Bool) where
       abbrev anchored : Layout

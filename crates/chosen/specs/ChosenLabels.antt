@@ -1,6 +1,6 @@
 -- Every arrangement that may be chosen has the labels, the counts and the arrays of its mode; every step of `layout_in` keeps them.
 use mathlib.Core.Path.{_≡_, _∙_}
-use mathlib.Core.Bool.{Bool, true, false, _||_}
+use mathlib.Core.Bool.{Bool, true, false, _||_, or-true}
 use mathlib.Core.List.{List}
 use Prim.Native.Nat.{_≤_}
 use native.Mathlib.Omega.{arith}
@@ -42,8 +42,7 @@ few analog psp l f =
 module _ (w h : Float) (cutouts : List Rect) (picture : Rect) where
   pub start-mode : (psp analog : Bool) → OfMode (analog || psp) psp (startOf psp analog w h cutouts picture)
   unfolding startOf
-  start-mode true true = psp-formed w h
-  start-mode true false = psp-formed w h
+  start-mode true analog = rw (or-true analog) (psp-formed w h)
   start-mode false true = analog-formed w h
   start-mode false false = default-formed w h cutouts picture
 

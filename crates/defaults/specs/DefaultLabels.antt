@@ -1,5 +1,4 @@
 -- The labels, the counts and the lengths of the arrays of the default layouts: standard, analog and psp.
-use mathlib.Core.Path.{refl}
 use mathlib.Core.Bool.{true, false, _||_}
 use mathlib.Core.List.{List, []}
 use Prim.Native.Nat.{ℕ, _≤_}
@@ -13,15 +12,13 @@ use Rattle.geometry.specs.declared.Rect.{Rect}
 use Rattle.geometry.specs.Rect.{newOf}
 use Rattle.layout.specs.declared.Label.{Label}
 use Rattle.layout.specs.declared.Layout.{Layout}
-use Rattle.layout.specs.Label.{idOf, maskOf, onPspOf}
 use Rattle.layout.specs.Layout.{elementsOf}
 use Rattle.layout.specs.Labels.{standardLabels, analogLabels, pspLabels, Formed}
-use Rattle.layout.specs.LabelLaws.{set-elements-formed, psp-inputs-formed}
-use Rattle.layout.specs.Psp.{atMostOneOf}
+use Rattle.layout.specs.LabelLaws.{set-elements-formed}
 use Rattle.search.specs.Search.{placeGameInAspectOf}
 use Rattle.arranged.specs.Arranged.{arrangedOf, sideRailsOf}
 use Rattle.arranged.specs.ArrangedLabels.{placed-formed, finished-formed, arranged-formed, side-rails-formed}
-use Rattle.band.specs.BandLabels.{with-analog-formed, band-formed}
+use Rattle.band.specs.BandLabels.{with-analog-formed, with-inputs-formed, band-formed}
 use Rattle.defaults.specs.declared.Size.{Size}
 use Rattle.defaults.specs.Defaults.{clearOf, defaultInOf, newLayoutOf, analogFullOf, size, scaledRectOf, shrunkOf, analogDefaultOf, pspOf}
 use Rattle.defaults.specs.DefaultCases.{band-case, default-case}
@@ -62,5 +59,5 @@ module _ (w h : Float) where
       (band-formed w h true false (newOf k0 k0 w h))
 
   pub psp-formed : Formed pspLabels 1 (pspOf w h)
-  unfolding pspOf onPspOf maskOf idOf atMostOneOf
-  psp-formed = psp-inputs-formed analogLabels 2 (analogDefaultOf w h) refl analog-formed
+  unfolding pspOf
+  psp-formed = with-inputs-formed true true (analogDefaultOf w h) analog-formed

@@ -1,5 +1,5 @@
 -- Every layout of `layout_in` is in range, whatever is asked for: its elements and its game, on screens up to 8192 by 8192.
-use mathlib.Core.Bool.{Bool, true, false, _||_}
+use mathlib.Core.Bool.{Bool, true, false, _||_, or-true}
 use mathlib.Core.List.{List, [], _∷_}
 use lib.Dec.{T}
 use lib.Ieee.{Float, lt}
@@ -88,8 +88,7 @@ module _ {w h : Float} (W : In w (at 1) (at 8192)) (H : In h (at 1) (at 8192)) {
     module _ (scale : Whole (p .scale)) (across : Whole (p .offset .x)) (down : Whole (p .offset .y)) where
       placed-game : (maximum overlap : Bool) (l first : Layout) → Bounded l → Shrunk first → BoundedGame (placeGameInAspectOf l (areaOf maximum first picture) (overlap || maximum) (p .scale) (p .offset) (aspectOf (p .psp)) .game)
       unfolding areaOf placeGameInAspectOf
-      placed-game true true l first L F = lowered-game-in (p .psp) (below-toolbar-in F A) (p .scale) scale (p .offset) across down
-      placed-game true false l first L F = lowered-game-in (p .psp) (below-toolbar-in F A) (p .scale) scale (p .offset) across down
+      placed-game true overlap l first L F = rw (or-true overlap) (lowered-game-in (p .psp) (below-toolbar-in F A) (p .scale) scale (p .offset) across down)
       placed-game false overlap l first L F = place-game-in (shape (p .psp)) l L A (p .offset) across down (overlap || false) (p .scale) scale
 
       laid-out-game : BoundedGame (laidOutOf p w h cutouts picture .game)
