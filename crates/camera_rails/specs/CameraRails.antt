@@ -77,6 +77,10 @@ unfoldable pub anchoredRailsOf : Float → Float → Rect → List Rect → Bool
 anchoredRailsOf w h picture cutouts psp rail face =
     anchorToolbarOf (withInputsOf (cameraRailedOf w h rail face) psp) w h (reusableTopOf picture) k0 cutouts
 
+-- clear of the cutouts, with the largest game that is clear of all elements
+abbrev pub clearedOf : Layout → Float → Float → Rect → List Rect → Bool → Layout
+clearedOf l w h picture cutouts psp = placeGameInAspectOf (avoidCutoutsOf l w h cutouts) picture false k1 centred (aspectOf psp)
+
 -- None, where the rails have no room or an element overlaps a cutout, one without an area too.
 unfoldable pub analogCameraRailsOf : Float → Float → Rect → List Rect → Bool → Option Layout
 analogCameraRailsOf w h picture cutouts psp =
@@ -87,4 +91,4 @@ analogCameraRailsOf w h picture cutouts psp =
     (cond (lt rail k184) none
     (cond (lt face k122) none
     (cond (hitsOf (elementsOf layout) cutouts) none
-    (some (placeGameInAspectOf (avoidCutoutsOf layout w h cutouts) picture false k1 centred (aspectOf psp))))))
+    (some (clearedOf layout w h picture cutouts psp)))))

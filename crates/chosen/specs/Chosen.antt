@@ -1,5 +1,5 @@
 -- The first steps of `Preset::layout_in` of input.rs: the layout at first, the area that the game gets and the arrangement for it. Definitions only.
-use mathlib.Core.Bool.{Bool, false, cond, _&&_, _||_}
+use mathlib.Core.Bool.{Bool, cond, _&&_, _||_}
 use mathlib.Core.List.{List, [], _∷_, map, foldl}
 use mathlib.Core.Option.{Option, some, none}
 use lib.Ieee.{Float, lt, le}
@@ -10,12 +10,11 @@ use Rattle.geometry.specs.declared.Rect.{Rect}
 use Rattle.geometry.specs.Rect.{newOf}
 use Rattle.layout.specs.declared.Layout.{Layout}
 use Rattle.layout.specs.Layout.{anyRect}
-use Rattle.search.specs.Search.{centred, bottomOf, clearPictureAspectOf, placeGameInAspectOf}
+use Rattle.search.specs.Search.{bottomOf, clearPictureAspectOf}
 use Rattle.toolbar.specs.Toolbar.{anchorToolbarOf, reusableTopOf}
 use Rattle.band.specs.Band.{aspectOf, controllerBandOf}
 use Rattle.defaults.specs.Defaults.{defaultInOf, analogDefaultOf, pspOf}
-use Rattle.cutouts.specs.Cutouts.{avoidCutoutsOf}
-use Rattle.camera_rails.specs.CameraRails.{analogCameraRailsOf}
+use Rattle.camera_rails.specs.CameraRails.{clearedOf, analogCameraRailsOf}
 use Rattle.picture.specs.Picture.{controlsOf}
 
 -- the arrangement that a preset starts from
@@ -66,8 +65,7 @@ comparedOf layout clear (some candidate) = cond (railsWinOf candidate clear) can
 
 unfoldable pub tryRailsOf : Layout → Float → Float → Rect → List Rect → Bool → Layout
 tryRailsOf layout w h picture cutouts psp =
-    let clear = placeGameInAspectOf (avoidCutoutsOf layout w h cutouts) picture false k1 centred (aspectOf psp) in
-    comparedOf layout clear (analogCameraRailsOf w h picture cutouts psp)
+    comparedOf layout (clearedOf layout w h picture cutouts psp) (analogCameraRailsOf w h picture cutouts psp)
 
 -- The band, too, replaces the layout with no comparison.
 unfoldable pub bandOrRailsOf : Layout → Float → Float → Rect → List Rect → Bool → Bool → Layout

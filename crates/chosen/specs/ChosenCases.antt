@@ -6,14 +6,11 @@ use mathlib.Core.Option.{Option}
 use lib.Dec.{T}
 use lib.Ieee.{Float}
 use Rattle.prelude.specs.Booleans.{either}
-use Rattle.float.specs.Float.{k1}
 use Rattle.geometry.specs.declared.Rect.{Rect}
 use Rattle.layout.specs.declared.Layout.{Layout}
-use Rattle.search.specs.Search.{centred, placeGameInAspectOf}
 use Rattle.arranged.specs.Found.{Given, maybe-case}
-use Rattle.band.specs.Band.{aspectOf, controllerBandOf}
-use Rattle.cutouts.specs.Cutouts.{avoidCutoutsOf}
-use Rattle.camera_rails.specs.CameraRails.{analogCameraRailsOf}
+use Rattle.band.specs.Band.{controllerBandOf}
+use Rattle.camera_rails.specs.CameraRails.{clearedOf, analogCameraRailsOf}
 use Rattle.chosen.specs.Chosen.{foundOr, railsWinOf, comparedOf, tryRailsOf, bandOrRailsOf, areaOf}
 
 module _ (C : Layout → Type 0) where
@@ -21,16 +18,12 @@ module _ (C : Layout → Type 0) where
   found-case {l} o p q = maybe-case (λ o. C (foundOr l o)) o p q
 
 module _ (w h : Float) (picture : Rect) (cutouts : List Rect) (psp : Bool) where
-  -- a layout as it is compared with the rails
-  abbrev pub cleared : Layout → Layout
-  cleared l = placeGameInAspectOf (avoidCutoutsOf l w h cutouts) picture false k1 centred (aspectOf psp)
-
-  rails-case : (C : Layout → Type 0) (l : Layout) → C l → C (cleared l) → Given C (analogCameraRailsOf w h picture cutouts psp) → C (tryRailsOf l w h picture cutouts psp)
+  rails-case : (C : Layout → Type 0) (l : Layout) → C l → C (clearedOf l w h picture cutouts psp) → Given C (analogCameraRailsOf w h picture cutouts psp) → C (tryRailsOf l w h picture cutouts psp)
   unfolding tryRailsOf
-  rails-case C l p q r = maybe-case (λ o. C (comparedOf l (cleared l) o)) _ p (λ m e. either C (railsWinOf m (cleared l)) (r m e) q)
+  rails-case C l p q r = maybe-case (λ o. C (comparedOf l (clearedOf l w h picture cutouts psp) o)) _ p (λ m e. either C (railsWinOf m (clearedOf l w h picture cutouts psp)) (r m e) q)
 
   -- D of the layout that the rails are compared with
-  pub band-or-rails-case : (C D : Layout → Type 0) → ((m : Layout) → D m → C m) → ((m : Layout) → D m → C (cleared m)) → (analog : Bool) {l : Layout} → D l
+  pub band-or-rails-case : (C D : Layout → Type 0) → ((m : Layout) → D m → C m) → ((m : Layout) → D m → C (clearedOf m w h picture cutouts psp)) → (analog : Bool) {l : Layout} → D l
       → Given D (controllerBandOf w h analog psp picture) → (analog ≡ true → Given C (analogCameraRailsOf w h picture cutouts psp)) → C (bandOrRailsOf l w h picture cutouts analog psp)
   unfolding bandOrRailsOf
   band-or-rails-case C D f g true p q r = let banded = found-case D _ p q in rails-case C _ (f _ banded) (g _ banded) (r refl)
