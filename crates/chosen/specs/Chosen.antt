@@ -1,7 +1,7 @@
 -- The first steps of `Preset::layout_in` of input.rs: the layout at first, the area that the game gets and the arrangement for it. Definitions only.
 use mathlib.Core.Bool.{Bool, cond, _&&_, _||_}
 use mathlib.Core.List.{List, [], _∷_, map, foldl}
-use mathlib.Core.Option.{Option, some, none}
+use mathlib.Core.Option.{Option, some, none, Option·getD}
 use lib.Ieee.{Float, lt, le}
 use lib.ListN.{getD}
 use Rattle.float.specs.Float.{_⊕_, _⊖_, k0, k0·01, k1}
@@ -37,15 +37,10 @@ largestOf area aspect =
     let fitted = clearPictureAspectOf (area .w) (area .h) [] aspect in
     newOf (area .x ⊕ fitted .x) (area .y ⊕ fitted .y) (fitted .w) (fitted .h)
 
--- a layout that was found, else the one from before
-abbrev pub foundOr : Layout → Option Layout → Layout
-foundOr layout none = layout
-foundOr layout (some candidate) = candidate
-
 -- The controls about the picture replace the layout with no comparison.
 unfoldable pub aroundOf : Layout → Float → Float → Rect → List Rect → Bool → Bool → Layout
 aroundOf layout w h picture cutouts analog psp =
-    foundOr layout (controlsOf w h (largestOf picture (aspectOf psp)) analog psp cutouts)
+    Option·getD (controlsOf w h (largestOf picture (aspectOf psp)) analog psp cutouts) layout
 
 -- ---- KeepClear: a band below the picture, or rails beside it
 
@@ -70,7 +65,7 @@ tryRailsOf layout w h picture cutouts psp =
 -- The band, too, replaces the layout with no comparison.
 unfoldable pub bandOrRailsOf : Layout → Float → Float → Rect → List Rect → Bool → Bool → Layout
 bandOrRailsOf layout w h picture cutouts analog psp =
-    let banded = foundOr layout (controllerBandOf w h analog psp picture) in
+    let banded = Option·getD (controllerBandOf w h analog psp picture) layout in
     cond analog (tryRailsOf banded w h picture cutouts psp) banded
 
 -- ---- the steps; maximum: the fit is Maximum; plain: nothing was saved and no overlap asked for, so that other arrangements may be tried

@@ -2,7 +2,7 @@
 use mathlib.Core.Path.{_≡_, refl}
 use mathlib.Core.Bool.{Bool, true, false, not}
 use mathlib.Core.List.{List}
-use mathlib.Core.Option.{Option}
+use mathlib.Core.Option.{Option, Option·getD}
 use lib.Dec.{T}
 use lib.Ieee.{Float}
 use Rattle.prelude.specs.Booleans.{either}
@@ -11,11 +11,11 @@ use Rattle.layout.specs.declared.Layout.{Layout}
 use Rattle.arranged.specs.Found.{Given, maybe-case}
 use Rattle.band.specs.Band.{controllerBandOf}
 use Rattle.camera_rails.specs.CameraRails.{clearedOf, analogCameraRailsOf}
-use Rattle.chosen.specs.Chosen.{foundOr, railsWinOf, comparedOf, tryRailsOf, bandOrRailsOf, areaOf}
+use Rattle.chosen.specs.Chosen.{railsWinOf, comparedOf, tryRailsOf, bandOrRailsOf, areaOf}
 
 module _ (C : Layout → Type 0) where
-  pub found-case : {l : Layout} (o : Option Layout) → C l → Given C o → C (foundOr l o)
-  found-case {l} o p q = maybe-case (λ o. C (foundOr l o)) o p q
+  pub found-case : {l : Layout} (o : Option Layout) → C l → Given C o → C (Option·getD o l)
+  found-case {l} o p q = maybe-case (λ o. C (Option·getD o l)) o p q
 
 module _ (w h : Float) (picture : Rect) (cutouts : List Rect) (psp : Bool) where
   rails-case : (C : Layout → Type 0) (l : Layout) → C l → C (clearedOf l w h picture cutouts psp) → Given C (analogCameraRailsOf w h picture cutouts psp) → C (tryRailsOf l w h picture cutouts psp)

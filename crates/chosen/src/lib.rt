@@ -1,6 +1,7 @@
 // The first steps of `Preset::layout_in` of input.rs: the layout at first, the area that the game gets and the arrangement for it.
 ghost use mathlib.Core.Path.{_≡_};
 ghost use mathlib.Core.Bool.{true, _||_};
+ghost use mathlib.Core.Option.{Option·getD};
 ghost use Prim.Native.Nat.{_≤_};
 ghost use Rattle.float.specs.Float.{k0};
 ghost use Rattle.layout.specs.Labels.{OfMode};
@@ -8,7 +9,7 @@ ghost use Rattle.layout.specs.Layout.{cutoutList};
 ghost use Rattle.toolbar.specs.Toolbar.{anchorToolbarOf, reusableTopOf};
 ghost use Rattle.arranged.specs.Places.{blankOf};
 ghost use Rattle.band.specs.Band.{controllerBandOf};
-ghost use Rattle.chosen.specs.Chosen.{startOf, belowToolbarOf, largestOf, foundOr, aroundOf, railsWinOf, tryRailsOf, bandOrRailsOf, firstOf, areaOf, arrangementOf};
+ghost use Rattle.chosen.specs.Chosen.{startOf, belowToolbarOf, largestOf, aroundOf, railsWinOf, tryRailsOf, bandOrRailsOf, firstOf, areaOf, arrangementOf};
 use arranged::BLANK;
 use band::aspect;
 use band::controller_band;
@@ -107,7 +108,7 @@ fn try_rails(layout: Layout, w: f32, h: f32, picture: Rect, cutouts: Cutouts, ps
 
 // The band, else the layout.
 fn banded(layout: Layout, w: f32, h: f32, picture: Rect, analog: bool, psp: bool) -> Layout
-    ensures { λ r. ⌜ r ≡ foundOr layout (controllerBandOf w h analog psp picture) ⌝ }
+    ensures { λ r. ⌜ r ≡ Option·getD (controllerBandOf w h analog psp picture) layout ⌝ }
 {
     let candidate = controller_band(w, h, analog, psp, picture);
     if candidate.some {
