@@ -41,7 +41,7 @@ module _ (w h rail face : Float) where
       (g .0, (g .1 .0, refl))
 
   module _ (picture : Rect) (cutouts : List Rect) where
-    pub anchored-formed : (psp : Bool) → OfMode true psp (anchoredRailsOf w h picture cutouts psp rail face)
+    anchored-formed : (psp : Bool) → OfMode true psp (anchoredRailsOf w h picture cutouts psp rail face)
     unfolding anchoredRailsOf anchorToolbarOf
     anchored-formed psp = with-inputs-formed true psp (cameraRailedOf w h rail face) railed-formed
 
@@ -63,7 +63,7 @@ module _ (w h rail face : Float) where
           let ss = f .1 .1 in
           (omega arith, omega arith)
 
-      pub cleared-formed : OfMode true psp (avoidCutoutsOf anchored w h cutouts)
+      cleared-formed : OfMode true psp (avoidCutoutsOf anchored w h cutouts)
       cleared-formed = let n = mode-counts true psp anchored (anchored-formed psp .0) in avoid-formed _ _ w h anchored (n .0) (n .1) cutouts (anchored-formed psp)
 
       pub cleared-counts : (avoidCutoutsOf anchored w h cutouts .count ≤ 12) × (avoidCutoutsOf anchored w h cutouts .stickcount ≤ 2)

@@ -29,7 +29,7 @@ unfolding withSavedOf
 saved-mode analog psp l f w h saved = let n = few analog psp l f in either (OfMode analog psp) (isEmpty saved) f (set-elements-formed _ _ l (n .count) (n .stickcount) _ (length-restored w h saved (elementsOf l)) f)
 
 module _ (w h : Float) (cutouts : List Rect) (picture : Rect) where
-  pub settled-mode : (analog psp : Bool) (l : Layout) → OfMode analog psp l → (saved : List Rect) → OfMode analog psp (settledOf l w h picture cutouts saved)
+  settled-mode : (analog psp : Bool) (l : Layout) → OfMode analog psp l → (saved : List Rect) → OfMode analog psp (settledOf l w h picture cutouts saved)
   unfolding settledOf
   settled-mode analog psp l f saved =
       let restored = withSavedOf l w h saved in
@@ -45,7 +45,7 @@ module _ (p : Preset) (w h : Float) (cutouts : List Rect) (picture : Rect) where
       let settled = settled-mode w h cutouts picture (hasSticks p) (p .psp) _ arranged-mode (savedList p) in
       place-mode (hasSticks p) (p .psp) _ settled (areaFor p w h cutouts picture) (p .overlap || maximumOf p) (p .scale) (p .offset) (aspectOf (p .psp))
 
-  pub laid-out-mode : OfMode (hasSticks p) (p .psp) (laidOutOf p w h cutouts picture)
+  laid-out-mode : OfMode (hasSticks p) (p .psp) (laidOutOf p w h cutouts picture)
   laid-out-mode =
       laid-out-case p w h cutouts picture (OfMode (hasSticks p) (p .psp)) placed-mode (λ t. landscape-formed _ _ _ placed-mode w h (areaFor p w h cutouts picture) (aspectOf (p .psp)))
 
@@ -54,7 +54,7 @@ module _ (p : Preset) (w h : Float) (cutouts : List Rect) (picture : Rect) where
   unfolding layoutInOf
   layout-mode = laid-out-mode p (maxOf w k1) (maxOf h k1) cutouts picture
 
-  pub viewport-mode : (reusable covered : Float) → OfMode (hasSticks p) (p .psp) (viewportLayoutOf p w h picture reusable covered cutouts)
+  viewport-mode : (reusable covered : Float) → OfMode (hasSticks p) (p .psp) (viewportLayoutOf p w h picture reusable covered cutouts)
   unfolding viewportLayoutOf anchorToolbarOf
   viewport-mode reusable covered = either (OfMode (hasSticks p) (p .psp)) (lt k0 covered) layout-mode layout-mode
 
