@@ -2,7 +2,6 @@
 use mathlib.Core.Path.{_≡_, refl, _∙_}
 use mathlib.Core.Bool.{Bool, true}
 use mathlib.Core.List.{List}
-use native.Mathlib.Omega.{arith}
 use lib.Dec.{eqb}
 use lib.Ieee.{Float}
 use lib.ListN.{length}
@@ -12,8 +11,8 @@ use Rattle.geometry.specs.declared.Rect.{Rect}
 use Rattle.layout.specs.declared.Label.{Label}
 use Rattle.layout.specs.declared.Layout.{Layout}
 use Rattle.layout.specs.Actions.{actionElementsOf}
-use Rattle.layout.specs.Labels.{analogLabels, Formed, OfMode}
-use Rattle.layout.specs.LabelLaws.{set-elements-formed, mode-faces, mode-counts}
+use Rattle.layout.specs.Labels.{analogLabels, Formed, Holds, OfMode}
+use Rattle.layout.specs.LabelLaws.{set-elements-formed, mode-faces, mode-counts, mode-holds}
 use Rattle.layout.specs.ActionLaws.{face-count}
 use Rattle.search.specs.Search.{placeGameInAspectOf}
 use Rattle.toolbar.specs.Toolbar.{anchorToolbarOf}
@@ -52,16 +51,8 @@ module _ (w h rail face : Float) where
       pub anchored-faces : length (actionElementsOf anchored) ≡ 4
       anchored-faces = face-count anchored _ (anchored-formed psp .0 .0) ∙ mode-faces true psp
 
-      -- the arrays hold what is counted
-      pub anchored-holds : (anchored .count ≤ length (anchored .controls)) × (anchored .stickcount ≤ length (anchored .sticks))
-      anchored-holds =
-          let f = anchored-formed psp in
-          let n = mode-counts true psp anchored (f .0) in
-          let c = n .0 in
-          let s = n .1 in
-          let cs = f .1 .0 in
-          let ss = f .1 .1 in
-          (omega arith, omega arith)
+      pub anchored-holds : Holds anchored
+      anchored-holds = mode-holds true psp anchored (anchored-formed psp)
 
       cleared-formed : OfMode true psp (avoidCutoutsOf anchored w h cutouts)
       cleared-formed = let n = mode-counts true psp anchored (anchored-formed psp .0) in avoid-formed _ _ w h anchored (n .0) (n .1) cutouts (anchored-formed psp)

@@ -122,7 +122,7 @@ module _ {w h : Float} (W : In w (at 1) (at 8192)) (H : In h (at 1) (at 8192)) w
     camera-bounded cutouts O =
         let holds = anchored-holds w h (cameraRail w h picture cutouts psp) (cameraFace w h picture cutouts psp) picture cutouts psp in
         camera-case w h picture cutouts psp Bounded
-        (λ r f. place-bounded (avoid-bounded (from-zero W) (from-zero H) (cameraLayout w h picture cutouts psp) cutouts (holds .0) (holds .1) (shrunk-bounded (anchored-rails-in cutouts O r f))) picture false k1 centred (aspectOf psp))
+        (λ r f. place-bounded (avoid-bounded (from-zero W) (from-zero H) (cameraLayout w h picture cutouts psp) cutouts (holds .controls) (holds .sticks) (shrunk-bounded (anchored-rails-in cutouts O r f))) picture false k1 centred (aspectOf psp))
 
     -- with no cutouts no element moves
     pub camera-in : Given Shrunk (analogCameraRailsOf w h picture [] psp)

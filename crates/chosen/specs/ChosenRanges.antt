@@ -1,17 +1,15 @@
 -- Every arrangement that may be chosen is in range, on screens up to 8192 by 8192.
 use mathlib.Core.Bool.{Bool, true, false, not}
 use mathlib.Core.List.{List, []}
-use Prim.Native.Nat.{_≤_, _<_}
-use native.Mathlib.Omega.{arith}
 use lib.Dec.{T}
 use lib.Ieee.{Float}
-use lib.ListN.{length}
 use Rattle.prelude.specs.Booleans.{either}
 use Rattle.prelude.specs.Each.{Each}
 use Rattle.float.specs.Float.{k1}
 use Rattle.geometry.specs.declared.Rect.{Rect}
 use Rattle.layout.specs.declared.Layout.{Layout}
-use Rattle.layout.specs.Labels.{OfMode}
+use Rattle.layout.specs.Labels.{Holds, OfMode}
+use Rattle.layout.specs.LabelLaws.{mode-holds}
 use Rattle.numerics.specs.Rects.{Element, Area}
 use Rattle.numerics.specs.Range.{In, at}
 use Rattle.numerics.specs.Ranges.{from-zero, area-side}
@@ -30,22 +28,7 @@ use Rattle.camera_rails.specs.CameraRanges.{camera-bounded, camera-in}
 use Rattle.picture.specs.PictureRanges.{controls-in}
 use Rattle.chosen.specs.Chosen.{startOf, aroundOf, bandOrRailsOf, firstOf, areaOf, arrangementOf}
 use Rattle.chosen.specs.ChosenCases.{found-case, band-or-rails-case}
-use Rattle.chosen.specs.ChosenLabels.{few}
 use Rattle.chosen.specs.MaximumRanges.{largest-in, below-toolbar-in}
-
--- a layout's arrays hold what is counted
-pub record Holds (l : Layout) : Type 0 where
-  pub controls : l .count ≤ length (l .controls)
-  pub sticks : l .stickcount ≤ length (l .sticks)
-  pub stick : 0 < length (l .sticks)
-
-pub holds : (analog psp : Bool) (l : Layout) → OfMode analog psp l → Holds l
-holds analog psp l f =
-    let n = few analog psp l f .count in
-    let m = few analog psp l f .stickcount in
-    let cs = f .1 .0 in
-    let ss = f .1 .1 in
-    record { controls = omega arith; sticks = omega arith; stick = omega arith }
 
 module _ {w h : Float} (W : In w (at 1) (at 8192)) (H : In h (at 1) (at 8192)) where
   pub avoid-in : (cutouts : List Rect) (l : Layout) → Holds l → Bounded l → Bounded (avoidCutoutsOf l w h cutouts)
@@ -67,7 +50,7 @@ module _ {w h : Float} (W : In w (at 1) (at 8192)) (H : In h (at 1) (at 8192)) w
         band-or-rails-bounded : Bounded (bandOrRailsOf first w h picture cutouts analog psp)
         band-or-rails-bounded =
             band-or-rails-case w h picture cutouts psp Bounded (λ m. Shrunk m × OfMode analog psp m) (λ m d. shrunk-bounded (d .0))
-            (λ m d. place-bounded (avoid-in cutouts m (holds analog psp m (d .1)) (shrunk-bounded (d .0))) picture false k1 centred (aspectOf psp)) analog (F, f)
+            (λ m d. place-bounded (avoid-in cutouts m (mode-holds analog psp m (d .1)) (shrunk-bounded (d .0))) picture false k1 centred (aspectOf psp)) analog (F, f)
             (λ m e. (arranged-shrunk (band-in analog psp (from-zero W) (from-zero H) A m e), band-formed w h analog psp picture m e)) (λ t. camera-bounded W H A psp cutouts O)
 
         pub arrangement-bounded : (maximum plain : Bool) → Bounded (arrangementOf maximum plain first w h (areaOf maximum first picture) cutouts analog psp)

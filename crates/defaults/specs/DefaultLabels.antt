@@ -2,7 +2,6 @@
 use mathlib.Core.Bool.{true, false, _||_}
 use mathlib.Core.List.{List, []}
 use Prim.Native.Nat.{ℕ, _≤_}
-use native.Mathlib.Omega.{arith}
 use lib.Ieee.{Float, ne}
 use lib.ListN.{length-map}
 use Rattle.prelude.specs.Booleans.{either}
@@ -14,7 +13,7 @@ use Rattle.layout.specs.declared.Label.{Label}
 use Rattle.layout.specs.declared.Layout.{Layout}
 use Rattle.layout.specs.Layout.{elementsOf}
 use Rattle.layout.specs.Labels.{standardLabels, analogLabels, pspLabels, Formed}
-use Rattle.layout.specs.LabelLaws.{set-elements-formed}
+use Rattle.layout.specs.LabelLaws.{set-elements-formed, mode-counts}
 use Rattle.search.specs.Search.{placeGameInAspectOf}
 use Rattle.arranged.specs.Arranged.{arrangedOf, sideRailsOf}
 use Rattle.arranged.specs.ArrangedLabels.{placed-formed, finished-formed, arranged-formed, side-rails-formed}
@@ -52,10 +51,9 @@ module _ (w h : Float) where
       let full = size (maxOf w k360) (maxOf h k360) in
       let layout = analogFullOf (full .w) (full .h) in
       let f = full-formed (full .w) (full .h) in
-      let c = f .0 .1 in
-      let s = f .0 .2 in
+      let n = mode-counts true false layout (f .0) in
       band-case (Formed analogLabels 2) w h true (newOf k0 k0 w h)
-      (finished-formed analogLabels 2 (shrunkOf layout (size w h) full) w h (shrunk-formed analogLabels 2 layout f (omega arith) (omega arith) (size w h) full))
+      (finished-formed analogLabels 2 (shrunkOf layout (size w h) full) w h (shrunk-formed analogLabels 2 layout f (n .0) (n .1) (size w h) full))
       (band-formed w h true false (newOf k0 k0 w h))
 
   pub psp-formed : Formed pspLabels 1 (pspOf w h)

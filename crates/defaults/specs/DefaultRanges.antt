@@ -2,7 +2,6 @@
 use mathlib.Core.Bool.{true, false, _||_}
 use mathlib.Core.List.{List, []}
 use Prim.Native.Nat.{_≤_}
-use native.Mathlib.Omega.{arith}
 use lib.Ieee.{Float, lt, ne}
 use lib.ListN.{length}
 use Rattle.prelude.specs.Booleans.{either}
@@ -12,6 +11,7 @@ use Rattle.float.specs.MinMax.{maxOf}
 use Rattle.geometry.specs.declared.Rect.{Rect}
 use Rattle.geometry.specs.Rect.{newOf}
 use Rattle.layout.specs.declared.Layout.{Layout}
+use Rattle.layout.specs.LabelLaws.{mode-holds}
 use Rattle.numerics.specs.Rects.{Element, maxArea, Area, OnScreen, Key, margin}
 use Rattle.numerics.specs.Range.{In, at}
 use Rattle.numerics.specs.Bounds.{most-more, max-law, zero-most}
@@ -149,12 +149,8 @@ module _ {w h : Float} (W : In w (at 1) (at 8192)) (H : In h (at 1) (at 8192)) w
   analog-in =
       let full = size (maxOf w k360) (maxOf h k360) in
       let layout = analogFullOf (full .w) (full .h) in
-      let f = full-formed (full .w) (full .h) in
-      let c = f .0 .1 in
-      let s = f .0 .2 in
-      let cs = f .1 .0 in
-      let ss = f .1 .1 in
-      let shrunk = shrunk-layout-in layout {requested = size w h} {full = full} (shrinks W) (shrinks H) (omega arith) (omega arith) (full-in (shrinks W .full) (shrinks H .full)) in
+      let k = mode-holds true false layout (full-formed (full .w) (full .h)) in
+      let shrunk = shrunk-layout-in layout {requested = size w h} {full = full} (shrinks W) (shrinks H) (k .controls) (k .sticks) (full-in (shrinks W .full) (shrinks H .full)) in
       band-case Shrunk w h true (newOf k0 k0 w h) (anchored-shrunk (finished-in (shrunkOf layout (size w h) full) (from-zero W) (from-zero H) shrunk)) (λ band e. arranged-shrunk (band-in true false (from-zero W) (from-zero H) (screen-area W H) band e))
 
   pub psp-default-in : Shrunk (pspOf w h)

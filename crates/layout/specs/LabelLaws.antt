@@ -1,4 +1,4 @@
--- Changes of a layout and what they leave of its labels, counts and arrays: its controls changed in place, new rectangles for its elements, the inputs of a psp. Faces and counts of each mode.
+-- Changes of a layout and what they leave of its labels, counts and arrays: its controls changed in place, new rectangles for its elements, the inputs of a psp. Of each mode: faces, counts, arrays.
 use mathlib.Core.Path.{_≡_, refl, ap, sym, _∙_}
 use mathlib.Core.Bool.{Bool, true, false}
 use mathlib.Core.List.{List, map, map-map, zipWith}
@@ -14,7 +14,7 @@ use Rattle.layout.specs.declared.Label.{Label}
 use Rattle.layout.specs.declared.Layout.{Layout}
 use Rattle.layout.specs.Label.{isFaceOf, onPspOf}
 use Rattle.layout.specs.Layout.{withBounds, withControls, controlList, elementCountOf, elementsOf}
-use Rattle.layout.specs.Labels.{labelsOf, pspLabels, Inputs, Formed, modeLabels, modeSticks}
+use Rattle.layout.specs.Labels.{labelsOf, pspLabels, Inputs, Formed, Holds, modeLabels, modeSticks, OfMode}
 use Rattle.layout.specs.Elements.{setElementsOf}
 use Rattle.layout.specs.ElementLaws.{length-elements}
 use Rattle.layout.specs.SetElementLaws.{set-elements-kept}
@@ -73,3 +73,12 @@ mode-counts true true l i = let n = i .1 in let s = i .2 in (omega arith, omega 
 mode-counts true false l i = let n = i .1 in let s = i .2 in (omega arith, omega arith)
 mode-counts false true l i = let n = i .1 in let s = i .2 in (omega arith, omega arith)
 mode-counts false false l i = let n = i .1 in let s = i .2 in (omega arith, omega arith)
+
+pub mode-holds : (analog psp : Bool) (l : Layout) → OfMode analog psp l → Holds l
+mode-holds analog psp l f =
+    let n = mode-counts analog psp l (f .0) in
+    let c = n .0 in
+    let s = n .1 in
+    let cs = f .1 .0 in
+    let ss = f .1 .1 in
+    record { controls = omega arith; sticks = omega arith; stick = omega arith }

@@ -2,7 +2,7 @@
 use mathlib.Core.Path.{_≡_}
 use mathlib.Core.Bool.{Bool, cond}
 use mathlib.Core.List.{List, [], _∷_, _++_, map}
-use Prim.Native.Nat.{ℕ}
+use Prim.Native.Nat.{ℕ, _≤_, _<_}
 use lib.ListN.{length}
 use Rattle.layout.specs.declared.Label.{Label}
 use Rattle.layout.specs.declared.Label.the-variants.{Tri, O, X, Sq, L1, L2, R2, R1, Select, Start, L3, R3}
@@ -34,6 +34,12 @@ Arrays l = (length (l .controls) ≡ 12) × (length (l .sticks) ≡ 2)
 -- these labels, so many sticks, and the arrays
 abbrev pub Formed : List Label → ℕ → Layout → Type 0
 Formed labels sticks l = Inputs labels sticks l × Arrays l
+
+-- the arrays hold what is counted, and a stick
+pub record Holds (l : Layout) : Type 0 where
+  pub controls : l .count ≤ length (l .controls)
+  pub sticks : l .stickcount ≤ length (l .sticks)
+  pub stick : 0 < length (l .sticks)
 
 -- what a mode has: controls with sticks or without, and of those what a psp has
 abbrev pub modeLabels : Bool → Bool → List Label

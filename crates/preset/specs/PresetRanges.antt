@@ -10,7 +10,8 @@ use Rattle.prelude.specs.ListLaws.{not-empty}
 use Rattle.float.specs.Float.{k0}
 use Rattle.geometry.specs.declared.Rect.{Rect}
 use Rattle.layout.specs.declared.Layout.{Layout}
-use Rattle.layout.specs.Labels.{OfMode}
+use Rattle.layout.specs.Labels.{Holds, OfMode}
+use Rattle.layout.specs.LabelLaws.{mode-holds}
 use Rattle.layout.specs.Layout.{cutoutList}
 use Rattle.numerics.specs.Value.{Whole}
 use Rattle.numerics.specs.Rects.{Element, Area, OnScreen, Key, margin}
@@ -37,7 +38,7 @@ use Rattle.chosen.specs.Chosen.{areaOf}
 use Rattle.chosen.specs.ChosenCases.{whole-area}
 use Rattle.chosen.specs.ChosenLabels.{anchor-mode, first-mode}
 use Rattle.chosen.specs.MaximumRanges.{shape, lowered-game-in, below-toolbar-in}
-use Rattle.chosen.specs.ChosenRanges.{Holds, holds, avoid-in, first-in, arrangement-bounded, arrangement-in}
+use Rattle.chosen.specs.ChosenRanges.{avoid-in, first-in, arrangement-bounded, arrangement-in}
 use Rattle.preset.specs.Preset.{settledOf, maximumOf, plainOf, hasSticks, rowAllowedOf, laidOutOf, layoutInOf, viewportLayoutOf, settingsLayoutOf}
 use Rattle.preset.specs.PresetCases.{firstFor, settledFor, placedFor, laid-out-case, RowAllowed, row-allowed}
 use Rattle.preset.specs.PresetLabels.{saved-mode, arranged-mode, placed-mode, layout-mode}
@@ -51,8 +52,8 @@ module _ {w h : Float} (W : In w (at 1) (at 8192)) (H : In h (at 1) (at 8192)) {
   unfolding settledOf
   settled-bounded cutouts O analog psp l f L saved =
       let restored = withSavedOf l w h saved in
-      let J = holds analog psp l f in
-      let K = holds analog psp restored (saved-mode analog psp l f w h saved) in
+      let J = mode-holds analog psp l f in
+      let K = mode-holds analog psp restored (saved-mode analog psp l f w h saved) in
       keys-in (anchored-in _ cutouts (from-zero W) (from-zero H) (reusable-in A) O (avoid-in W H cutouts restored K (saved-bounded W H l (J .controls) (J .sticks) L saved)))
 
   -- ---- with no cutouts and nothing saved no element moves
@@ -78,7 +79,7 @@ module _ {w h : Float} (W : In w (at 1) (at 8192)) (H : In h (at 1) (at 8192)) {
         settled-bounded cutouts O (hasSticks p) (p .psp) _ (arranged-mode p w h cutouts picture) (arrangement-bounded W H A cutouts O (hasSticks p) (p .psp) first F f (maximumOf p) (plainOf p)) (savedList p)
 
     pub placed-holds : Holds (placedFor p w h cutouts picture)
-    placed-holds = holds (hasSticks p) (p .psp) (placedFor p w h cutouts picture) (placed-mode p w h cutouts picture)
+    placed-holds = mode-holds (hasSticks p) (p .psp) (placedFor p w h cutouts picture) (placed-mode p w h cutouts picture)
 
     laid-out-bounded : Bounded (laidOutOf p w h cutouts picture)
     laid-out-bounded =
@@ -112,7 +113,7 @@ module _ (p : Preset) {w h : Float} (W : In w (at 0) (at 8192)) (H : In h (at 0)
   viewport-bounded {reusable} {covered} R C =
       let l = layoutInOf p w h cutouts picture in
       let anchored = anchorToolbarOf l w h reusable k0 cutouts in
-      let K = holds (hasSticks p) (p .psp) anchored (anchor-mode (hasSticks p) (p .psp) l (layout-mode p w h cutouts picture) w h reusable k0 cutouts) in
+      let K = mode-holds (hasSticks p) (p .psp) anchored (anchor-mode (hasSticks p) (p .psp) l (layout-mode p w h cutouts picture) w h reusable k0 cutouts) in
       let L = keys-in (anchored-in l cutouts W H R O layout-bounded) in
       either Bounded (lt k0 covered) (keys-in (anchor-in anchored cutouts W H R C (avoided-in anchored covered cutouts (K .controls) (K .sticks) L O) L)) L
 
