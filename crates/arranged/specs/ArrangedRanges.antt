@@ -16,7 +16,7 @@ use Rattle.numerics.specs.Ranges.{in-more, most-in, add-in, sub-in, mul-in, tim
 use Rattle.numerics.specs.Literals.{lit, f0·4, f2, f3, f4}
 use Rattle.search.specs.Bounded.{Every, Arranged}
 use Rattle.search.proofs.Layouts.{place-bounded}
-use Rattle.search.proofs.Changes.{dpad-in}
+use Rattle.search.specs.Changes.{dpad-in}
 use Rattle.search.specs.Search.{centred}
 use Rattle.toolbar.specs.ToolbarRanges.{anchored-in}
 use Rattle.arranged.specs.declared.Wells.{Wells}

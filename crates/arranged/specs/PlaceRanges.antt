@@ -15,7 +15,7 @@ use Rattle.numerics.specs.Range.{In, at, minus}
 use Rattle.numerics.specs.Ranges.{in-more, add-in, sub-in, div-in, inside, in-wide, placed-in}
 use Rattle.numerics.specs.Literals.{lit, i4√2, f1√2, f2}
 use Rattle.search.specs.Bounded.{Every}
-use Rattle.search.proofs.Changes.{controls-in}
+use Rattle.search.specs.Changes.{controls-in}
 use Rattle.arranged.specs.declared.Faces.{Faces}
 use Rattle.arranged.specs.declared.Places.{Places}
 use Rattle.arranged.specs.Places.{placeFacesOf, wellFacesOf, atOf, controllerOf, moved, placedOf}

@@ -18,7 +18,7 @@ use Rattle.numerics.specs.Products.{scaled-in}
 use Rattle.numerics.specs.Literals.{lit, f0·75, f2, f4, f52, psp-high}
 use Rattle.search.specs.Bounded.{Every, Arranged}
 use Rattle.search.proofs.Layouts.{place-bounded}
-use Rattle.search.proofs.Changes.{dpad-in, psp-in}
+use Rattle.search.specs.Changes.{dpad-in, psp-in}
 use Rattle.search.specs.Search.{centred}
 use Rattle.toolbar.specs.ToolbarRanges.{anchored-in, reusable-in}
 use Rattle.arranged.specs.Places.{control}

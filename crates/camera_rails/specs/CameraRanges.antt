@@ -20,7 +20,7 @@ use Rattle.numerics.specs.Literals.{lit, f2, f3, f4, psp-wide}
 use Rattle.numerics.specs.Shrunk.{signed-in, placed-shrunk}
 use Rattle.search.specs.Bounded.{Bounded, Shrunk}
 use Rattle.search.proofs.Layouts.{place-bounded}
-use Rattle.search.proofs.Changes.{shrunk-bounded, anchored-shrunk, dpad-in, sticks-in, psp-in}
+use Rattle.search.specs.Changes.{shrunk-bounded, anchored-shrunk, dpad-in, sticks-in, psp-in}
 use Rattle.search.specs.Search.{centred}
 use Rattle.toolbar.specs.ToolbarRanges.{anchored-in, reusable-in}
 use Rattle.arranged.specs.Found.{Given}

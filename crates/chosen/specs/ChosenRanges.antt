@@ -14,7 +14,7 @@ use Rattle.numerics.specs.Rects.{Element, Area}
 use Rattle.numerics.specs.Range.{In, at}
 use Rattle.numerics.specs.Ranges.{from-zero, area-side}
 use Rattle.search.specs.Bounded.{Bounded, Shrunk}
-use Rattle.search.proofs.Changes.{shrunk-bounded, arranged-shrunk, anchored-shrunk}
+use Rattle.search.specs.Changes.{shrunk-bounded, arranged-shrunk, anchored-shrunk}
 use Rattle.search.proofs.Layouts.{place-bounded}
 use Rattle.search.specs.Search.{centred}
 use Rattle.toolbar.specs.ToolbarRanges.{anchored-in, reusable-in}

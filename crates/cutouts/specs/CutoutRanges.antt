@@ -30,7 +30,7 @@ use Rattle.numerics.specs.Ranges.{add-in, most-in, moved-in, range-most, tested
 use Rattle.numerics.specs.Literals.{lit}
 use Rattle.search.specs.Bounded.{Bounded}
 use Rattle.search.proofs.Layouts.{elements-in}
-use Rattle.search.proofs.Changes.{set-elements-in}
+use Rattle.search.specs.Changes.{set-elements-in}
 use Rattle.cutouts.specs.Cutouts.{withAreaOf, avoidCutoutsOf}
 use Rattle.cutouts.specs.Settled.{Settled, AllSettled, none, next}
 use Rattle.cutouts.specs.CutoutLaws.{after, all-after, length-after}

@@ -20,7 +20,7 @@ use Rattle.numerics.specs.Literals.{lit, f2}
 use Rattle.numerics.specs.Shrunk.{Shrinks, shrunkMargin, shrunk-placed, placed-shrunk}
 use Rattle.search.specs.Bounded.{Arranged, Shrunk}
 use Rattle.search.proofs.Layouts.{place-bounded}
-use Rattle.search.proofs.Changes.{arranged-shrunk, anchored-shrunk, dpad-in, psp-in, map-elements-in}
+use Rattle.search.specs.Changes.{arranged-shrunk, anchored-shrunk, dpad-in, psp-in, map-elements-in}
 use Rattle.search.specs.Search.{centred}
 use Rattle.arranged.specs.PlaceRanges.{Coordinate, coordinate, FacesIn, well-faces-in, PlacesIn, controls-placed}
 use Rattle.arranged.specs.ArrangedRanges.{finished-in, arranged-in, side-rails-in}

@@ -30,7 +30,7 @@ use Rattle.numerics.specs.Literals.{lit, i0·5, f2}
 use Rattle.numerics.specs.Shrunk.{shrunkMargin}
 use Rattle.search.specs.Bounded.{Every, Bounded, BoundedGame}
 use Rattle.search.specs.Widest.{WidestGame}
-use Rattle.search.proofs.Changes.{every-imp, dpad-in, controls-in, sticks-in}
+use Rattle.search.specs.Changes.{every-imp, dpad-in, controls-in, sticks-in}
 use Rattle.search.proofs.Layouts.{place-bounded, place-game-in, place-widest}
 use Rattle.search.proofs.Shapes.{Shape}
 use Rattle.search.specs.Search.{centred}

@@ -19,7 +19,7 @@ use Rattle.numerics.specs.Bounds.{add-most}
 use Rattle.numerics.specs.Ranges.{in-more, add-in, sub-in, times-in, div-in, min-in, max-in, clamp-in, clamp-whole-in, cond-in, neg-in, not-below, range-most, from-zero, element-in}
 use Rattle.numerics.specs.Literals.{lit, i4√2, f1√2, f2, f3, f4}
 use Rattle.search.specs.Bounded.{Bounded, BoundedGame}
-use Rattle.search.proofs.Changes.{shrunk-bounded, arranged-bounded, dpad-in, sticks-in}
+use Rattle.search.specs.Changes.{shrunk-bounded, arranged-bounded, dpad-in, sticks-in}
 use Rattle.arranged.specs.declared.Places.{Places}
 use Rattle.arranged.specs.Places.{capOf, atOf}
 use Rattle.arranged.specs.Found.{Given}

@@ -21,7 +21,7 @@ use Rattle.numerics.specs.Literals.{lit}
 use Rattle.numerics.specs.Shrunk.{shrunkMargin}
 use Rattle.search.specs.Bounded.{Every, Bounded, Shrunk, BoundedGame}
 use Rattle.search.specs.Search.{placeGameInAspectOf}
-use Rattle.search.proofs.Changes.{every-imp}
+use Rattle.search.specs.Changes.{every-imp}
 use Rattle.search.proofs.Layouts.{place-bounded, place-game-in}
 use Rattle.settings.specs.declared.Preset.{Preset}
 use Rattle.settings.specs.declared.Settings.{Settings}

@@ -21,7 +21,7 @@ use Rattle.numerics.specs.Operations.{whole-finite}
 use Rattle.numerics.specs.Ranges.{sub-in, min-in, element-in, saved-in}
 use Rattle.numerics.specs.Literals.{lit}
 use Rattle.search.specs.Bounded.{Bounded}
-use Rattle.search.proofs.Changes.{set-elements-in}
+use Rattle.search.specs.Changes.{set-elements-in}
 use Rattle.search.proofs.Layouts.{elements-in}
 use Rattle.saved.specs.Saved.{isFiniteOf, usableOf, onScreenOf, restoreOf, restoredOf, withSavedOf}
 use Rattle.saved.specs.SavedLaws.{length-restored}

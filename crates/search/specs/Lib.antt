@@ -1,3 +1,4 @@
 pub mod Search
 pub mod Widest
 pub mod Bounded
+pub mod Changes
