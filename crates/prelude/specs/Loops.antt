@@ -114,10 +114,6 @@ module _ {A : Type 0} (g : A → A) where
   mapFirst-suc (suc i) [] d = refl
   mapFirst-suc (suc i) (x ∷ xs) d = ap (λ (t : List A). g x ∷ t) (mapFirst-suc i xs d)
 
-  -- one turn: out holds the list with i elements done, and v is g of its element at i
-  pub mapFirst-step : (i : ℕ) (xs out : List A) (v d : A) → out ≡ mapFirst g i xs → v ≡ g (getD out i d) → set out i v ≡ mapFirst g (i + 1) xs
-  mapFirst-step i xs out v d o e = rw (e, o, add-one) (mapFirst-suc i xs d)
-
-  -- such a turn keeps Done
+  -- one turn, in which v is g of the element at i
   pub changes : (xs : List A) (d : A) {out : List A} {n k i : ℕ} {v : A} → Done (λ j. mapFirst g j xs) n k out i → i < n → v ≡ g (getD out i d) → Done (λ j. mapFirst g j xs) n k (set out i v) (i + 1)
-  changes xs d {out} {i = i} {v} r h e = does v r h (mapFirst-step i xs out v d (r .is) e)
+  changes xs d {i = i} {v} r h e = does v r h (rw (e, r .is, add-one) (mapFirst-suc i xs d))

@@ -49,11 +49,7 @@ module _ {A : Type 0} where
   two (x ∷ y ∷ z ∷ l) d e = absurd (let z : ⊥ = omega arith in z)
 
   -- a turn of a loop that replaces the first elements
-  pub replaceFirst-next : (new old out : List A) (i : ℕ) (d : A) {v : A} → i < length new → i < length old → out ≡ replaceFirst i new old → v ≡ getD new i d → set out i v ≡ replaceFirst (i + 1) new old
-  replaceFirst-next new old out i d h k p q =
-      rw (p, q, add-one, take-suc new i d h, append-snoc, drop-cons old i d k) (set-at (take i new) (getD old i d) (drop (suc i) old) (getD new i d) i (length-take-le i new (omega arith)))
-
-  -- such a turn keeps Done
   pub replaces : (new old : List A) (d : A) {out : List A} {n k i : ℕ} {v : A} → Done (λ j. replaceFirst j new old) n k out i → i < n → i < length new → i < length old → v ≡ getD new i d
       → Done (λ j. replaceFirst j new old) n k (set out i v) (i + 1)
-  replaces new old d {out} {i = i} {v} r h a b e = does v r h (replaceFirst-next new old out i d a b (r .is) e)
+  replaces new old d {i = i} {v} r h a b e =
+      does v r h (rw (r .is, e, add-one, take-suc new i d a, append-snoc, drop-cons old i d b) (set-at (take i new) (getD old i d) (drop (suc i) old) (getD new i d) i (length-take-le i new (omega arith))))
