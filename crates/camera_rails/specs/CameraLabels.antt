@@ -2,17 +2,14 @@
 use mathlib.Core.Path.{_≡_, refl, _∙_}
 use mathlib.Core.Bool.{Bool, true}
 use mathlib.Core.List.{List}
-use lib.Dec.{eqb}
 use lib.Ieee.{Float}
 use lib.ListN.{length}
-use Prim.Native.Nat.{ℕ, _≤_}
-use Rattle.prelude.specs.Booleans.{either}
+use Prim.Native.Nat.{_≤_}
 use Rattle.geometry.specs.declared.Rect.{Rect}
-use Rattle.layout.specs.declared.Label.{Label}
 use Rattle.layout.specs.declared.Layout.{Layout}
 use Rattle.layout.specs.Actions.{actionElementsOf}
 use Rattle.layout.specs.Labels.{analogLabels, Formed, Holds, OfMode}
-use Rattle.layout.specs.LabelLaws.{set-elements-formed, mode-faces, mode-counts, mode-holds}
+use Rattle.layout.specs.LabelLaws.{mode-faces, mode-counts, mode-holds}
 use Rattle.layout.specs.ActionLaws.{face-count}
 use Rattle.search.specs.Search.{placeGameInAspectOf}
 use Rattle.toolbar.specs.Toolbar.{anchorToolbarOf}
@@ -21,16 +18,10 @@ use Rattle.arranged.specs.ArrangedLabels.{placed-formed}
 use Rattle.band.specs.BandLabels.{with-inputs-formed}
 use Rattle.defaults.specs.Defaults.{analogDefaultOf}
 use Rattle.defaults.specs.DefaultLabels.{analog-formed}
-use Rattle.cutouts.specs.Cutouts.{withAreaOf, avoidCutoutsOf}
-use Rattle.cutouts.specs.CutoutLaws.{length-after}
+use Rattle.cutouts.specs.Cutouts.{avoidCutoutsOf}
+use Rattle.cutouts.specs.CutoutLaws.{avoid-formed}
 use Rattle.camera_rails.specs.CameraRails.{cameraPlacesOf, cameraRailedOf, anchoredRailsOf, analogCameraRailsOf}
 use Rattle.camera_rails.specs.CameraCases.{cameraRail, cameraFace, camera-case}
-
--- the cutout pass keeps labels, counts and arrays
-pub avoid-formed : (labels : List Label) (sticks : ℕ) (w h : Float) (l : Layout) → l .count ≤ 12 → l .stickcount ≤ 2 → (cutouts : List Rect) → Formed labels sticks l → Formed labels sticks (avoidCutoutsOf l w h cutouts)
-unfolding avoidCutoutsOf
-avoid-formed labels sticks w h l cs ss cutouts f =
-    either (Formed labels sticks) (eqb (length (withAreaOf cutouts)) 0) f (set-elements-formed labels sticks l cs ss _ (length-after w h l cutouts) f)
 
 module _ (w h rail face : Float) where
   railed-formed : Formed analogLabels 2 (cameraRailedOf w h rail face)

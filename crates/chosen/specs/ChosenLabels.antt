@@ -22,7 +22,8 @@ use Rattle.band.specs.Band.{aspectOf}
 use Rattle.band.specs.BandLabels.{band-formed}
 use Rattle.defaults.specs.DefaultLabels.{default-formed, analog-formed, psp-formed}
 use Rattle.cutouts.specs.Cutouts.{avoidCutoutsOf}
-use Rattle.camera_rails.specs.CameraLabels.{avoid-formed, camera-rails-formed}
+use Rattle.cutouts.specs.CutoutLaws.{avoid-formed}
+use Rattle.camera_rails.specs.CameraLabels.{camera-rails-formed}
 use Rattle.picture.specs.PictureLabels.{controls-formed}
 use Rattle.chosen.specs.Chosen.{startOf, largestOf, aroundOf, bandOrRailsOf, firstOf, arrangementOf}
 use Rattle.chosen.specs.ChosenCases.{found-case, band-or-rails-case}

@@ -1,10 +1,11 @@
--- Laws of the cutout pass: each element stays, or lies on the screen in its old size.
+-- Laws of the cutout pass: each element stays, or lies on the screen in its old size; labels, counts and arrays stay.
 use mathlib.Core.Path.{_≡_, refl, ap, _∙_}
 use mathlib.Core.Bool.{true}
 use mathlib.Core.List.{List, [], _∷_, foldl}
 use mathlib.Core.Logic.{_⊎_, inl, inr}
-use Prim.Native.Nat.{ℕ, zero, suc}
+use Prim.Native.Nat.{ℕ, zero, suc, _≤_}
 use native.Mathlib.Omega.{arith}
+use lib.Dec.{eqb}
 use lib.Ieee.{Float, binary32}
 use lib.Ieee.Fits.{add-fits}
 use lib.ListN.{length, getD, set}
@@ -14,13 +15,16 @@ use Rattle.prelude.specs.ListLaws.{find-passes}
 use Rattle.prelude.specs.EachLaws.{fold-keeps}
 use Rattle.geometry.specs.declared.Rect.{Rect}
 use Rattle.geometry.specs.Rect.{insideOf}
+use Rattle.layout.specs.declared.Label.{Label}
 use Rattle.layout.specs.declared.Layout.{Layout}
 use Rattle.layout.specs.Actions.{actionElementsOf}
 use Rattle.layout.specs.Layout.{anyRect, elementsOf}
+use Rattle.layout.specs.Labels.{Formed}
+use Rattle.layout.specs.LabelLaws.{set-elements-formed}
 use Rattle.moves.specs.declared.Move.{Move}
 use Rattle.moves.specs.declared.Move.the-variants.{Stay, Go}
 use Rattle.moves.specs.Moves.{movedOf, clearOf, allClearOf, candidatesOf, orderedOf, searchOf}
-use Rattle.cutouts.specs.Cutouts.{withAreaOf, membersOf, othersOf, hitsOf, shiftOf, settleOf, singlesOf, avoidOf}
+use Rattle.cutouts.specs.Cutouts.{withAreaOf, membersOf, othersOf, hitsOf, shiftOf, settleOf, singlesOf, avoidOf, avoidCutoutsOf}
 use Rattle.cutouts.specs.Settled.{Settled, AllSettled, none, next}
 
 module _ {w h : Float} where
@@ -85,3 +89,9 @@ module _ (w h : Float) where
 
     pub length-after : length after ≡ length (elementsOf l)
     length-after = all-length all-after
+
+-- the cutout pass keeps labels, counts and arrays
+pub avoid-formed : (labels : List Label) (sticks : ℕ) (w h : Float) (l : Layout) → l .count ≤ 12 → l .stickcount ≤ 2 → (cutouts : List Rect) → Formed labels sticks l → Formed labels sticks (avoidCutoutsOf l w h cutouts)
+unfolding avoidCutoutsOf
+avoid-formed labels sticks w h l cs ss cutouts f =
+    either (Formed labels sticks) (eqb (length (withAreaOf cutouts)) 0) f (set-elements-formed labels sticks l cs ss _ (length-after w h l cutouts) f)
