@@ -94,8 +94,8 @@ pub fn write_layout(l: Layout, out: &mut [u8]) -> Written
     let elements = l.elements();
     let n = 16 * elements.count;
     let m = 2 * count;
-    // Three heads of 3 bytes and the game's 16 make 25.
-    if out.len() < 25 + n + m {
+    let length = 25 + n + m; // Three heads of 3 bytes and the game's 16 make 25.
+    if out.len() < length {
         return Written::TooSmall;
     }
     put_head(out, 0, 1, 16);
@@ -104,5 +104,5 @@ pub fn write_layout(l: Layout, out: &mut [u8]) -> Written
     put_rects(out, 22, elements);
     put_head(out, 22 + n, 3, m);
     put_masks(out, 25 + n, controls, count);
-    Written::Bytes(25 + n + m)
+    Written::Bytes(length)
 }
