@@ -14,7 +14,7 @@ use Rattle.search.specs.Bounded.{Bounded, BoundedGame}
 use Rattle.writer.proofs.Stores.{stored-all}
 use Rattle.lines.specs.Line.{Line, lineOf, lineText, headText, putOf}
 use Rattle.sheet.specs.Sheet.{controlLine, toolbarLines, stickLines, linesOf, linesText, film, refusal, sheetText, refusedText, layoutSheetOf, refusedSheetOf, gameName, dpadName, pauseName, playName, speedName, muteName, leftName, rightName, zeros, pageOf}
-use Rattle.sheet.specs.SheetLaws.{head-fits, refused-fits, line-count, lines-fit, sheet-fits}
+use Rattle.sheet.specs.SheetLaws.{refused-fits, sheet-fits}
 
 lines-append : (xs ys : List Line) → linesText (xs ++ ys) ≡ linesText xs ++ linesText ys
 unfolding flatMap
@@ -73,13 +73,14 @@ pub refused-is : {out : List ℕ} {len : ℕ} (n : ℕ) → n ≤ 8 → (out, le
 unfolding refusedSheetOf refusedText
 refused-is n h p = page-is _ p (omega (arith, refused-fits n h))
 
-module _ (l : Layout) (twelve : l .count ≤ 12) (two : l .stickcount ≤ 2) (b : Bounded l) (g : BoundedGame (l .game)) where
-  pub sheet-room : length (headText film (l .count + l .stickcount + 6)) + (length (lineText (lineOf gameName (l .game))) + (length (lineText (lineOf dpadName (l .dpad)))
+module _ (l : Layout) (twelve : l .count ≤ 12) (two : l .stickcount ≤ 2) (b : Bounded l) (g : BoundedGame (l .game)) {n : ℕ} (lines : n ≡ length (linesOf l)) where
+  pub sheet-room : length (headText film n) + (length (lineText (lineOf gameName (l .game))) + (length (lineText (lineOf dpadName (l .dpad)))
       + (length (controlText (l .count) (l .controls)) + (length (linesText (toolbarLines l)) + length (stickText (l .stickcount) (l .sticks)))))) ≤ 1024
-  sheet-room = omega (arith, simp length-append at (ap length (lines-text l)), head-fits (l .count + l .stickcount + 6) (omega arith), lines-fit l twelve two b g)
+  unfolding sheetText
+  sheet-room = omega (arith, simp length-append at (ap length (lines-text l)), ap (λ k. length (headText film k)) lines, simp length-append at (sheet-fits l twelve two b g))
 
-  pub sheet-is : {out : List ℕ} {len : ℕ} → l .count ≤ length (l .controls) → l .stickcount ≤ length (l .sticks)
-      → (out, len) ≡ putOf (zeros 1024) 0 (headText film (l .count + l .stickcount + 6) ++ (lineText (lineOf gameName (l .game)) ++ (lineText (lineOf dpadName (l .dpad)) ++ (controlText (l .count) (l .controls) ++ (linesText (toolbarLines l) ++ stickText (l .stickcount) (l .sticks))))))
+  pub sheet-is : {out : List ℕ} {len : ℕ}
+      → (out, len) ≡ putOf (zeros 1024) 0 (headText film n ++ (lineText (lineOf gameName (l .game)) ++ (lineText (lineOf dpadName (l .dpad)) ++ (controlText (l .count) (l .controls) ++ (linesText (toolbarLines l) ++ stickText (l .stickcount) (l .sticks))))))
       → record { bytes = out; len = len } ≡ layoutSheetOf l
   unfolding layoutSheetOf sheetText
-  sheet-is cs ss p = page-is (sheetText (linesOf l)) (rw (line-count l twelve two b cs ss, lines-text l) p) (omega (arith, sheet-fits l twelve two b g))
+  sheet-is p = page-is (sheetText (linesOf l)) (rw (← lines, lines-text l) p) (omega (arith, sheet-fits l twelve two b g))

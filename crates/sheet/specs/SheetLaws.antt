@@ -62,28 +62,32 @@ element-printable e = record { x = most-more (e .x) most tt; y = most-more (e .y
 pub game-printable : {r : Rect} → BoundedGame r → Printable r
 game-printable g = record { x = g .x; y = g .y; w = most-more (g .w) most tt; h = most-more (g .h) most tt }
 
-stick-lines : (rs : List Rect) → length rs ≤ 2 → Each Element rs → Each Short (stickLines rs) × (length (stickLines rs) ≡ length rs)
+stick-count : (rs : List Rect) → length rs ≤ 2 → length (stickLines rs) ≡ length rs
 unfolding stickLines zipWith
-stick-lines [] h e = (tt, refl)
-stick-lines (a ∷ []) h e = (short leftName a tt (element-printable (e .0)) & tt, refl)
-stick-lines (a ∷ b ∷ []) h e = (short leftName a tt (element-printable (e .0)) & short rightName b tt (element-printable (e .1 .0)) & tt, refl)
-stick-lines (a ∷ b ∷ c ∷ rs) h e = absurd (let z : ⊥ = omega arith in z)
+stick-count [] h = refl
+stick-count (a ∷ []) h = refl
+stick-count (a ∷ b ∷ []) h = refl
+stick-count (a ∷ b ∷ c ∷ rs) h = absurd (let z : ⊥ = omega arith in z)
 
-module _ (l : Layout) (twelve : l .count ≤ 12) (two : l .stickcount ≤ 2) (b : Bounded l) where
-  sticks-of : Each Short (stickLines (stickList l)) × (length (stickLines (stickList l)) ≡ length (stickList l))
-  sticks-of = stick-lines (stickList l) (rw length-take (omega arith)) (each-take Element (l .stickcount) (l .sticks) (b .sticks))
+sticks-short : (rs : List Rect) → Each Element rs → Each Short (stickLines rs)
+unfolding stickLines zipWith
+sticks-short [] e = tt
+sticks-short (a ∷ []) e = short leftName a tt (element-printable (e .0)) & tt
+sticks-short (a ∷ b ∷ rs) e = short leftName a tt (element-printable (e .0)) & short rightName b tt (element-printable (e .1 .0)) & tt
 
+module _ (l : Layout) (twelve : l .count ≤ 12) (two : l .stickcount ≤ 2) where
   length-linesOf : length (linesOf l) ≡ length (controlList l) + length (stickList l) + 6
   unfolding linesOf toolbarLines
-  length-linesOf = simp (length-append, length-map) (omega (arith, sticks-of .1))
+  length-linesOf = simp (length-append, length-map) (omega (arith, stick-count (stickList l) (rw length-take (omega arith))))
 
   few-lines : length (linesOf l) ≤ 20
   few-lines = rw (length-linesOf, length-take (l .count) (l .controls), length-take (l .stickcount) (l .sticks)) (omega arith)
 
   -- how many lines follow the header
-  pub line-count : l .count ≤ length (l .controls) → l .stickcount ≤ length (l .sticks) → length (linesOf l) ≡ l .count + l .stickcount + 6
+  pub line-count : l .count ≤ length (l .controls) → l .stickcount ≤ length (l .sticks) → l .count + l .stickcount + 6 ≡ length (linesOf l)
   line-count cs ss = rw (length-linesOf, length-take-le (l .count) (l .controls) cs, length-take-le (l .stickcount) (l .sticks) ss)
 
+module _ (l : Layout) (twelve : l .count ≤ 12) (two : l .stickcount ≤ 2) (b : Bounded l) where
   lines-short : BoundedGame (l .game) → Each Short (linesOf l)
   unfolding linesOf toolbarLines
   lines-short g =
@@ -91,16 +95,16 @@ module _ (l : Layout) (twelve : l .count ≤ 12) (two : l .stickcount ≤ 2) (b 
       & short dpadName (l .dpad) tt (element-printable (b .dpad))
       & each-append Short (map controlLine (controlList l)) (toolbarLines l ++ stickLines (stickList l))
       (each-map Short controlLine (controlList l) (each-imp (λ c. Element (c .bounds)) (λ c. Short (controlLine c)) control (controlList l) (each-take (λ c. Element (c .bounds)) (l .count) (l .controls) (b .controls))))
-      (short pauseName (l .pause) tt (element-printable (b .pause)) & short playName (l .playback) tt (element-printable (b .playback)) & short speedName (l .speed) tt (element-printable (b .speed)) & short muteName (l .mute) tt (element-printable (b .mute)) & sticks-of .0)
+      (short pauseName (l .pause) tt (element-printable (b .pause)) & short playName (l .playback) tt (element-printable (b .playback)) & short speedName (l .speed) tt (element-printable (b .speed)) & short muteName (l .mute) tt (element-printable (b .mute)) & sticks-short (stickList l) (each-take Element (l .stickcount) (l .sticks) (b .sticks)))
     where
       control : (c : Control) → Element (c .bounds) → Short (controlLine c)
       control c e = short (nameOf (c .label)) (c .bounds) (le→leb (length (nameOf (c .label))) 6 (length-name (c .label))) (element-printable e)
 
   -- 20 lines of 39 bytes at most
-  pub lines-fit : BoundedGame (l .game) → length (linesText (linesOf l)) ≤ 780
-  lines-fit g = omega (arith, few-lines, length-lines (linesOf l) (lines-short g))
+  lines-fit : BoundedGame (l .game) → length (linesText (linesOf l)) ≤ 780
+  lines-fit g = omega (arith, few-lines l twelve two, length-lines (linesOf l) (lines-short g))
 
   -- and a header of 8
   pub sheet-fits : BoundedGame (l .game) → length (sheetText (linesOf l)) ≤ 788
   unfolding sheetText
-  sheet-fits g = simp length-append (omega (arith, lines-fit g, head-fits (length (linesOf l)) few-lines))
+  sheet-fits g = simp length-append (omega (arith, lines-fit g, head-fits (length (linesOf l)) (few-lines l twelve two)))

@@ -7,7 +7,7 @@ ghost use Rattle.prelude.specs.Each.{Each};
 ghost use Rattle.numerics.specs.Rects.{Element};
 ghost use Rattle.search.specs.Bounded.{Bounded, BoundedGame};
 ghost use Rattle.lines.specs.Line.{putOf};
-ghost use Rattle.sheet.specs.Sheet.{controlLine, toolbarLines, stickLines, linesText, layoutSheetOf, refusedSheetOf};
+ghost use Rattle.sheet.specs.Sheet.{controlLine, toolbarLines, stickLines, linesOf, linesText, layoutSheetOf, refusedSheetOf};
 use geometry::Rect;
 use layout::Control;
 use layout::Layout;
@@ -60,6 +60,14 @@ fn put_sticks(out: &mut [u8], at: usize, sticks: [Rect; 2], n: usize) -> usize
     put_line(out, right, b"RIGHT", sticks[1])
 }
 
+// How many lines follow the header: the game's, and one for each element.
+fn line_count(l: Layout) -> u32
+    requires { ⌜ (l .count ≤ 12) × (l .stickcount ≤ 2) ⌝ }
+    ensures { λ r. ⌜ r ≡ length (linesOf l) ⌝ }
+{
+    (l.count + l.stickcount + 6) as u32
+}
+
 // The sheet of a layout. A local says where the line begins that it is named after.
 pub fn layout_sheet(l: Layout) -> Sheet
     requires { ⌜ (l .count ≤ 12) × (l .stickcount ≤ 2) × Bounded l × BoundedGame (l .game) ⌝ }
@@ -68,7 +76,7 @@ pub fn layout_sheet(l: Layout) -> Sheet
     let controls = l.controls;
     let sticks = l.sticks;
     let mut bytes = [0; 1024];
-    let game = put_head(&mut bytes, b"FILM ", (l.count + l.stickcount + 6) as u32);
+    let game = put_head(&mut bytes, b"FILM ", line_count(l));
     let dpad = put_line(&mut bytes, game, b"GAME", l.game);
     let control = put_line(&mut bytes, dpad, b"DPAD", l.dpad);
     let key = put_controls(&mut bytes, control, controls, l.count);
