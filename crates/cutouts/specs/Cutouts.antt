@@ -50,7 +50,7 @@ unfoldable pub shiftOf : List Rect → List ℕ → Move → List Rect
 shiftOf elements group Stay = elements
 shiftOf elements group (Go dx dy) = shiftByOf elements group dx dy
 
--- A group that overlaps a cutout moves by the shortest way that leaves it clear, if there is one.
+-- A group that overlaps a cutout moves by the shortest of its candidate moves that leaves it clear, if one does.
 unfoldable pub settleOf : Float → Float → List Rect → List Rect → List ℕ → List Rect
 settleOf w h holes elements group =
     let original = membersOf elements group in

@@ -127,8 +127,8 @@ leftStick b = newOf k16 (b .mainy) (b .stick) (b .stick)
 abbrev pub rightStick : Halves → Rect
 rightStick b = newOf (b .w ⊖ k16 ⊖ b .stick) (b .mainy) (b .stick) (b .stick)
 
--- for a screen of 360 by 360 at least. The Rust sets the toolbar's keys here too, in landscape; they are anchored
--- anew before anything looks at them.
+-- for a screen of 360 by 360 at least. The Rust sets the toolbar's keys here too, in landscape; they are at most scaled
+-- with the other elements, and then anchored anew.
 unfoldable pub analogFullOf : Float → Float → Layout
 analogFullOf w h =
     let b = measureHalvesOf w h (sizeHalvesOf w h) in

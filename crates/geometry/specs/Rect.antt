@@ -26,7 +26,8 @@ fitOf r aspect =
     let h = w ⊘ aspect in
     newOf (r .x ⊕ (r .w ⊖ w) ⊘ k2) (r .y ⊕ (r .h ⊖ h) ⊘ k2) w h
 
--- Two rectangles that share no more than 0.01 across or down do not overlap.
+-- Across and down, each begins more than 0.01 before the other ends. So neighbours that share 0.01 or less do not overlap, and a
+-- rectangle without width or height that lies inside another does.
 unfoldable pub overlapsOf : Rect → Rect → Bool
 overlapsOf a b =
     lt (a .x) (b .x ⊕ b .w ⊖ k0·01)
