@@ -127,8 +127,8 @@ def beside(signature, bodies, method):
     heading = f"fn {name}({', '.join(f'{n}: {kind}' if kind else n for n, kind in params)}){signature[signature.rindex(')') + 1:]}"
     call = lambda n, args: f"{'Self::' if method else ''}{name}__{n}({', '.join(args)})"
     names = [n for n, _ in params]
-    # of a lent array, not a slice, contracts speak of the first n places before, and n + 1 or more after
-    used = lambda n, suffix: f"&{n}{suffix}[..n + 1]" if ";" in lent[n] else f"&{n}{suffix}"
+    # of a lent array with a count n contracts speak of the first n places before, and n + 1 or more after
+    used = lambda n, suffix: f"&{n}{suffix}[..n + 1]" if ";" in lent[n] and "n" in names else f"&{n}{suffix}"
     shown = lambda result, suffix: f'format!("{{:?}}", ({result}, {"".join(used(n, suffix) + ", " for n in lent)}))'
     copies = "\n".join(f"let mut {n}__ = {n}.to_vec();" if ";" not in kind else f"let mut {n}__ = *{n};" for n, kind in lent.items())
     edited = [f"&mut {n}__" if n in lent else n for n in names]

@@ -142,13 +142,14 @@ fn hosts(r: &mut Random) {
     let top = if r.chance(90) { r.below(120) as f32 } else { r.one(&ODD) };
     let covered = if r.chance(90) { r.below(200) as f32 - 60.0 } else { r.one(&ODD) };
     thumb_layout::tl_viewport_layout(&o, top, covered, &mut out);
-    film_sheet::film_sheet(&o);
-    let numbers: Vec<i32> = (0..if r.chance(95) { 8 } else { 7 }).map(|_| whole(r)).collect();
-    let same: Vec<i32> = if numbers.len() == 8 && r.chance(50) { [&numbers[..2], &numbers[..2], &numbers[4..]].concat() } else { numbers };
-    let room = if r.chance(90) { 5 } else { 3 };
-    thumb_layout::tl_safe_content(&same, &mut vec![0.5; room]);
-    let edges: Vec<i32> = (0..if r.chance(95) { 12 } else { 13 }).map(|_| whole(r)).collect();
-    thumb_layout::tl_safe_edges(&edges, r.below(3) as u8, &mut vec![1; room]);
+    thumb_layout::tl_film(&o, &mut [7; 1024]);
+    let mut numbers = [(); 8].map(|_| whole(r));
+    if r.chance(50) {
+        numbers.copy_within(..2, 2);
+    }
+    thumb_layout::tl_safe_content(&numbers, &mut [0.5; 4]);
+    let edges = [(); 12].map(|_| whole(r));
+    thumb_layout::tl_safe_edges(&edges, r.below(3) as u8, &mut [1; 4]);
 }
 
 /// Functions that hosts do not reach, or seldom with what matters.

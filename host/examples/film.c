@@ -13,6 +13,6 @@ int main(void)
         return 2;
     }
     uint8_t sheet[TL_SHEET] = {0};
-    size_t text = (size_t)tl_film(order, length, sheet, sizeof sheet); /* not below 0: there is room */
+    size_t text = (size_t)tl_film(order, length, sheet);
     return fwrite(sheet, 1, text, stdout) != text;
 }

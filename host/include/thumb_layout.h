@@ -11,8 +11,9 @@
      Below 0: minus the number of a refusal, and then no element of a lent output has changed.
 
    What the caller sees to
-     - A pointer comes with a length in elements. It points to that many elements, aligned and initialised; those of an output
-       too, since they stay as they are where the function writes nothing. With length 0 the pointer may be NULL.
+     - A pointer comes with a length in elements, and points to that many; with length 0 it may be NULL. One that is declared with a
+       number in brackets has no length: it points to that many elements or more, and exactly so many are read or written.
+     - Elements are aligned and initialised; those of an output too, since they stay as they are where the function writes nothing.
      - An output overlaps no other argument, and no other thread touches it during the call.
      - Floats are computed as C starts a program: rounding to nearest, no flushing to zero.
 
@@ -32,12 +33,12 @@ extern "C" {
 enum tl_refusal {
     TL_CUT_OFF = 1,         /* a header or value runs past the end */
     TL_OUT_OF_TURN = 2,     /* a tag that is not 1 to 7, or not above the one before */
-    TL_BAD_LENGTH = 3,      /* a field, or a list of numbers, of another length than it must have */
+    TL_BAD_LENGTH = 3,      /* a field of another length than it must have */
     TL_NO_SCREEN = 4,       /* the order ends without a screen */
     TL_ODD_MARK = 5,        /* a reserved bit set, or a fit above 2 */
     TL_OFF_THE_SCALE = 6,   /* a number outside its limits */
     TL_OVERFULL = 7,        /* over 16 cutouts or 32 saved rectangles */
-    TL_SHEET_TOO_SMALL = 8  /* an output too short for the answer */
+    TL_SHEET_TOO_SMALL = 8  /* an output shorter than the layout */
 };
 
 /* The bits of a button mask, by the names of the film sheet. A psp has none above TL_R1, only analog has L3 and R3. */
@@ -83,23 +84,23 @@ int32_t tl_touch(const uint8_t *order, size_t order_len, float x, float y, uint1
    Answers: the number of bytes written. Or -1 to -8. */
 int32_t tl_viewport_layout(const uint8_t *order, size_t order_len, float reusable_top, float covered_top, uint8_t *out, size_t out_len);
 
-/* The film sheet of an order: lines of ASCII text, written to the first 1,024 bytes of `sheet`, with zeros after the text's end.
+/* The film sheet of an order: lines of ASCII text, with zeros after the text's end up to the 1,024th byte.
    A refused order has a sheet too, the line REFUSED with the refusal's number, and its answer is that text's length.
-   Answers: the text's length, at most 788; later bytes of `sheet` stay. Or -8 if sheet_len is below 1,024, whatever the order. */
-int32_t tl_film(const uint8_t *order, size_t order_len, uint8_t *sheet, size_t sheet_len);
+   Answers: the text's length, at most 788. Nothing is refused. */
+int32_t tl_film(const uint8_t *order, size_t order_len, uint8_t sheet[1024]);
 
 /* The part of a screen inside the system's edges.
-   numbers: eight: size w, h, the size w, h at which the edges were measured, the edges left, top, right, bottom.
-   area: x, y, w, h are written to the first four; later ones stay.
-   Answers: 0. Or -3 if n is not 8, then -6 if a number is outside -8,192 to 8,192, then -8 if area_len is below 4. */
-int32_t tl_safe_content(const int32_t *numbers, size_t n, float *area, size_t area_len);
+   numbers: size w, h, the size w, h at which the edges were measured, the edges left, top, right, bottom.
+   area: x, y, w, h.
+   Answers: 0. Or -6 if a number is outside -8,192 to 8,192. */
+int32_t tl_safe_content(const int32_t numbers[8], float area[4]);
 
 /* The edges of decoration, navigation and a camera merged: at each side the widest.
-   numbers: twelve: left, top, right, bottom of decoration, of navigation, of the camera.
+   numbers: left, top, right, bottom of decoration, of navigation, of the camera.
    local_side_camera: 0, or anything else for a camera at a side that is an obstacle of its own; then it has no edge left and right.
-   edges: left, top, right, bottom are written to the first four; later ones stay.
-   Answers: 0. Or -3 if n is not 12, then -6 and -8 as above. */
-int32_t tl_safe_edges(const int32_t *numbers, size_t n, uint8_t local_side_camera, int32_t *edges, size_t edges_len);
+   edges: left, top, right, bottom.
+   Answers: 0. Or -6 if a number is outside -8,192 to 8,192. */
+int32_t tl_safe_edges(const int32_t numbers[12], uint8_t local_side_camera, int32_t edges[4]);
 
 #ifdef __cplusplus
 }

@@ -14,14 +14,14 @@ const ORDERS: usize = 20_000;
 const OUT: usize = 1024;
 
 unsafe extern "C" {
-    fn tl_film(order: *const u8, order_len: usize, sheet: *mut u8, sheet_len: usize) -> i32;
+    fn tl_film(order: *const u8, order_len: usize, sheet: &mut [u8; OUT]) -> i32;
 }
 
 /// `tl_film` without the wrapper of `host/rust`, which has a sheet of its own
 /// on the stack.
-fn film(order: &[u8], out: &mut [u8]) -> bool {
-    // SAFETY: each pointer is passed with the length of what it points to.
-    let length = unsafe { tl_film(order.as_ptr(), order.len(), out.as_mut_ptr(), out.len()) };
+fn film(order: &[u8], out: &mut [u8; OUT]) -> bool {
+    // SAFETY: the pointer is passed with the length of what it points to.
+    let length = unsafe { tl_film(order.as_ptr(), order.len(), out) };
     length > 0 && out.starts_with(b"FILM")
 }
 
@@ -65,7 +65,7 @@ fn deepest(call: Call) -> usize {
 }
 
 /// Whether an order is accepted.
-type Call = fn(&[u8], &mut [u8]) -> bool;
+type Call = fn(&[u8], &mut [u8; OUT]) -> bool;
 
 /// The Rust, and ours.
 const CALLS: &[(&str, Call, Call)] = &[

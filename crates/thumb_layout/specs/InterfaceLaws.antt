@@ -1,20 +1,19 @@
 -- What a host may count on: a number of bytes that fits, and a number below 0 only for one of the refusals, which leaves every output as it was.
 use mathlib.Core.Path.{_≡_, refl}
-use mathlib.Core.Logic.{_⊎_, inl, inr}
-use mathlib.Core.Bool.{Bool, true, false, cond, not}
-use mathlib.Core.List.{List, _++_}
+use mathlib.Core.Bool.{Bool, true, false}
+use mathlib.Core.List.{List}
 use Prim.Native.Nat.{ℕ, zero, suc, _<_, _≤_}
 use native.Mathlib.Omega.{arith}
-use lib.Dec.{eqb, leb}
+use lib.Dec.{leb}
 use lib.Ieee.{Float}
 use lib.IntN.{ℤ, negsuc}
-use lib.ListN.{length, drop}
+use lib.ListN.{length}
 use lib.Signed.{mag}
-use Rattle.prelude.specs.Answer.{Answer, accepted, refused, must, andThen}
+use Rattle.prelude.specs.Answer.{Answer, accepted, refused, must}
 use Rattle.prelude.specs.Booleans.{either}
 use Rattle.settings.specs.declared.Settings.{Settings}
 use Rattle.settings.specs.Settings.{topsInLimitsOf}
-use Rattle.safe_area.specs.Safe.{allOnScaleOf, contentOf, safeContentOf, mergedOf, safeEdgesOf}
+use Rattle.safe_area.specs.Safe.{safeContentOf, safeEdgesOf}
 use Rattle.reader.specs.Accepted.{refused-order}
 use Rattle.reader.specs.Order.{readOrderOf}
 use Rattle.writer.specs.Bytes.{roomFor}
@@ -22,7 +21,7 @@ use Rattle.order.specs.Orders.{orderLayout, layoutOf, layoutOutputOf, orderView
 use Rattle.order.specs.OrderLaws.{bytesFor, layout-answer, viewport-answer, layout-refused, viewport-refused, touch-refused}
 use Rattle.film_sheet.specs.Film.{filmSheetOf}
 use Rattle.film_sheet.specs.FilmLaws.{film-fits}
-use Rattle.thumb_layout.specs.Interface.{numberOf, tlLayoutOf, tlTouchOf, tlViewportLayoutOf, tlFilmOf, tlFilmOutputOf, twoOf, fourOf, areaNumbers, edgeNumbers, roomOf, statusOf, fourOutput, contentFour, tlSafeContentOf, tlSafeContentOutputOf, edgesFour, tlSafeEdgesOf, tlSafeEdgesOutputOf}
+use Rattle.thumb_layout.specs.Interface.{numberOf, tlLayoutOf, tlTouchOf, tlViewportLayoutOf, tlFilmOf, statusOf, contentFrom, tlSafeContentOf, tlSafeContentOutputOf, edgesFrom, tlSafeEdgesOf, tlSafeEdgesOutputOf}
 
 -- ---- bytes: 353 at most
 room-small : (analog psp : Bool) (out : List ℕ) → mag (numberOf (roomFor (bytesFor analog psp) out)) ≤ 353
@@ -53,9 +52,9 @@ module _ (order out : List ℕ) where
       go (refused n) e b t = rw e (refused-small order n e)
 
 -- ---- a film sheet's text: 788 bytes at most
-pub film-small : (order sheet : List ℕ) → mag (tlFilmOf order sheet) ≤ 788
-unfolding tlFilmOf filmSheetOf must
-film-small order sheet = either (λ a. mag (numberOf a) ≤ 788) (leb 1024 (length sheet)) (film-fits order) (omega arith)
+pub film-small : (order : List ℕ) → mag (tlFilmOf order) ≤ 788
+unfolding tlFilmOf filmSheetOf
+film-small order = film-fits order
 
 -- ---- numbers below 0: minus one of the refusals, and nothing changes
 number-refused : (a : Answer ℕ) {n : ℕ} → numberOf a ≡ negsuc n → a ≡ refused (suc n)
@@ -76,43 +75,16 @@ pub touch-below : (order : List ℕ) (x y : Float) (previous : ℕ) {n : ℕ} �
 unfolding tlTouchOf
 touch-below order x y previous e = touch-refused order x y previous (number-refused _ e)
 
--- a film sheet is refused for want of room alone
-pub film-below : (order sheet : List ℕ) {n : ℕ} → tlFilmOf order sheet ≡ negsuc n → (n ≡ 7) × (tlFilmOutputOf order sheet ≡ sheet)
-unfolding tlFilmOf tlFilmOutputOf must
-film-below order sheet {n} e = go (leb 1024 (length sheet)) e
-  where
-    go : (room : Bool) → numberOf (cond room (accepted (filmSheetOf order .len)) (refused 8)) ≡ negsuc n → (n ≡ 7) × (cond room (filmSheetOf order .bytes ++ drop 1024 sheet) sheet ≡ sheet)
-    go true e = (cc, cc)
-    go false e = (cc, refl)
-
--- the safe area is refused by 3, 6 or 8
-abbrev Safe : ℕ → Type 0
-Safe n = (n ≡ 2) ⊎ ((n ≡ 5) ⊎ (n ≡ 7))
-
-four-below : {A B : Type 0} (long scale : Bool) (x : B) (numbers : B → List A) (out : List A) {n : ℕ}
-    → let four = must long 3 (andThen (must scale 6 (accepted x)) (λ r. roomOf (numbers r) out)) in
-    statusOf four ≡ negsuc n → Safe n × (fourOutput four out ≡ out)
+-- the safe area is refused for a number off the scale alone
+scale-below : {A : Type 0} (onScale : Bool) (x : A) {n : ℕ} → let a = must onScale 6 (accepted x) in statusOf a ≡ negsuc n → (n ≡ 5) × (a ≡ refused 6)
 unfolding must
-four-below false scale x numbers out e = (inl cc, refl)
-four-below true false x numbers out e = (inr (inl cc), refl)
-four-below true true x numbers out {n} e = go (leb 4 (length out)) e
-  where
-    go : (room : Bool) → let four = cond room (accepted (numbers x)) (refused 8) in statusOf four ≡ negsuc n → Safe n × (fourOutput four out ≡ out)
-    go true e = (inl cc, cc)
-    go false e = (inr (inr cc), refl)
+scale-below true x e = (cc, cc)
+scale-below false x e = (cc, refl)
 
-pub content-below : (numbers : List ℤ) (area : List Float) {n : ℕ} → tlSafeContentOf numbers area ≡ negsuc n → Safe n × (tlSafeContentOutputOf numbers area ≡ area)
-unfolding tlSafeContentOf tlSafeContentOutputOf contentFour safeContentOf
-content-below numbers area e =
-    let size = twoOf numbers 0 in
-    let inset = twoOf numbers 2 in
-    let edges = fourOf numbers 4 in
-    four-below (eqb (length numbers) 8) (allOnScaleOf size inset edges) (contentOf size inset edges) areaNumbers area e
+pub content-below : (numbers : List ℤ) (area : List Float) {n : ℕ} → tlSafeContentOf numbers ≡ negsuc n → (n ≡ 5) × (tlSafeContentOutputOf numbers area ≡ area)
+unfolding tlSafeContentOf tlSafeContentOutputOf contentFrom safeContentOf
+content-below numbers area e = let r = scale-below _ _ e in (r .0, rw (r .1))
 
-pub edges-below : (numbers : List ℤ) (local : ℕ) (edges : List ℤ) {n : ℕ} → tlSafeEdgesOf numbers local edges ≡ negsuc n → Safe n × (tlSafeEdgesOutputOf numbers local edges ≡ edges)
-unfolding tlSafeEdgesOf tlSafeEdgesOutputOf edgesFour safeEdgesOf
-edges-below numbers local edges e =
-    let decoration = fourOf numbers 0 in
-    let navigation = fourOf numbers 4 in
-    let camera = fourOf numbers 8 in
-    four-below (eqb (length numbers) 12) (allOnScaleOf decoration navigation camera) (mergedOf decoration navigation camera (not (eqb local 0))) edgeNumbers edges e
+pub edges-below : (numbers : List ℤ) (local : ℕ) (edges : List ℤ) {n : ℕ} → tlSafeEdgesOf numbers local ≡ negsuc n → (n ≡ 5) × (tlSafeEdgesOutputOf numbers local edges ≡ edges)
+unfolding tlSafeEdgesOf tlSafeEdgesOutputOf edgesFrom safeEdgesOf
+edges-below numbers local edges e = let r = scale-below _ _ e in (r .0, rw (r .1))

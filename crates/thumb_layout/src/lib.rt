@@ -1,19 +1,16 @@
 // The functions for hosts in other languages, through the C calling convention; host/include/thumb_layout.h declares them.
 // An answer below 0 is minus the number of a refusal, and then every lent output is as it was.
 ghost use mathlib.Core.Path.{_≡_};
-ghost use mathlib.Core.List.{_++_};
-ghost use Prim.Native.Nat.{_+_, _≤_};
+ghost use Prim.Native.Nat.{_≤_};
 ghost use lib.IntN.{pos, negℤ};
-ghost use lib.ListN.{length, drop};
 ghost use lib.Signed.{mag};
 ghost use Rattle.order.specs.Demands.{WidestWritten};
 ghost use Rattle.order.specs.Orders.{layoutAnswer, layoutOf, layoutOutputOf, viewportOutputOf};
-ghost use Rattle.thumb_layout.specs.Interface.{numberOf, tlLayoutOf, tlTouchOf, tlViewportLayoutOf, tlFilmOf, tlFilmOutputOf, twoOf, fourOf, areaNumbers, edgeNumbers, roomOf, statusOf, fourOutput, tlSafeContentOf, tlSafeContentOutputOf, tlSafeEdgesOf, tlSafeEdgesOutputOf};
+ghost use Rattle.film_sheet.specs.Film.{filmSheetOf};
+ghost use Rattle.thumb_layout.specs.Interface.{numberOf, tlLayoutOf, tlTouchOf, tlViewportLayoutOf, tlFilmOf, tlSafeContentOf, tlSafeContentOutputOf, tlSafeEdgesOf, tlSafeEdgesOutputOf};
 use film_sheet::film_sheet;
-use geometry::Rect;
 use order::LayoutAnswer;
 use order::TouchAnswer;
-use safe_area::Edges;
 use safe_area::SafeContent;
 use safe_area::SafeEdges;
 use safe_area::safe_content;
@@ -70,106 +67,54 @@ fn minus(refusal: u8) -> i32
     -(refusal as i32)
 }
 
-// A refused order has a sheet too, so the output alone decides whether there is a refusal.
+// A refused order has a sheet too, so nothing is refused here.
 #[no_mangle]
-pub extern "C" fn tl_film(order: &[u8], sheet: &mut [u8]) -> i32
-    ensures answer { λ r. ⌜ r ≡ tlFilmOf (now (order .entry)) (now (sheet .entry)) ⌝ }
-    ensures output { λ _. ⌜ now (sheet .exit) ≡ tlFilmOutputOf (now (order .entry)) (now (sheet .entry)) ⌝ }
+pub extern "C" fn tl_film(order: &[u8], sheet: &mut [u8; 1024]) -> i32
+    ensures answer { λ r. ⌜ r ≡ tlFilmOf (now (order .entry)) ⌝ }
+    ensures output { λ _. ⌜ now (sheet .exit) ≡ filmSheetOf (now (order .entry)) .bytes ⌝ }
 {
-    if sheet.len() < 1024 {
-        return -8;
-    }
     let film = film_sheet(order);
     let bytes = film.bytes;
-    let len = film.len;
-    put_bytes(&bytes, sheet);
-    len as i32
-}
-
-fn put_bytes(bytes: &[u8], out: &mut [u8])
-    requires { ⌜ length (now bytes) ≤ length (now out) ⌝ }
-    ensures { λ _. ⌜ now (out .exit) ≡ now (bytes .entry) ++ drop (length (now (bytes .entry))) (now (out .entry)) ⌝ }
-{
-    for i in 0..bytes.len() {
-        out[i] = bytes[i];
-    }
+    *sheet = bytes;
+    film.len as i32
 }
 
 // ---- the safe area
 
-// The numbers are the size, the inset size and the edges.
 #[no_mangle]
-pub extern "C" fn tl_safe_content(numbers: &[i32], area: &mut [f32]) -> i32
-    ensures answer { λ r. ⌜ r ≡ tlSafeContentOf (now (numbers .entry)) (now (area .entry)) ⌝ }
+pub extern "C" fn tl_safe_content(numbers: &[i32; 8], area: &mut [f32; 4]) -> i32
+    ensures answer { λ r. ⌜ r ≡ tlSafeContentOf (now (numbers .entry)) ⌝ }
     ensures output { λ _. ⌜ now (area .exit) ≡ tlSafeContentOutputOf (now (numbers .entry)) (now (area .entry)) ⌝ }
 {
-    if numbers.len() != 8 {
-        return -3;
-    }
-    match safe_content(two(numbers, 0), two(numbers, 2), four(numbers, 4)) {
-        SafeContent::Area(r) => put_area(r, area),
+    let size = [numbers[0], numbers[1]];
+    let inset_size = [numbers[2], numbers[3]];
+    let edges = [numbers[4], numbers[5], numbers[6], numbers[7]];
+    match safe_content(size, inset_size, edges) {
+        SafeContent::Area(r) => {
+            *area = [r.x, r.y, r.w, r.h];
+            0
+        }
         SafeContent::OffScale => -6,
     }
 }
 
-// The numbers are the edges of decoration, navigation and camera.
 #[no_mangle]
-pub extern "C" fn tl_safe_edges(numbers: &[i32], local_side_camera: u8, edges: &mut [i32]) -> i32
-    ensures answer { λ r. ⌜ r ≡ tlSafeEdgesOf (now (numbers .entry)) «local_side_camera» (now (edges .entry)) ⌝ }
+pub extern "C" fn tl_safe_edges(
+    numbers: &[i32; 12],
+    local_side_camera: u8,
+    edges: &mut [i32; 4],
+) -> i32
+    ensures answer { λ r. ⌜ r ≡ tlSafeEdgesOf (now (numbers .entry)) «local_side_camera» ⌝ }
     ensures output { λ _. ⌜ now (edges .exit) ≡ tlSafeEdgesOutputOf (now (numbers .entry)) «local_side_camera» (now (edges .entry)) ⌝ }
 {
-    if numbers.len() != 12 {
-        return -3;
-    }
-    let local = local_side_camera != 0;
-    match safe_edges(four(numbers, 0), four(numbers, 4), four(numbers, 8), local) {
-        SafeEdges::Merged(e) => put_edges(e, edges),
+    let decoration = [numbers[0], numbers[1], numbers[2], numbers[3]];
+    let navigation = [numbers[4], numbers[5], numbers[6], numbers[7]];
+    let camera = [numbers[8], numbers[9], numbers[10], numbers[11]];
+    match safe_edges(decoration, navigation, camera, local_side_camera != 0) {
+        SafeEdges::Merged(e) => {
+            *edges = [e.left, e.top, e.right, e.bottom];
+            0
+        }
         SafeEdges::OffScale => -6,
     }
-}
-
-fn two(numbers: &[i32], i: usize) -> [i32; 2]
-    requires { ⌜ i + 2 ≤ length (now numbers) ⌝ }
-    ensures { λ r. ⌜ r ≡ twoOf (now (numbers .entry)) i ⌝ }
-{
-    [numbers[i], numbers[i + 1]]
-}
-
-fn four(numbers: &[i32], i: usize) -> [i32; 4]
-    requires { ⌜ i + 4 ≤ length (now numbers) ⌝ }
-    ensures { λ r. ⌜ r ≡ fourOf (now (numbers .entry)) i ⌝ }
-{
-    [numbers[i], numbers[i + 1], numbers[i + 2], numbers[i + 3]]
-}
-
-fn put_area(r: Rect, area: &mut [f32]) -> i32
-    ensures answer { λ n. ⌜ n ≡ statusOf (roomOf (areaNumbers r) (now (area .entry))) ⌝ }
-    ensures output { λ _. ⌜ now (area .exit) ≡ fourOutput (roomOf (areaNumbers r) (now (area .entry))) (now (area .entry)) ⌝ }
-{
-    if area.len() < 4 {
-        return -8;
-    }
-    area[0] = r.x;
-    area[1] = r.y;
-    area[2] = r.w;
-    area[3] = r.h;
-    0
-}
-
-fn put_edges(e: Edges, edges: &mut [i32]) -> i32
-    ensures answer { λ n. ⌜ n ≡ statusOf (roomOf (edgeNumbers e) (now (edges .entry))) ⌝ }
-    ensures output { λ _. ⌜ now (edges .exit) ≡ fourOutput (roomOf (edgeNumbers e) (now (edges .entry))) (now (edges .entry)) ⌝ }
-{
-    if edges.len() < 4 {
-        return -8;
-    }
-    let left = e.left;
-    let top = e.top;
-    let right = e.right;
-    let bottom = e.bottom;
-    edges[0] = left;
-    edges[1] = top;
-    edges[2] = right;
-    edges[3] = bottom;
-    0
 }

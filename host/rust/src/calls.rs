@@ -13,15 +13,9 @@ unsafe extern "C" {
         out: *mut u8,
         out_len: usize,
     ) -> i32;
-    fn tl_film(order: *const u8, order_len: usize, sheet: *mut u8, sheet_len: usize) -> i32;
-    fn tl_safe_content(numbers: *const i32, n: usize, area: *mut f32, area_len: usize) -> i32;
-    fn tl_safe_edges(
-        numbers: *const i32,
-        n: usize,
-        local_side_camera: u8,
-        edges: *mut i32,
-        edges_len: usize,
-    ) -> i32;
+    fn tl_film(order: *const u8, order_len: usize, sheet: &mut [u8; 1024]) -> i32;
+    safe fn tl_safe_content(numbers: &[i32; 8], area: &mut [f32; 4]) -> i32;
+    safe fn tl_safe_edges(numbers: &[i32; 12], local_side_camera: u8, edges: &mut [i32; 4]) -> i32;
 }
 
 /// A number that is not below 0, or the refusal that it is minus the number of.
@@ -73,17 +67,13 @@ pub fn viewport_layout(
     Ok(answer(number)? as usize)
 }
 
-/// Bytes of a film sheet: its text, and zeros after it.
-const SHEET: usize = 1024;
-
 /// The film sheet of an order, which is ASCII. A refused order has one too:
 /// the line `REFUSED` with the number of the refusal.
 pub fn film(order: &[u8]) -> String {
-    let mut sheet = [0; SHEET];
-    // SAFETY: each pointer is passed with the length of what it points to.
-    let number = unsafe { tl_film(order.as_ptr(), order.len(), sheet.as_mut_ptr(), sheet.len()) };
-    let length = answer(number).expect("only a shorter output is refused") as usize;
-    String::from_utf8(sheet[..length].to_vec()).expect("a sheet is ASCII")
+    let mut sheet = [0; 1024];
+    // SAFETY: the pointer is passed with the length of what it points to.
+    let length = unsafe { tl_film(order.as_ptr(), order.len(), &mut sheet) };
+    String::from_utf8(sheet[..length as usize].to_vec()).expect("a sheet is ASCII")
 }
 
 /// The part of a screen of this size inside the edges (left, top, right,
@@ -99,16 +89,7 @@ pub fn safe_content(
     numbers[2..4].copy_from_slice(&inset_size);
     numbers[4..].copy_from_slice(&edges);
     let mut area = [0.; 4];
-    // SAFETY: each pointer is passed with the length of what it points to.
-    let number = unsafe {
-        tl_safe_content(
-            numbers.as_ptr(),
-            numbers.len(),
-            area.as_mut_ptr(),
-            area.len(),
-        )
-    };
-    answer(number)?;
+    answer(tl_safe_content(&numbers, &mut area))?;
     let [x, y, w, h] = area;
     Ok(Rect { x, y, w, h })
 }
@@ -123,19 +104,15 @@ pub fn safe_edges(
     camera: [i32; 4],
     local_side_camera: bool,
 ) -> Result<[i32; 4], Refusal> {
-    let numbers = [decoration, navigation, camera];
-    let numbers = numbers.as_flattened();
+    let mut numbers = [0; 12];
+    numbers[..4].copy_from_slice(&decoration);
+    numbers[4..8].copy_from_slice(&navigation);
+    numbers[8..].copy_from_slice(&camera);
     let mut edges = [0; 4];
-    // SAFETY: each pointer is passed with the length of what it points to.
-    let number = unsafe {
-        tl_safe_edges(
-            numbers.as_ptr(),
-            numbers.len(),
-            local_side_camera.into(),
-            edges.as_mut_ptr(),
-            edges.len(),
-        )
-    };
-    answer(number)?;
+    answer(tl_safe_edges(
+        &numbers,
+        local_side_camera.into(),
+        &mut edges,
+    ))?;
     Ok(edges)
 }

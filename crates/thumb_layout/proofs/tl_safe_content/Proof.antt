@@ -1,45 +1,57 @@
-use Rattle.prelude.specs.Answer.{must}
-use Rattle.thumb_layout.specs.Interface.{contentFour, tlSafeContentOf, tlSafeContentOutputOf}
-use borrow.Author.Tests.{eq-eqb, ne-eqb}
-use Rattle.prelude.specs.Signed.{stored}
+-- The eight numbers that are read are those that were lent, so that `safe_content` answers for them.
+use mathlib.Core.Path.{_≡_}
+use denote.Ref.{now}
 use borrow.Author.Needs.{needs}
+use Rattle.prelude.specs.Signed.{kept}
+use Rattle.safe_area.specs.Safe.{at, contentAnswer}
+use Rattle.thumb_layout.specs.Interface.{contentFrom, tlSafeContentOf, tlSafeContentOutputOf}
 use Rattle.thumb_layout.proofs.tl_safe_content.Statement.{statement}
 use Rattle.thumb_layout.proofs.tl_safe_content.Tie as tie
 
-returns-2 : tie.Need-returns-2
-unfolding tlSafeContentOf tlSafeContentOutputOf contentFour must
-returns-2 c =
-    let f = c .before .before .before .before .before .before .before in
-    let e = eq-eqb _ _ (f .before .before .before .before .if1 .left) in
-    let s =
-    rw (c .before .before .before .before .before .r .given .1, f .before .before .before .two .ensures, f .before .before .two2 .ensures, f .before .four .ensures) at (f .safe-content .ensures)
-    in
-    let p = c .before .before .put-area in
-    rw (e, ← s) (stored (p .ok) (p .ensures .0), p .ensures .1)
+abbrev start : tie.After-t26 → tie.Start
+start c = let sizes = c .before .before .before .before in sizes .before .before .before .before
 
-returns-3 : tie.Need-returns-3
-unfolding tlSafeContentOf tlSafeContentOutputOf contentFour must
-returns-3 c =
-    let f = c .before .before in
-    let e = eq-eqb _ _ (f .before .before .before .before .if1 .left) in
-    let s =
-    rw (c .enum-told .given .1, f .before .before .before .two .ensures, f .before .before .two2 .ensures, f .before .four .ensures) at (f .safe-content .ensures)
-    in
-    (rw (e, ← s), rw (e, ← s))
+answered : (c : tie.After-safe-content) → contentAnswer (c .safe-content .result) ≡ contentFrom (now (start (c .before) .args .numbers))
+unfolding contentFrom
+answered c =
+    let n = now (start (c .before) .args .numbers) in
+    rw (
+      kept (at n 0) (search needs),
+      kept (at n 1) (search needs),
+      kept (at n 2) (search needs),
+      kept (at n 3) (search needs),
+      kept (at n 4) (search needs),
+      kept (at n 5) (search needs),
+      kept (at n 6) (search needs),
+      kept (at n 7) (search needs),
+    ) at (c .safe-content .ensures)
+
+returns : tie.Need-returns
+unfolding tlSafeContentOf tlSafeContentOutputOf
+returns c =
+    let e = rw (c .before .before .r .given .1) at (answered (c .before .before .before .before)) in
+    (rw (← e), rw (← e))
+
+returns-2 : tie.Need-returns-2
+unfolding tlSafeContentOf tlSafeContentOutputOf
+returns-2 c =
+    let e = rw (c .enum-told .given .1) at (answered (c .before .before)) in
+    (rw (← e), rw (← e))
 
 pub tl-safe-content-spec : {M : Type 1} → statement M
-unfolding tlSafeContentOf tlSafeContentOutputOf contentFour must
 tl-safe-content-spec =
     tie.close
     (tie.spec
-    (λ c. let e = ne-eqb _ _ (c .if1 .taken) in (rw e, rw e))
-    (λ c κs. search needs)
-    (λ c κs. search needs)
-    (λ c κs. search needs)
-    (λ c κs. search needs)
+    (λ c. search needs)
+    (λ c. search needs)
+    (λ c. search needs)
+    (λ c. search needs)
+    (λ c. search needs)
+    (λ c. search needs)
+    (λ c. search needs)
     (λ c. search needs)
     (λ c κs. search needs)
     (λ c. search needs)
     (λ c. search needs)
-    returns-2
-    returns-3)
+    returns
+    returns-2)
