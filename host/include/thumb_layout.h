@@ -4,7 +4,8 @@
    x86-64 Linux programs. It needs memcpy, memmove and memset of the C library, and nothing else.
 
    Each function is proved, for every input, to give the answer and the output that its definition gives
-   (crates/thumb_layout/specs/Interface.antt). This header is written by hand: nothing checks it against the source.
+   (crates/thumb_layout/specs/Interface.antt). This header is written by hand; `host/run` compares its declarations with the source
+   (host/rust/tests/declarations.rs).
 
    Answers
      0 or more: what the function says below.
