@@ -8,7 +8,7 @@ use lib.Dec.{ltb, ltb→lt, nltb→le}
 use lib.ListN.{length, take, drop, getD, length-append, length-map, List·getD-append, List·getD-map}
 use lib.Seq.{drop-cons, getD-append-add, getD-take, length-take-le, take-at, take-all, drop-append-add}
 use Rattle.prelude.specs.Booleans.{by-test}
-use Rattle.prelude.specs.Lists.{countFrom}
+use Rattle.prelude.specs.Lists.{countFrom, range}
 use Rattle.geometry.specs.declared.Rect.{Rect}
 use Rattle.layout.specs.declared.Control.{Control}
 use Rattle.layout.specs.declared.Layout.{Layout}
@@ -69,6 +69,13 @@ module _ (l : Layout) (cs : l .count ≤ length (l .controls)) (ss : l .stickcou
   elements-part a (suc k) h =
       let n = length-elements in
       rw (drop-cons (elementsOf l) a anyRect (omega arith)) (ap₂ (λ (r : Rect) (t : List Rect). r ∷ t) (sym (element-at a (omega arith))) (elements-part (suc a) k (omega arith)))
+
+  -- for the reader: no proof cites this law
+  pub elements-by-index : map (elementOf l) (range 0 (elementCountOf l)) ≡ elementsOf l
+  elements-by-index =
+      let n = length-elements in
+      let a : elementCountOf l - 0 ≡ elementCountOf l = omega arith in
+      rw a (elements-part 0 (elementCountOf l) (omega arith) ∙ take-all (elementCountOf l) (elementsOf l) (omega arith))
 
   pub first-elements : take (l .count + 1) (elementsOf l) ≡ l .dpad ∷ boundsOf l
   unfolding elementsOf
