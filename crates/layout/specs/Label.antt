@@ -1,11 +1,13 @@
 -- The labels of the controls. Definitions only.
 use mathlib.Core.Bool.{Bool, true, false}
-use mathlib.Core.List.{List, [], _∷_}
-use Prim.Native.Nat.{ℕ, _^_}
+use mathlib.Core.List.{List, [], _∷_, _++_}
+use Prim.Native.Nat.{ℕ, _-_, _^_}
 use lib.Bits.{bitAnd}
 use lib.Dec.{eqb}
+use lib.ListN.{length, replicate}
 use Rattle.layout.specs.declared.Label.{Label}
 use Rattle.layout.specs.declared.Label.the-variants.{Tri, O, X, Sq, L1, L2, R2, R1, Select, Start, L3, R3}
+use Rattle.layout.specs.declared.Name.{Name}
 
 -- the number of a label's bit in a button mask
 unfoldable pub idOf : Label → ℕ
@@ -60,3 +62,7 @@ nameOf Select = 83 ∷ 69 ∷ 76 ∷ 69 ∷ 67 ∷ 84 ∷ []  -- SELECT
 nameOf Start = 83 ∷ 84 ∷ 65 ∷ 82 ∷ 84 ∷ []  -- START
 nameOf L3 = 76 ∷ 51 ∷ []  -- L3
 nameOf R3 = 82 ∷ 51 ∷ []  -- R3
+
+-- the name in six bytes, with zeros after it, and its length
+unfoldable pub paddedNameOf : Label → Name
+paddedNameOf l = let name = nameOf l in record { bytes = name ++ replicate (6 - length name) 0; length = length name }

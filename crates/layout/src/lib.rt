@@ -2,11 +2,11 @@
 ghost use mathlib.Core.Path.{_≡_};
 ghost use mathlib.Core.Bool.{cond};
 ghost use Prim.Native.Nat.{_+_, _≤_, _<_};
-ghost use Rattle.layout.specs.Label.{maskOf, isFaceOf, onPspOf, nameOf};
+ghost use Rattle.layout.specs.Label.{maskOf, isFaceOf, onPspOf, paddedNameOf};
 ghost use Rattle.layout.specs.Actions.{joinOf, actionBoundsOf};
 ghost use Rattle.layout.specs.Psp.{atMostOneOf, pspInputsOf};
 ghost use mathlib.Core.List.{map, zipWith};
-ghost use lib.ListN.{drop, take};
+ghost use lib.ListN.{drop};
 ghost use Rattle.prelude.specs.Lists.{anyOf, replaceFirst};
 ghost use Rattle.geometry.specs.Rect.{overlapsOf};
 ghost use Rattle.layout.specs.Layout.{elementCountOf, elementOf, setElementOf, elementsOf, elementList, cutoutList, withBounds};
@@ -34,7 +34,7 @@ pub struct Control {
     pub label: Label,
 }
 
-// A name in ASCII: the first `length` bytes of the array.
+// A name in ASCII: the first `length` bytes of the array, zeros after them.
 pub struct Name {
     pub bytes: [u8; 6],
     pub length: usize,
@@ -125,7 +125,7 @@ impl Label {
 
     // The film sheet's name.
     pub fn name(self) -> Name
-        ensures { λ r. ⌜ (take (r .length) (r .bytes) ≡ nameOf self) × (r .length ≤ 6) ⌝ }
+        ensures { λ r. ⌜ r ≡ paddedNameOf self ⌝ }
     {
         match self {
             Label::Tri => named([b'T', b'R', b'I', 0, 0, 0], 3),
@@ -145,7 +145,7 @@ impl Label {
 }
 
 fn named(bytes: [u8; 6], length: usize) -> Name
-    ensures { λ r. ⌜ (take (r .length) (r .bytes) ≡ take length bytes) × (r .length ≡ length) ⌝ }
+    ensures { λ r. ⌜ r ≡ record { bytes = bytes; length = length } ⌝ }
 {
     Name { bytes, length }
 }

@@ -10,11 +10,10 @@ use Rattle.prelude.specs.Each.{Each, _&_}
 use Rattle.prelude.specs.EachLaws.{each-take, each-append, each-map, each-imp}
 use Rattle.geometry.specs.declared.Rect.{Rect}
 use Rattle.layout.specs.declared.Control.{Control}
-use Rattle.layout.specs.declared.Label.{Label}
-use Rattle.layout.specs.declared.Label.the-variants.{Tri, O, X, Sq, L1, L2, R2, R1, Select, Start, L3, R3}
 use Rattle.layout.specs.declared.Layout.{Layout}
 use Rattle.layout.specs.Label.{nameOf}
 use Rattle.layout.specs.Layout.{controlList, stickList}
+use Rattle.layout.proofs.Names.{length-name}
 use Rattle.numerics.specs.Bounds.{most-more}
 use Rattle.numerics.specs.Rects.{Element}
 use Rattle.search.specs.Bounded.{Bounded, BoundedGame}
@@ -25,21 +24,6 @@ use Rattle.sheet.specs.Sheet.{controlLine, toolbarLines, stickLines, lin
 -- a line of 39 bytes at most
 abbrev Short : Line → Type 0
 Short l = length (lineText l) ≤ 39
-
-length-name : (l : Label) → length (nameOf l) ≤ 6
-unfolding nameOf
-length-name Tri = lit≤ tt
-length-name O = lit≤ tt
-length-name X = lit≤ tt
-length-name Sq = lit≤ tt
-length-name L1 = lit≤ tt
-length-name L2 = lit≤ tt
-length-name R2 = lit≤ tt
-length-name R1 = lit≤ tt
-length-name Select = lit≤ tt
-length-name Start = lit≤ tt
-length-name L3 = lit≤ tt
-length-name R3 = lit≤ tt
 
 short : (name : List ℕ) (r : Rect) → T (leb (length name) 6) → Printable r → Short (lineOf name r)
 short name r t p = omega (arith, length-line name r p, leb→le (length name) 6 t)

@@ -3,6 +3,7 @@ use lib.Seq.{length-take-le}
 use Rattle.prelude.specs.EachLaws.{each-at}
 use Rattle.prelude.specs.Loops.{in-array, sized, Rest, stops, goes-on, runs-out}
 use Rattle.layout.specs.Layout.{anyControl}
+use Rattle.layout.proofs.Names.{name-held}
 use Rattle.numerics.specs.Rects.{Element}
 use Rattle.sheet.specs.SheetLaws.{element-printable}
 use Rattle.lines.proofs.Puts.{none, onward, ends, same}
@@ -26,24 +27,29 @@ abbrev μ-loop : tie.MeasureT-loop
 
 slice-aggregate-put-line : tie.Need-slice-aggregate-put-line Inv-loop μ-loop
 slice-aggregate-put-line c =
-    let n = c .before .before .before .name .result in
-    let k : length (n .bytes) ≡ 6 = search sized in
-    sym (length-take-le (n .length) (n .bytes) (omega arith))
+    let n = c .before .before .before .name in
+    let h = name-held _ (n .ensures) in
+    let k : length (n .result .bytes) ≡ 6 = search sized in
+    sym (length-take-le (n .result .length) (n .result .bytes) (omega arith))
 
 put-line-requires : tie.Need-put-line-requires Inv-loop μ-loop
 unfolding putOf flatMap
 put-line-requires c κs =
-    let s = c .before .before .before .before .before .before .before .before in
-    let l = c .before .before .before .before .before .before .loop in
+    let n = c .before .before .before in
+    let t = n .before .before in
+    let l = t .before .loop in
+    let s = t .before .before .before in
     let k : length (s .args .t3) ≡ 12 = search sized in
-    let e = stops anyControl (l .inv) (c .before .before .before .before .before .loop-test .taken) refl in
-    (element-printable (each-at (λ c. Element (c .bounds)) (l .i) (s .args .t3) anyControl (omega arith) (s .pre .1)), rw (c .before .before .before .name .ensures .0) (omega (arith, rw length-append at (ends _ _ _ e), rw length-stored at (same _ _ _ e))))
+    let e = stops anyControl (l .inv) (t .loop-test .taken) refl in
+    (element-printable (each-at (λ c. Element (c .bounds)) (l .i) (s .args .t3) anyControl (omega arith) (s .pre .1)), rw (name-held _ (n .name .ensures) .0) (omega (arith, rw length-append at (ends _ _ _ e), rw length-stored at (same _ _ _ e))))
 
 loop-again : tie.Need-loop-again Inv-loop μ-loop
 unfolding flatMap
 loop-again c =
-    let t = c .before .before .before .before .before .before .before .before in
-    goes-on anyControl (t .before .loop .inv) (t .loop-test .taken) (onward _ _ _ _ (rw (c .before .before .before .before .before .before .name .ensures .0) at (c .before .before .put-line .ensures)))
+    let p = c .before .before in
+    let n = p .before .before .before .before in
+    let t = n .before .before in
+    goes-on anyControl (t .before .loop .inv) (t .loop-test .taken) (onward _ _ _ _ (rw (name-held _ (n .name .ensures) .0) at (p .put-line .ensures)))
 
 returns : tie.Need-returns Inv-loop μ-loop
 unfolding flatMap
@@ -59,7 +65,7 @@ put-controls-spec =
     (λ c. omega arith)
     (λ c. omega arith)
     (λ c κs. search needs)
-    (λ c. let k : length (c .before .before .name .result .bytes) ≡ 6 = search sized in omega arith)
+    (λ c. let n = c .before .before .name in let h = name-held _ (n .ensures) in let k : length (n .result .bytes) ≡ 6 = search sized in omega arith)
     slice-aggregate-put-line
     put-line-requires
     (λ c. omega arith)
