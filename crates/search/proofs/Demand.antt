@@ -190,6 +190,7 @@ module _ {b : Rect} (B : Area b) {a : Float} {p q : ℕ} (S : Shape a p q) (es :
       let G = the-game B S es F offset ox oy 1 (zero-lt-suc 0) in
       record {
         finite = G .finite;
+        finite-elements = each-imp _ _ (λ e f. element-whole f) es F;
         widest = rival;
         apart = each-imp _ _ (λ e k. apart-meets (k .0) (G .finite) (k .1)) es (each-both _ _ es F (game-apart B S es F offset ox oy 1 (zero-lt-suc 0)));
       }

@@ -75,9 +75,10 @@ pub record Rival (p q : ℕ) (elements : List Rect) (area : Rect) (found : Float
   pub clear : Each (λ e. T (not (meets r (over d e)))) elements
   pub centred : (middle r ≡ middle (over d area)) ⊎ (value found ≡ pos 0)
 
--- no rival is more than 1/16 wider than the game, and the game meets no element by over 1/16 both across and down
+-- the numbers of the game and of the elements are finite, no rival is more than 1/16 wider than the game, and the game meets no element by over 1/16 both across and down
 pub record Widest (p q : ℕ) (elements : List Rect) (area : Rect) (found : Float) (game : Rect) : Type 0 where
   pub finite : WholeRect game
+  pub finite-elements : Each WholeRect elements
   pub widest : (d : ℕ) → 0 < d → (r : Exact) → Rival p q elements area found d r → T (leZ (r .w) ((value (game .w) +ℤ pos sixteenth) *ℤ pos d))
   pub apart : Each (λ e. T (leZ (meetAcross (over 1 game) (over 1 e)) (pos sixteenth) || leZ (meetDown (over 1 game) (over 1 e)) (pos sixteenth))) elements
 

@@ -8,10 +8,14 @@ use Rattle.prelude.specs.EachLaws.{each-map, each-unmap, each-imp}
 use Rattle.geometry.specs.declared.Rect.{Rect}
 use Rattle.layout.specs.declared.Layout.{Layout}
 use Rattle.layout.specs.Layout.{elementsOf}
+use Rattle.numerics.specs.Rects.{WholeRect}
 use Rattle.search.specs.Widest.{Exact, over, meets, Rival, Widest}
 use Rattle.writer.specs.Bytes.{layoutBytes}
 use Rattle.written.specs.Written.{writtenGame, writtenElements, plusZeroRect, LayoutIsF32}
 use Rattle.written.specs.ReadBack.{plus-zero-value, plus-zero-whole, game-back, elements-back}
+
+plus-zero-finite : (r : Rect) → WholeRect r → WholeRect (plusZeroRect r)
+plus-zero-finite r f = record { x = plus-zero-whole (r .x) (f .x); y = plus-zero-whole (r .y) (f .y); w = plus-zero-whole (r .w) (f .w); h = plus-zero-whole (r .h) (f .h) }
 
 module _ {p q : ℕ} {es : List Rect} {area : Rect} {found : Float} where
   rival-same : {d : ℕ} {r : Exact} → Rival p q (map plusZeroRect es) area found d r → Rival p q es area found d r
@@ -26,7 +30,8 @@ module _ {p q : ℕ} {es : List Rect} {area : Rect} {found : Float} where
 
   plus-zero-widest : {g : Rect} → Widest p q es area found g → Widest p q (map plusZeroRect es) area found (plusZeroRect g)
   plus-zero-widest {g} W = record {
-    finite = record { x = plus-zero-whole (g .x) (W .finite .x); y = plus-zero-whole (g .y) (W .finite .y); w = plus-zero-whole (g .w) (W .finite .w); h = plus-zero-whole (g .h) (W .finite .h) };
+    finite = plus-zero-finite g (W .finite);
+    finite-elements = each-map WholeRect plusZeroRect es (each-imp _ _ plus-zero-finite es (W .finite-elements));
     widest = λ d D r R. rw (plus-zero-value (g .w)) (W .widest d D r (rival-same R));
     apart = each-map _ plusZeroRect es (each-imp _ _ (λ e t. simp plus-zero-value t) es (W .apart));
   }
