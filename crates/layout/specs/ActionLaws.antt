@@ -19,7 +19,7 @@ use Rattle.layout.specs.ElementLaws.{by-ltb}
 use Rattle.layout.specs.Actions.{joinOf, actionElementsOf, actionBoundsOf}
 
 module _ (l : Layout) where
-  element-control : (k : ℕ) → k < l .count → getD (l .controls) k anyControl .bounds ≡ elementOf l (suc k)
+  pub element-control : (k : ℕ) → k < l .count → getD (l .controls) k anyControl .bounds ≡ elementOf l (suc k)
   unfolding elementOf
   element-control k h =
       by-ltb (suc k) 1 (λ p. absurd (let z : ⊥ = omega arith in z))
