@@ -50,6 +50,7 @@ pub struct MaybeLayout {
 }
 
 // Rust's `None`.
+// The layout beside `some: false` is left open, but for its counts.
 pub fn no_layout() -> MaybeLayout
     ensures { λ r. ⌜ (maybe r ≡ none) × (r .layout .count ≡ 0) × (r .layout .stickcount ≡ 0) ⌝ }
 {

@@ -194,6 +194,7 @@ pub fn aspect(psp: bool) -> f32
     pick(psp, 480.0 / 272.0, 4.0 / 3.0)
 }
 
+// The layout beside `some: false` is left open, but for its counts.
 pub fn controller_band(w: f32, h: f32, analog: bool, psp: bool, picture: Rect) -> MaybeLayout
     ensures { λ r. ⌜ (maybe r ≡ controllerBandOf w h analog psp picture) × (r .layout .count ≤ 12) × (r .layout .stickcount ≤ 2) ⌝ }
 {

@@ -141,6 +141,7 @@ fn anchored_rails(
     anchor_toolbar(layout, w, h, reusable_top(picture), 0.0, cutouts)
 }
 
+// The layout beside `some: false` is left open, but for its counts.
 pub fn analog_camera_rails(
     w: f32,
     h: f32,

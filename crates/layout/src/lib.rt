@@ -255,6 +255,7 @@ impl Layout {
     }
 
     // All elements, in the order of their indices.
+    // The places of the array past the count are left open.
     pub fn elements(self) -> Elements
         requires { ⌜ (self .count ≤ 12) × (self .stickcount ≤ 2) ⌝ }
         ensures { λ r. ⌜ (elementList r ≡ elementsOf self) × (r .count ≡ elementCountOf self) ⌝ }
@@ -286,6 +287,7 @@ impl Layout {
     }
 
     // The elements but for the toolbar's.
+    // The places of the array past the count are left open.
     pub fn controller_elements(self) -> Elements
         requires { ⌜ (self .count ≤ 12) × (self .stickcount ≤ 2) ⌝ }
         ensures { λ r. ⌜ (elementList r ≡ map (elementOf self) (controllerElementsOf self)) × (r .count ≡ self .count + 1 + self .stickcount) ⌝ }

@@ -134,6 +134,7 @@ fn stacked(l: Layout, left: Rect, right: Rect, analog: bool, s: Stack) -> Layout
 }
 
 // A stack of controls in each of two columns, where there is room.
+// The layout beside `some: false` is left open, but for its counts.
 pub fn vertical(base: Layout, left: Rect, right: Rect, analog: bool) -> MaybeLayout
     requires { ⌜ (base .count ≤ 12) × (base .stickcount ≤ 2) ⌝ }
     ensures { λ r. ⌜ (maybe r ≡ verticalOf base left right analog) × (r .layout .count ≤ 12) × (r .layout .stickcount ≤ 2) ⌝ }
@@ -231,6 +232,7 @@ fn rowed(l: Layout, w: f32, row: Row) -> Layout
 }
 
 // Sticks and wells side by side in a band, where there is room.
+// The layout beside `some: false` is left open, but for its counts.
 pub fn horizontal(base: Layout, w: f32, band: Rect, analog: bool, psp: bool) -> MaybeLayout
     requires { ⌜ (base .count ≤ 12) × (base .stickcount ≤ 2) ⌝ }
     ensures { λ r. ⌜ (maybe r ≡ horizontalOf base w band analog psp) × (r .layout .count ≤ 12) × (r .layout .stickcount ≤ 2) ⌝ }
@@ -302,6 +304,7 @@ pub fn base(w: f32, h: f32, analog: bool, psp: bool) -> Layout
     arranged::arranged(w, h, false)
 }
 
+// The layout beside `some: false` is left open, but for its counts.
 pub fn controls(w: f32, h: f32, game: Rect, analog: bool, psp: bool, holes: Cutouts) -> MaybeLayout
     requires { ⌜ holes .count ≤ 16 ⌝ }
     ensures { λ r. ⌜ (maybe r ≡ controlsOf w h game analog psp (cutoutList holes)) × (r .layout .count ≤ 12) × (r .layout .stickcount ≤ 2) ⌝ }

@@ -298,6 +298,7 @@ fn blank() -> Settings
     }
 }
 
+// The settings of a refused reading are left open.
 pub fn read_order(bytes: &[u8]) -> Reading
     ensures { λ r. ⌜ answerOf r ≡ readOrderOf (now (bytes .entry)) ⌝ }
 {
