@@ -5,7 +5,7 @@ use Rattle.arranged.specs.Places.{standardOf, analogOf}
 use Rattle.band.specs.declared.Band.{Band}
 use Rattle.band.specs.Band.{bandPlacesOf, bandDpad, leftStick, rightStick}
 
--- the controls of `bandedOf`, without toolbar and game (`band-anew` of proofs/Anew)
+-- the controls of `bandedOf`, without toolbar and game (`banded-bare` of proofs/Anew)
 unfoldable pub bandControlsOf : Bool → Bool → Band → Layout
 bandControlsOf analog deep b =
     let places = bandPlacesOf analog deep b in

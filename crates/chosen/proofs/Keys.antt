@@ -1,4 +1,4 @@
--- The toolbar's keys, and so the area below them, do not depend on the layout.
+-- Where nothing covers the toolbar, its keys, and so the area below them, do not depend on the layout.
 use mathlib.Core.Path.{_≡_, refl}
 use mathlib.Core.Bool.{Bool, true, false}
 use mathlib.Core.List.{List}

@@ -1,4 +1,4 @@
--- Every arrangement that may be chosen has the labels, the counts and the arrays of its mode; every step of `layout_in` keeps them.
+-- Every arrangement that may be chosen has the labels, the counts and the arrays of its mode; the toolbar, the game and the cutout pass keep them.
 use mathlib.Core.Path.{_≡_, _∙_}
 use mathlib.Core.Bool.{Bool, true, false, _||_, or-true}
 use mathlib.Core.List.{List}

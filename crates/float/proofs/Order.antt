@@ -1,4 +1,4 @@
--- The order of floats: `<` goes on over `<=` and excludes itself turned round and `==`; what lies below a value stays below it under `min`.
+-- The order of floats: `<` goes on over `<=`, holds between no float and itself, and excludes `==`; what lies below a value stays below it under `min`.
 use mathlib.Core.Path.{_≡_, sym}
 use mathlib.Core.Logic.{_⊎_, inl, inr}
 use mathlib.Core.Bool.{Bool, true, false, _&&_, _||_, Bool·beq}

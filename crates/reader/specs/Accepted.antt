@@ -1,4 +1,4 @@
--- An accepted order gives settings in document 01's limits, each number of which is a value of binary32; a refused one has a number from 1 to 7.
+-- An accepted order gives settings in document 01's limits, and each number that has limits is a value of binary32; a refused one has a number from 1 to 7.
 use mathlib.Core.Path.{_≡_, refl, _∙_}
 use mathlib.Core.Bool.{Bool, true, false, _&&_, _||_}
 use mathlib.Core.List.{List, [], _∷_}
