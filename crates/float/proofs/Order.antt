@@ -18,29 +18,30 @@ use Rattle.float.specs.MinMax.{minOf}
 above : (a x d g : ℕ) → 0 < g → a < x * d → 0 < x * g
 above a x d g G h = mul-pos (first-pos x d (omega arith)) G
 
+-- what `<=` of two numbers with one sign says of their sizes
+level-is : (a b : ℕ) → T (eqb a b && true) → a ≡ b
+level-is a b v = eqb→eq a b (and-l (eqb a b) true v)
+
+pub at-most : (a b : ℕ) → T (ltb a b || (eqb a b && true)) → a ≤ b
+at-most a b = or-case (ltb a b) (eqb a b && true) (λ t. le-of-lt (ltb→lt a b t)) (λ v. le-of-eq (level-is a b v))
+
+pub at-least : (a b : ℕ) → T (ltb b a || (eqb a b && true)) → b ≤ a
+at-least a b = or-case (ltb b a) (eqb a b && true) (λ t. le-of-lt (ltb→lt b a t)) (λ v. le-of-eq (sym (level-is a b v)))
+
 -- ---- x / e, y / d and z / g, each with a sign
 module _ (x y z e d g : ℕ) (E : 0 < e) (D : 0 < d) (G : 0 < g) where
   some : 0 < x * d + y * e → (0 < x * g) ⊎ (0 < y * g)
   some p = elim (eq-zero-or-pos (x * d)) [ inl k ↦ inr (above 0 y e g G (omega arith)) | inr k ↦ inl (above 0 x d g G k) ]
 
-  level-is : T (eqb (y * g) (z * d) && true) → y * g ≡ z * d
-  level-is v = eqb→eq (y * g) (z * d) (and-l (eqb (y * g) (z * d)) true v)
-
-  upper : T (ltb (y * g) (z * d) || (eqb (y * g) (z * d) && true)) → y * g ≤ z * d
-  upper = or-case (ltb (y * g) (z * d)) (eqb (y * g) (z * d) && true) (λ t. le-of-lt (ltb→lt (y * g) (z * d) t)) (λ v. le-of-eq (level-is v))
-
-  lower : T (ltb (z * d) (y * g) || (eqb (y * g) (z * d) && true)) → z * d ≤ y * g
-  lower = or-case (ltb (z * d) (y * g)) (eqb (y * g) (z * d) && true) (λ t. le-of-lt (ltb→lt (z * d) (y * g) t)) (λ v. le-of-eq (sym (level-is v)))
-
   below-most : (s t u : Bool) → T (below s (x * d) t (y * e)) → T (below t (y * g) u (z * d) || level t (y * g) u (z * d)) → T (below s (x * g) u (z * e))
   below-most false true u p q = absurd p
   below-most false false false p q =
-      lt→ltb (x * g) (z * e) (lt-of-mul-lt-mul-right d (omega (arith, mul-lt-mul-of-pos-right (ltb→lt (x * d) (y * e) p) G, mul-le-mul-right e (upper q))))
+      lt→ltb (x * g) (z * e) (lt-of-mul-lt-mul-right d (omega (arith, mul-lt-mul-of-pos-right (ltb→lt (x * d) (y * e) p) G, mul-le-mul-right e (at-most (y * g) (z * d) q))))
   below-most true false false p q =
-      lt→ltb 0 (x * g + z * e) (elim (some (ltb→lt 0 (x * d + y * e) p)) [ inl k ↦ omega arith | inr k ↦ omega (arith, above 0 z d e E (lt-of-lt-of-le k (upper q))) ])
+      lt→ltb 0 (x * g + z * e) (elim (some (ltb→lt 0 (x * d + y * e) p)) [ inl k ↦ omega arith | inr k ↦ omega (arith, above 0 z d e E (lt-of-lt-of-le k (at-most (y * g) (z * d) q))) ])
   below-most true true false p q = lt→ltb 0 (x * g + z * e) (omega (arith, above _ x d g G (ltb→lt (y * e) (x * d) p)))
   below-most true true true p q =
-      lt→ltb (z * e) (x * g) (lt-of-mul-lt-mul-right d (omega (arith, mul-lt-mul-of-pos-right (ltb→lt (y * e) (x * d) p) G, mul-le-mul-right e (lower q))))
+      lt→ltb (z * e) (x * g) (lt-of-mul-lt-mul-right d (omega (arith, mul-lt-mul-of-pos-right (ltb→lt (y * e) (x * d) p) G, mul-le-mul-right e (at-least (y * g) (z * d) q))))
   -- here y and z are zero
   below-most false false true p q = absurd (let k : ⊥ = omega (arith, above _ y e g G (ltb→lt (x * d) (y * e) p), eqb→eq (y * g) 0 (and-r (eqb (y * g) (z * d)) (eqb (y * g) 0) q)) in k)
   below-most true false true p q =

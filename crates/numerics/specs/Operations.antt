@@ -46,7 +46,7 @@ fits-whole (fin s (suc m) (negsuc k)) f t =
     let h : suc k ≤ 149 = expo (suc k) 149 (low-enough m s (negsuc k) t) in
     exact (suc m * 1 * 2 ^ 149) (2 ^ suc k) (suc m * 1 * 2 ^ (149 - suc k)) (down-pos (negsuc k)) (ap (λ (x : ℕ). suc m * 1 * x) (split (suc k) 149 h) ∙ sym (mul-assoc (suc m * 1) (2 ^ (149 - suc k)) (2 ^ suc k)))
 
-pub whole-ind : (C : Float → Type 0) → ((s : Bool) (m : ℕ) (e : ℤ) → C (fin s m e)) → (x : Float) → Whole x → C x
+whole-ind : (C : Float → Type 0) → ((s : Bool) (m : ℕ) (e : ℤ) → C (fin s m e)) → (x : Float) → Whole x → C x
 whole-ind C f nan p = absurd p
 whole-ind C f (inf s) p = absurd p
 whole-ind C f (fin s m e) p = f s m e

@@ -15,11 +15,12 @@ use Rattle.float.specs.Float.{_⊕_, _⊖_, _⊗_, _⊘_, k0}
 use Rattle.geometry.specs.declared.Rect.{Rect}
 use Rattle.geometry.specs.Rect.{newOf}
 use Rattle.float.specs.MinMax.{minOf, maxOf, clampOf}
+use Rattle.float.proofs.Ends.{not-lt-le, finite-number, finite-between}
 use Rattle.numerics.specs.Value.{magnitude, sign, Whole, posPart, negPart, eps, limit, AtMost, Fraction, P, N, Le}
 use Rattle.numerics.specs.Rects.{maxCorner, maxSide, Element, maxArea, Placed}
 use Rattle.numerics.specs.Range.{In, at, minus, reach}
 use Rattle.numerics.specs.Rounding.{round-ind}
-use Rattle.numerics.specs.Operations.{Near, fits-whole, whole-ind, neg-whole, neg-swaps, one-zero, mul-flip}
+use Rattle.numerics.specs.Operations.{Near, fits-whole, whole-finite, neg-whole, neg-swaps, one-zero, mul-flip}
 use Rattle.numerics.specs.Bounds.{add-bounded, sub-bounded, mul-bounded, div-bounded, lt-not, le-law, le-not, min-ind, max-ind, eps-pos, zero-most, most-more}
 
 in-most : (x : Float) (a b n : ℕ) → In x a b → limit ≤ a + n → b ≤ limit + n → AtMost x n
@@ -181,13 +182,11 @@ clamped x {l} {h} {a} {b} {a'} {b'} i j p =
 
 -- a value that is no NaN, finite or not, is brought into the range; a b of the lower end, a' b' of the upper
 clamp-any-in : (x : Float) {l h : Float} {a b a' b' : ℕ} → T (not (isNan x)) → T (fits binary32 x) → In l a b → In h a' b' → In (clampOf x l h) (min a a') (max b b')
-clamp-any-in x {l} {h} n f i j = clamped x i j (λ s t. fits-whole x (own x n s t) f)
+clamp-any-in x {l} {h} n f i j =
+    clamped x i j (λ s t. fits-whole x (own (whole-finite l (i .whole)) (whole-finite h (j .whole)) s t) f)
   where
-    own : (x : Float) → T (not (isNan x)) → T (not (lt x l)) → T (not (lt h x)) → T (finite x)
-    own nan n s t = unfold isNan in n
-    own (inf true) n s t = whole-ind (λ l. T (not (lt (inf true) l)) → ⊥) (λ g m e u. unfold lt in u) l (i .whole) s
-    own (inf false) n s t = whole-ind (λ h. T (not (lt h (inf false))) → ⊥) (λ g m e u. unfold lt in u) h (j .whole) t
-    own (fin g m e) n s t = tt
+    own : T (finite l) → T (finite h) → T (not (lt x l)) → T (not (lt h x)) → T (finite x)
+    own p q s t = finite-between l x h p q (not-lt-le l x (finite-number l p) n s) (not-lt-le x h n (finite-number h q) t)
 
 -- a finite value
 pub clamp-whole-in : (x : Float) {l h : Float} {a b a' b' : ℕ} → Whole x → In l a b → In h a' b' → In (clampOf x l h) (min a a') (max b b')
@@ -222,17 +221,11 @@ range-most n {x} {a} {b} i t =
 -- ---- a number that passed the tests of an order
 pub tested : (x : Float) {l h : Float} {a b a' b' : ℕ} → T (fits binary32 x) → In l a b → In h a' b' → T (le l x) → T (le x h) → In x a b'
 tested x {l} {h} f i j s t =
-    let p = fits-whole x (own x s t) f in
+    let p = fits-whole x (finite-between l x h (whole-finite l (i .whole)) (whole-finite h (j .whole)) s t) f in
     record { whole = p; lo = omega (arith, i .lo, raw l x (le-law 1 l x (i .whole) p s)); hi = omega (arith, j .hi, raw x h (le-law 1 x h p (j .whole) t)) }
-  where
-    own : (x : Float) → T (le l x) → T (le x h) → T (finite x)
-    own nan s t = whole-ind (λ l. T (le l nan) → ⊥) (λ g m e u. unfold le in u) l (i .whole) s
-    own (inf true) s t = whole-ind (λ l. T (le l (inf true)) → ⊥) (λ g m e u. unfold le in u) l (i .whole) s
-    own (inf false) s t = whole-ind (λ h. T (le (inf false) h) → ⊥) (λ g m e u. unfold le in u) h (j .whole) t
-    own (fin g m e) s t = tt
 
 -- ---- a product of two finite numbers is no NaN
-mul-not-nan : (x y : Float) → T (finite x) → T (finite y) → T (not (isNan (x ⊗ y)))
+pub mul-not-nan : (x y : Float) → T (finite x) → T (finite y) → T (not (isNan (x ⊗ y)))
 unfolding mul isNan
 mul-not-nan nan y p q = absurd p
 mul-not-nan (inf s) y p q = absurd p
