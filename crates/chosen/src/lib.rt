@@ -3,6 +3,8 @@ ghost use mathlib.Core.Path.{_≡_};
 ghost use mathlib.Core.Bool.{true, _||_};
 ghost use mathlib.Core.Option.{Option·getD};
 ghost use Prim.Native.Nat.{_≤_};
+ghost use lib.Dec.{T};
+ghost use lib.Ieee.{le};
 ghost use Rattle.float.specs.Float.{k0};
 ghost use Rattle.layout.specs.Labels.{OfMode};
 ghost use Rattle.layout.specs.Layout.{cutoutList};
@@ -178,7 +180,7 @@ fn around(
     picture: Rect,
     area: Rect,
 ) -> Layout
-    requires { ⌜ cutouts .count ≤ 16 ⌝ }
+    requires { ⌜ (cutouts .count ≤ 16) × T (le k0 w) × T (le k0 h) ⌝ }
     ensures { λ r. ⌜ r ≡ aroundOf (firstOf psp analog true w h (cutoutList cutouts) picture) w h area (cutoutList cutouts) (analog || psp) psp ⌝ }
 {
     let game = largest(area, aspect(psp));
@@ -201,7 +203,7 @@ pub fn arrangement(
     picture: Rect,
     area: Rect,
 ) -> Layout
-    requires { ⌜ cutouts .count ≤ 16 ⌝ }
+    requires { ⌜ (cutouts .count ≤ 16) × T (le k0 w) × T (le k0 h) ⌝ }
     ensures { λ r. ⌜ r ≡ arrangementOf maximum plain (firstOf psp analog maximum w h (cutoutList cutouts) picture) w h area (cutoutList cutouts) (analog || psp) psp ⌝ }
 {
     if !plain {

@@ -99,10 +99,18 @@ fn value(function: u8, a: &[u8; 116]) -> f32 {
     match function {
         1 => float::min(x, y),
         2 => float::max(x, y),
-        3 => float::clamp(x, y, float_at(a, 2)),
+        3 => clamp(x, y, float_at(a, 2)),
         4 => float::abs(x),
         _ => hypot::hypot(x, y),
     }
+}
+
+// Crossed ends, which the Rust panics on and no list has, are answered by NaN.
+fn clamp(x: f32, low: f32, high: f32) -> f32 {
+    if low <= high {
+        return float::clamp(x, low, high);
+    }
+    0.0 / 0.0
 }
 
 fn contains(a: &[u8; 116]) -> bool {
@@ -163,18 +171,30 @@ fn layout(function: u8, a: &[u8; 116]) -> MaybeLayout {
         11 => band::controller_band(w, h, analog, psp, r),
         12 => anchor_toolbar(a),
         13 => picture::vertical(picture::base(w, h, analog, psp), r, rect_at(a, 9), analog),
-        _ => picture::controls(w, h, r, analog, psp, cutouts(0, r)),
+        _ => controls(w, h, r, analog, psp),
     }
 }
 
-// On the layout that is arranged for the screen.
+// On the layout that is arranged for the screen. A reusable top below 0, which no list has, has no answer.
 fn anchor_toolbar(a: &[u8; 116]) -> MaybeLayout {
     let w = float_at(a, 1);
     let h = float_at(a, 2);
+    let top = float_at(a, 3);
     let holes = cutouts(word_at(a, 5), rect_at(a, 6));
     let l = arranged::arranged(w, h, false);
-    let layout = toolbar::anchor_toolbar(l, w, h, float_at(a, 3), float_at(a, 4), holes);
-    MaybeLayout { some: true, layout }
+    if top >= 0.0 {
+        let layout = toolbar::anchor_toolbar(l, w, h, top, float_at(a, 4), holes);
+        return MaybeLayout { some: true, layout };
+    }
+    arranged::no_layout()
+}
+
+// A side below 0, which no list has, has no answer.
+fn controls(w: f32, h: f32, game: Rect, analog: bool, psp: bool) -> MaybeLayout {
+    if w >= 0.0 && h >= 0.0 {
+        return picture::controls(w, h, game, analog, psp, cutouts(0, game));
+    }
+    arranged::no_layout()
 }
 
 // The element of it that a call asks for, or 255 for none.

@@ -1,7 +1,8 @@
 // f32 helpers, as Rust's library has them.
 ghost use mathlib.Core.Path.{_≡_};
 ghost use mathlib.Core.Bool.{cond};
-ghost use lib.Ieee.{binary32, ofBits, toBits};
+ghost use lib.Dec.{T};
+ghost use lib.Ieee.{binary32, le, ofBits, toBits};
 ghost use Rattle.float.specs.MinMax.{minOf, maxOf, clampOf, absOf};
 
 // Rust's `std::f32::consts::SQRT_2`.
@@ -32,8 +33,9 @@ pub fn max(a: f32, b: f32) -> f32
     if a < b { b } else { a }
 }
 
-// Rust's clamp asserts low <= high; this one is total, and the order of its two tests is Rust's.
+// Rust's clamp asserts low <= high; here that is required. The order of the two tests is Rust's.
 pub fn clamp(x: f32, low: f32, high: f32) -> f32
+    requires { ⌜ T (le low high) ⌝ }
     ensures { λ r. ⌜ r ≡ clampOf x low high ⌝ }
 {
     let y = pick(x < low, low, x);

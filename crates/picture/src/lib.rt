@@ -2,6 +2,9 @@
 ghost use mathlib.Core.Path.{_≡_};
 ghost use Prim.Native.Nat.{_≤_};
 ghost use mathlib.Core.Bool.{_&&_};
+ghost use lib.Dec.{T};
+ghost use lib.Ieee.{le};
+ghost use Rattle.float.specs.Float.{k0};
 ghost use Rattle.arranged.specs.Places.{maybe};
 ghost use Rattle.fits.specs.Fits.{fitsOf};
 ghost use Rattle.layout.specs.Layout.{cutoutList};
@@ -267,7 +270,7 @@ fn fitted(
     psp: bool,
     holes: Cutouts,
 ) -> MaybeLayout
-    requires { ⌜ (base .count ≤ 12) × (base .stickcount ≤ 2) × (holes .count ≤ 16) ⌝ }
+    requires { ⌜ (base .count ≤ 12) × (base .stickcount ≤ 2) × (holes .count ≤ 16) × T (le k0 w) × T (le k0 h) ⌝ }
     ensures { λ r. ⌜ (maybe r ≡ fittedOf base w h game analog psp (cutoutList holes)) × (r .layout .count ≤ 12) × (r .layout .stickcount ≤ 2) ⌝ }
 {
     let bottom = clamp(game.y + game.h, 0.0, h);
@@ -306,7 +309,7 @@ pub fn base(w: f32, h: f32, analog: bool, psp: bool) -> Layout
 
 // The layout beside `some: false` is left open, but for its counts.
 pub fn controls(w: f32, h: f32, game: Rect, analog: bool, psp: bool, holes: Cutouts) -> MaybeLayout
-    requires { ⌜ holes .count ≤ 16 ⌝ }
+    requires { ⌜ (holes .count ≤ 16) × T (le k0 w) × T (le k0 h) ⌝ }
     ensures { λ r. ⌜ (maybe r ≡ controlsOf w h game analog psp (cutoutList holes)) × (r .layout .count ≤ 12) × (r .layout .stickcount ≤ 2) ⌝ }
 {
     fitted(base(w, h, analog, psp), w, h, game, analog, psp, holes)

@@ -2,6 +2,10 @@
 ghost use mathlib.Core.Path.{_≡_};
 ghost use mathlib.Core.Bool.{true};
 ghost use Prim.Native.Nat.{_≤_};
+ghost use lib.Dec.{T};
+ghost use lib.Ieee.{le};
+ghost use lib.Ieee.Scale.{finite};
+ghost use Rattle.float.specs.Float.{k0};
 ghost use Rattle.layout.specs.Layout.{cutoutList};
 ghost use Rattle.settings.specs.Settings.{acceptedOf};
 ghost use Rattle.preset.specs.Preset.{isMaximumOf, plainOf, rowAllowedOf, laidOutOf, layoutInOf, layoutWithCutoutsOf, viewportLayoutOf, settingsLayoutOf, settingsViewportOf};
@@ -52,7 +56,7 @@ fn row_allowed(p: Preset, cutouts: Cutouts) -> bool
 
 // On a screen of 1 by 1 at least.
 fn laid_out(p: Preset, w: f32, h: f32, cutouts: Cutouts, picture: Rect) -> Layout
-    requires { ⌜ (p .count ≤ 32) × (cutouts .count ≤ 16) ⌝ }
+    requires { ⌜ (p .count ≤ 32) × (cutouts .count ≤ 16) × T (finite w) × T (finite h) × T (le k0 w) × T (le k0 h) ⌝ }
     ensures { λ r. ⌜ r ≡ laidOutOf p w h (cutoutList cutouts) picture ⌝ }
 {
     let psp = p.psp;
@@ -74,14 +78,14 @@ fn laid_out(p: Preset, w: f32, h: f32, cutouts: Cutouts, picture: Rect) -> Layou
 }
 
 pub fn layout_in(p: Preset, w: f32, h: f32, cutouts: Cutouts, picture: Rect) -> Layout
-    requires { ⌜ (p .count ≤ 32) × (cutouts .count ≤ 16) ⌝ }
+    requires { ⌜ (p .count ≤ 32) × (cutouts .count ≤ 16) × T (finite w) × T (finite h) ⌝ }
     ensures { λ r. ⌜ r ≡ layoutInOf p w h (cutoutList cutouts) picture ⌝ }
 {
     laid_out(p, max(w, 1.0), max(h, 1.0), cutouts, picture)
 }
 
 pub fn layout_with_cutouts(p: Preset, w: f32, h: f32, cutouts: Cutouts) -> Layout
-    requires { ⌜ (p .count ≤ 32) × (cutouts .count ≤ 16) ⌝ }
+    requires { ⌜ (p .count ≤ 32) × (cutouts .count ≤ 16) × T (finite w) × T (finite h) ⌝ }
     ensures { λ r. ⌜ r ≡ layoutWithCutoutsOf p w h (cutoutList cutouts) ⌝ }
 {
     let picture = Rect::new(0.0, 0.0, max(w, 1.0), max(h, 1.0));
@@ -98,7 +102,7 @@ pub fn viewport_layout(
     covered_top: f32,
     cutouts: Cutouts,
 ) -> Layout
-    requires { ⌜ (p .count ≤ 32) × (cutouts .count ≤ 16) ⌝ }
+    requires { ⌜ (p .count ≤ 32) × (cutouts .count ≤ 16) × T (finite w) × T (finite h) × T (le k0 «reusable_top») ⌝ }
     ensures { λ r. ⌜ r ≡ viewportLayoutOf p w h picture «reusable_top» «covered_top» (cutoutList cutouts) ⌝ }
 {
     let layout = layout_in(p, w, h, cutouts, picture);
@@ -118,7 +122,7 @@ pub fn settings_layout(s: Settings) -> Layout
 }
 
 pub fn settings_viewport(s: Settings, reusable_top: f32, covered_top: f32) -> Layout
-    requires { ⌜ acceptedOf s ≡ true ⌝ }
+    requires { ⌜ (acceptedOf s ≡ true) × T (le k0 «reusable_top») ⌝ }
     ensures { λ r. ⌜ r ≡ settingsViewportOf s «reusable_top» «covered_top» ⌝ }
 {
     viewport_layout(

@@ -4,13 +4,11 @@ use mathlib.Core.List.{List, [], _∷_}
 use Prim.Native.Nat.{_≤_}
 use native.Mathlib.Omega.{arith}
 use lib.Dec.{T}
-use lib.Ieee.{Float, nan, inf, fin, lt}
-use lib.Ieee.Scale.{finite}
+use lib.Ieee.{Float}
 use lib.ListN.{length}
-use Rattle.prelude.specs.Booleans.{either, by-test, all-four}
+use Rattle.prelude.specs.Booleans.{either, by-test}
 use Rattle.prelude.specs.Each.{Each}
 use Rattle.prelude.specs.Lists.{isEmpty}
-use Rattle.float.specs.MinMax.{absOf}
 use Rattle.geometry.specs.declared.Rect.{Rect}
 use Rattle.layout.specs.declared.Layout.{Layout}
 use Rattle.layout.specs.Layout.{elementsOf}
@@ -23,26 +21,20 @@ use Rattle.numerics.specs.Literals.{lit}
 use Rattle.search.specs.Bounded.{Bounded}
 use Rattle.search.specs.Changes.{set-elements-in}
 use Rattle.search.proofs.Layouts.{elements-in}
-use Rattle.saved.specs.Saved.{isFiniteOf, usableOf, onScreenOf, restoreOf, restoredOf, withSavedOf}
-use Rattle.saved.specs.SavedLaws.{length-restored}
-
-is-finite : (x : Float) → T (isFiniteOf x) → T (finite x)
-unfolding isFiniteOf absOf lt
-is-finite nan t = t
-is-finite (inf s) t = t
-is-finite (fin s m e) t = tt
+use Rattle.saved.specs.Saved.{usableOf, onScreenOf, restoreOf, restoredOf, withSavedOf}
+use Rattle.saved.specs.SavedLaws.{usable-finite, length-restored}
 
 module _ {w h : Float} (W : In w (at 1) (at 8192)) (H : In h (at 1) (at 8192)) where
   on-screen-in : (r : Rect) → T (usableOf r) → Element (onScreenOf w h r)
-  unfolding onScreenOf usableOf
+  unfolding onScreenOf
   on-screen-in r t =
-      let f = all-four (isFiniteOf (r .x)) (isFiniteOf (r .y)) (isFiniteOf (r .w)) (isFiniteOf (r .h)) t in
+      let f = usable-finite r t in
       let across = whole-finite w (W .whole) in
       let down = whole-finite h (H .whole) in
-      let width = saved-in (r .w) w (is-finite (r .w) (f .2)) across (min-in (lit 24) W) W in
-      let height = saved-in (r .h) h (is-finite (r .h) (f .3)) down (min-in (lit 24) H) H in
-      let x = saved-in (r .x) w (is-finite (r .x) (f .0)) across (lit 0) (sub-in W width tt) in
-      let y = saved-in (r .y) h (is-finite (r .y) (f .1)) down (lit 0) (sub-in H height tt) in
+      let width = saved-in (r .w) w (f .2) across (min-in (lit 24) W) W in
+      let height = saved-in (r .h) h (f .3) down (min-in (lit 24) H) H in
+      let x = saved-in (r .x) w (f .0) across (lit 0) (sub-in W width tt) in
+      let y = saved-in (r .y) h (f .1) down (lit 0) (sub-in H height tt) in
       element-in x y width height tt
 
   restored-in : (saved es : List Rect) → Each Element es → Each Element (restoredOf w h saved es)

@@ -2,6 +2,8 @@
 ghost use mathlib.Core.Path.{_≡_};
 ghost use mathlib.Core.List.{map};
 ghost use Prim.Native.Nat.{_≤_};
+ghost use lib.Dec.{T};
+ghost use lib.Ieee.Scale.{finite};
 ghost use lib.ListN.{take};
 ghost use Rattle.prelude.specs.Lists.{replaceFirst};
 ghost use Rattle.layout.specs.Layout.{elementList};
@@ -28,6 +30,7 @@ fn usable(r: Rect) -> bool
 
 // 24 points wide and high at least, where the screen is, and all of it on the screen.
 fn on_screen(w: f32, h: f32, r: Rect) -> Rect
+    requires { ⌜ T (usableOf r) × T (finite w) × T (finite h) ⌝ }
     ensures { λ s. ⌜ s ≡ onScreenOf w h r ⌝ }
 {
     let width = clamp(r.w * w, min(24.0, w), w);
@@ -42,6 +45,7 @@ fn on_screen(w: f32, h: f32, r: Rect) -> Rect
 
 // What was saved for an element, else the element.
 fn restore(w: f32, h: f32, saved: Rect, element: Rect) -> Rect
+    requires { ⌜ T (finite w) × T (finite h) ⌝ }
     ensures { λ r. ⌜ r ≡ restoreOf w h saved element ⌝ }
 {
     if usable(saved) {
@@ -51,7 +55,7 @@ fn restore(w: f32, h: f32, saved: Rect, element: Rect) -> Rect
 }
 
 fn restored(w: f32, h: f32, saved: [Rect; 32], n: usize, elements: Elements) -> Elements
-    requires { ⌜ (n ≤ 32) × (elements .count ≤ 19) ⌝ }
+    requires { ⌜ (n ≤ 32) × (elements .count ≤ 19) × T (finite w) × T (finite h) ⌝ }
     ensures { λ r. ⌜ (elementList r ≡ restoredOf w h (take n saved) (elementList elements)) × (r .count ≡ elements .count) ⌝ }
 {
     let count = elements.count;
@@ -65,7 +69,7 @@ fn restored(w: f32, h: f32, saved: [Rect; 32], n: usize, elements: Elements) -> 
 }
 
 pub fn with_saved(l: Layout, w: f32, h: f32, saved: [Rect; 32], n: usize) -> Layout
-    requires { ⌜ (n ≤ 32) × ((l .count ≤ 12) × (l .stickcount ≤ 2)) ⌝ }
+    requires { ⌜ (n ≤ 32) × (l .count ≤ 12) × (l .stickcount ≤ 2) × T (finite w) × T (finite h) ⌝ }
     ensures { λ r. ⌜ r ≡ withSavedOf l w h (take n saved) ⌝ }
 {
     if n == 0 {

@@ -3,11 +3,15 @@ use mathlib.Core.Path.{_≡_}
 use mathlib.Core.Bool.{true}
 use Prim.Native.Nat.{_≤_}
 use borrow.Author.Tests.{leb-true}
-use lib.Dec.{leb}
+use denote.Floats.{passes}
+use lib.Dec.{T, leb}
+use lib.Ieee.{Float, le, ofBits}
+use lib.Ieee.Scale.{finite}
 use Rattle.prelude.specs.Booleans.{both}
-use Rattle.float.specs.Float.{k0}
+use Rattle.float.specs.Float.{k0, k8192}
+use Rattle.float.proofs.Ends.{finite-between}
 use Rattle.settings.specs.declared.Settings.{Settings}
-use Rattle.settings.specs.Settings.{screenInLimitsOf, rectInLimitsOf, placeInLimitsOf, cutoutsInLimitsOf, acceptedOf}
+use Rattle.settings.specs.Settings.{inLimitsOf, screenInLimitsOf, rectInLimitsOf, placeInLimitsOf, cutoutsInLimitsOf, topsInLimitsOf, acceptedOf}
 
 pub record Accepted (s : Settings) : Type 0 where
   pub screen : screenInLimitsOf (s .w) (s .h) ≡ true
@@ -29,3 +33,16 @@ accepted-parts s e =
 
 pub few-settings : (s : Settings) → acceptedOf s ≡ true → (s .preset .count ≤ 32) × (s .cutouts .count ≤ 16)
 few-settings s e = let a = accepted-parts s e in (leb-true _ _ (a .few-saved), leb-true _ _ (a .few-cutouts))
+
+-- ---- what clamp's ends want: finite sides, and a reusable top of 0 at least
+finite-side : (x : Float) → inLimitsOf k0 x ≡ true → T (finite x)
+unfolding inLimitsOf ofBits
+finite-side x e = let b = both (le k0 x) (le x k8192) e in finite-between k0 x k8192 tt tt (passes _ (b .0)) (passes _ (b .1))
+
+pub finite-screen : (s : Settings) → acceptedOf s ≡ true → T (finite (s .w)) × T (finite (s .h))
+unfolding screenInLimitsOf
+finite-screen s e = let b = both _ _ (accepted-parts s e .screen) in (finite-side (s .w) (b .0), finite-side (s .h) (b .1))
+
+pub tops-least : (reusable covered : Float) → topsInLimitsOf reusable covered ≡ true → T (le k0 reusable)
+unfolding topsInLimitsOf inLimitsOf
+tops-least reusable covered e = passes _ (both (le k0 reusable) (le reusable k8192) (both _ _ e .0) .0)

@@ -2,7 +2,10 @@
 ghost use mathlib.Core.Path.{_≡_};
 ghost use mathlib.Core.List.{_++_};
 ghost use Prim.Native.Nat.{_≤_};
+ghost use lib.Dec.{T};
+ghost use lib.Ieee.{le};
 ghost use lib.ListN.{take};
+ghost use Rattle.float.specs.Float.{k0};
 ghost use Rattle.layout.specs.Layout.{cutoutList, elementList};
 ghost use Rattle.toolbar.specs.Toolbar.{obstacleList, avoidedOf, BarsOf, candidateOf, roomOf, belowOf, pairOf, anchorToolbarOf, reusableTopOf};
 use geometry::EMPTY;
@@ -175,7 +178,7 @@ pub fn anchor_toolbar(
     covered_top: f32,
     cutouts: Cutouts,
 ) -> Layout
-    requires { ⌜ (cutouts .count ≤ 16) × (l .count ≤ 12) × (l .stickcount ≤ 2) ⌝ }
+    requires { ⌜ (cutouts .count ≤ 16) × (l .count ≤ 12) × (l .stickcount ≤ 2) × T (le k0 «reusable_top») ⌝ }
     ensures { λ r. ⌜ r ≡ anchorToolbarOf l w h «reusable_top» «covered_top» (cutoutList cutouts) ⌝ }
 {
     let padding = float::min(28.0, w * 0.055);

@@ -1,10 +1,11 @@
 use borrow.Author.Needs.{needs}
+use lib.Ieee.{le, ofBits}
 use Rattle.arranged.specs.Arranged.{requestedOf}
 use Rattle.arranged.proofs.requested.Statement.{statement}
 use Rattle.arranged.proofs.requested.Tie as tie
 
 pub requested-spec : {M : Type 1} → statement M
-unfolding requestedOf
+unfolding requestedOf le ofBits
 requested-spec =
     tie.close
     (tie.spec

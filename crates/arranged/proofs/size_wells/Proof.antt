@@ -1,10 +1,11 @@
 use borrow.Author.Needs.{needs}
+use lib.Ieee.{le, ofBits}
 use Rattle.arranged.specs.Arranged.{sizeWellsOf}
 use Rattle.arranged.proofs.size_wells.Statement.{statement}
 use Rattle.arranged.proofs.size_wells.Tie as tie
 
 pub size-wells-spec : {M : Type 1} → statement M
-unfolding sizeWellsOf
+unfolding sizeWellsOf le ofBits
 size-wells-spec =
     tie.close
     (tie.spec

@@ -2,6 +2,7 @@ use native.Mathlib.Omega.{arith}
 use borrow.Author.Needs.{needs}
 use Rattle.search.specs.Search.{placeGameInAspectOf}
 use Rattle.toolbar.specs.Toolbar.{anchorToolbarOf}
+use Rattle.float.proofs.Ends.{zero-le-max}
 use Rattle.band.specs.Band.{controllerBandOf}
 use Rattle.band.proofs.Anew.{band-anew}
 use Rattle.band.proofs.Counts.{Counted}
@@ -58,7 +59,7 @@ controller-band-spec =
     (λ c κs. search needs)
     (λ c κs. search needs)
     (λ c κs. search needs)
-    (λ c κs. search needs)
+    (λ c κs. (omega arith, omega arith, omega arith, rw (c .reusable-top .ensures) (zero-le-max _)))
     with-inputs-requires
     (λ c κs. search needs)
     (λ c κs. search needs)

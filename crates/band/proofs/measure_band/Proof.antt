@@ -1,10 +1,11 @@
 use borrow.Author.Needs.{needs}
+use lib.Ieee.{le, ofBits}
 use Rattle.band.specs.Band.{measureBandOf}
 use Rattle.band.proofs.measure_band.Statement.{statement}
 use Rattle.band.proofs.measure_band.Tie as tie
 
 pub measure-band-spec : {M : Type 1} → statement M
-unfolding measureBandOf
+unfolding measureBandOf le ofBits
 measure-band-spec =
     tie.close
     (tie.spec

@@ -1,5 +1,7 @@
+use native.Mathlib.Omega.{arith}
 use borrow.Author.Needs.{needs}
 use Rattle.toolbar.specs.Toolbar.{anchorToolbarOf}
+use Rattle.float.proofs.Ends.{zero-le-max}
 use Rattle.band.proofs.Counts.{Counted}
 use Rattle.camera_rails.specs.CameraRails.{anchoredRailsOf}
 use Rattle.camera_rails.proofs.anchored_rails.Statement.{statement}
@@ -20,5 +22,5 @@ anchored-rails-spec =
     (λ c κs. search needs)
     (λ c κs. search needs)
     (λ c κs. search needs)
-    (λ c κs. search needs)
+    (λ c κs. (omega arith, omega arith, omega arith, rw (c .reusable-top .ensures) (zero-le-max _)))
     returns)

@@ -15,5 +15,5 @@ arrangement-spec =
     (λ c κs. search needs)
     (λ c. rw (not-false (c .before .before .before .args .plain) (c .before .before .if1 .left), c .before .if2 .taken) (c .around .ensures))
     (λ c κs. search needs)
-    (λ c κs. (c .before .before .before .pre, rw (c .first2 .ensures) (first-mode _ _ _ _ _ _ _)))
+    (λ c κs. (c .before .before .before .pre .0, rw (c .first2 .ensures) (first-mode _ _ _ _ _ _ _)))
     (λ c. rw (not-false (c .before .before .before .before .args .plain) (c .before .before .before .if1 .left), c .before .before .if2 .left, ← c .before .first2 .ensures) (c .band-or-rails .ensures)))

@@ -1,6 +1,7 @@
 use Rattle.chosen.specs.ChosenLabels.{Few, few, start-mode}
 use mathlib.Core.Bool.{_||_}
 use borrow.Author.Needs.{needs}
+use Rattle.float.proofs.Ends.{zero-le-max}
 use Rattle.chosen.proofs.first.Statement.{statement}
 use Rattle.chosen.proofs.first.Tie as tie
 use Rattle.chosen.specs.Chosen.{firstOf}
@@ -10,7 +11,7 @@ anchor-toolbar-requires c κs =
     let s = c .before .before in
     let a = s .before .args in
     let n : Few (s .start .result) = rw (s .start .ensures) (few (a .analog || a .psp) (a .psp) _ (start-mode _ _ _ _ (a .psp) (a .analog))) in
-    (s .before .pre, n .count, n .stickcount)
+    (s .before .pre, n .count, n .stickcount, rw (c .reusable-top .ensures) (zero-le-max _))
 
 pub first-spec : {M : Type 1} → statement M
 unfolding firstOf

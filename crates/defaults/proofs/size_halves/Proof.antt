@@ -1,4 +1,5 @@
 use borrow.Author.Needs.{needs}
+use lib.Ieee.{le, ofBits}
 use Rattle.defaults.specs.Defaults.{sizeHalvesOf}
 use Rattle.defaults.proofs.size_halves.Statement.{statement}
 use Rattle.defaults.proofs.size_halves.Tie as tie
@@ -17,6 +18,7 @@ returns c =
     (rw (← c .before .before .before .clamp4 .ensures, ← c .before .before .pick3 .ensures, ← c .before .max .ensures, ← c .pick4 .ensures))
 
 pub size-halves-spec : {M : Type 1} → statement M
+unfolding le ofBits
 size-halves-spec =
     tie.close
     (tie.spec

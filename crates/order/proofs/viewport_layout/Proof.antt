@@ -1,6 +1,8 @@
+use mathlib.Core.Path.{sym, _∙_}
 use borrow.Author.Needs.{needs}
 use borrow.Author.Tests.{not-true, not-false}
 use Rattle.prelude.specs.Answer.{must}
+use Rattle.settings.specs.Accepted.{tops-least}
 use Rattle.reader.specs.Accepted.{accepted-order}
 use Rattle.order.specs.Orders.{orderViewport, viewportLayoutOf, viewportOutputOf}
 use Rattle.preset.specs.PresetLabels.{viewport-few}
@@ -24,7 +26,8 @@ returns-2 c =
 
 settings-viewport-requires : tie.Need-settings-viewport-requires
 settings-viewport-requires c κs =
-    accepted-order _ (read-accepted _ (c .before .before .before .before .read-order .ensures) (c .before .before .if1 .left))
+    let t = c .before .tops-in-limits in
+    (accepted-order _ (read-accepted _ (c .before .before .before .before .read-order .ensures) (c .before .before .if1 .left)), tops-least _ _ (sym (t .ensures) ∙ not-false (t .result) (c .if2 .left)))
 
 write-requires : tie.Need-write-requires
 write-requires c κs =

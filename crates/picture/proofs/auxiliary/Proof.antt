@@ -1,10 +1,11 @@
 use borrow.Author.Needs.{needs}
+use lib.Ieee.{le, ofBits}
 use Rattle.picture.specs.Picture.{auxiliaryOf}
 use Rattle.picture.proofs.auxiliary.Statement.{statement}
 use Rattle.picture.proofs.auxiliary.Tie as tie
 
 pub auxiliary-spec : {M : Type 1} → statement M
-unfolding auxiliaryOf
+unfolding auxiliaryOf le ofBits
 auxiliary-spec =
     tie.close
     (tie.spec

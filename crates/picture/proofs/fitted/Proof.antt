@@ -6,6 +6,13 @@ use Rattle.picture.proofs.Candidates.{first-fit, no-fit}
 use Rattle.picture.proofs.fitted.Statement.{statement}
 use Rattle.picture.proofs.fitted.Tie as tie
 
+-- the entry, from where both candidates below the picture were tried
+abbrev start : tie.After-struct-known2 → tie.Start
+start c =
+    let a = c .before .before .before .before .before in
+    let b = a .before .before .before .before .before in
+    b .before .before
+
 returns-2 : tie.Need-returns-2
 unfolding fittedOf
 returns-2 c =
@@ -13,7 +20,7 @@ returns-2 c =
     (rw (← a .before .before .before .before .clamp .ensures, ← a .before .before .before .new .ensures, ← a .before .before .horizontal .ensures .0, first-fit, ← a .before .fitting .ensures, a .if1 .left) (rw (← c .before .before .before .before .new2 .ensures, ← c .before .before .before .new3 .ensures, ← c .before .before .vertical .ensures .0, first-fit, ← c .before .fitting2 .ensures, c .if2 .taken)), c .before .before .vertical .ensures .1, c .before .before .vertical .ensures .2)
 
 fitting-requires-3 : tie.Need-fitting-requires-3
-fitting-requires-3 c κs = (c .vertical2 .ensures .1, c .vertical2 .ensures .2, c .before .before .before .before .before .before .before .before .before .before .before .before .before .before .before .before .before .pre .2)
+fitting-requires-3 c κs = (c .vertical2 .ensures .1, c .vertical2 .ensures .2, start (c .before .before .before .before .before) .pre .2)
 
 returns-3 : tie.Need-returns-3
 unfolding fittedOf
@@ -44,11 +51,11 @@ fitted-spec =
     (λ c κs. search needs)
     (λ c κs. (c .vertical .ensures .1, c .vertical .ensures .2, c .before .before .before .before .before .before .before .before .before .pre .2))
     returns-2
+    (λ c κs. start c .pre .3)
+    (λ c κs. start (c .before) .pre .3)
     (λ c κs. search needs)
     (λ c κs. search needs)
-    (λ c κs. search needs)
-    (λ c κs. search needs)
-    (λ c κs. let p = c .before .before .before .before .before .before .before .before .before .before .before .before .before .before .before .before .pre in (p .0, p .1))
+    (λ c κs. let p = start (c .before .before .before .before) .pre in (p .0, p .1))
     fitting-requires-3
     returns-3
     (λ c κs. search needs)

@@ -1,4 +1,5 @@
 use borrow.Author.Needs.{needs}
+use lib.Ieee.{le, ofBits}
 use Rattle.picture.specs.Picture.{measureStackOf}
 use Rattle.picture.proofs.measure_stack.Statement.{statement}
 use Rattle.picture.proofs.measure_stack.Tie as tie
@@ -10,6 +11,7 @@ returns c = rw (← c .before .before .before .before .before .before .before .b
     (rw (← c .before .before .pick2 .ensures, ← c .before .min4 .ensures, ← c .min5 .ensures)))
 
 pub measure-stack-spec : {M : Type 1} → statement M
+unfolding le ofBits
 measure-stack-spec =
     tie.close
     (tie.spec

@@ -1,52 +1,117 @@
+use mathlib.Core.Path.{_≡_}
+use mathlib.Core.Bool.{cond}
+use Rattle.float.proofs.Ends.{zero-le-max}
 use Rattle.layout.specs.declared.Layout.{Layout}
 use Rattle.layout.specs.Labels.{OfMode}
 use Rattle.layout.specs.Layout.{cutoutList}
 use Rattle.search.specs.Search.{placeGameInAspectOf}
 use Rattle.settings.specs.declared.Preset.{Preset}
 use Rattle.toolbar.specs.Toolbar.{anchorToolbarOf}
+use Rattle.landscape.specs.Landscape.{fitLandscapeControlsOf}
 use Rattle.chosen.proofs.Keys.{same-area}
 use Rattle.chosen.specs.ChosenLabels.{few, avoid-mode, arrangement-mode}
 use Rattle.preset.specs.PresetLabels.{saved-mode}
-use Rattle.preset.specs.Preset.{settledOf, hasSticks, laidOutOf}
+use Rattle.preset.specs.Preset.{settledOf, hasSticks, rowAllowedOf, laidOutOf}
 use borrow.Author.Needs.{needs}
 use Rattle.preset.proofs.laid_out.Statement.{statement}
 use Rattle.preset.proofs.laid_out.Tie as tie
 
+-- ---- the entry, from later places
+abbrev entry : tie.After-area → tie.Start
+entry c = c .before .before .before .before
+
+abbrev entry-top : tie.After-reusable-top → tie.Start
+entry-top c = entry (c .before .before .before .before .before)
+
+abbrev entry-placed : tie.After-place-game-in-aspect → tie.Start
+entry-placed c = entry-top (c .before .before .before .before)
+
+-- ---- each layout has the labels of its mode
 abbrev Mode : Preset → Layout → Type 0
 Mode p l = OfMode (hasSticks p) (p .psp) l
 
-arranged : (c : tie.After-saved) → Mode (c .before .before .before .before .before .before .args .p) (c .before .arrangement .result)
+arranged : (c : tie.After-saved) → Mode (entry (c .before .before) .args .p) (c .before .arrangement .result)
 arranged c = rw (c .before .arrangement .ensures) (arrangement-mode _ _ _ _ _ _ _ _ _)
 
-restored : (c : tie.After-with-saved) → Mode (c .before .before .before .before .before .before .before .args .p) (c .with-saved .result)
-restored c = let p = c .before .before .before .before .before .before .before .args .p in rw (c .with-saved .ensures) (saved-mode (hasSticks p) (p .psp) _ (arranged (c .before)) _ _ _)
+restored : (c : tie.After-with-saved) → Mode (entry (c .before .before .before) .args .p) (c .with-saved .result)
+restored c = let p = entry (c .before .before .before) .args .p in rw (c .with-saved .ensures) (saved-mode (hasSticks p) (p .psp) _ (arranged (c .before)) _ _ _)
 
-cleared : (c : tie.After-reusable-top) → Mode (c .before .before .before .before .before .before .before .before .before .args .p) (c .before .avoid-cutouts .result)
-cleared c = let p = c .before .before .before .before .before .before .before .before .before .args .p in rw (c .before .avoid-cutouts .ensures) (avoid-mode (hasSticks p) (p .psp) _ (restored (c .before .before)) _ _ _)
+cleared : (c : tie.After-reusable-top) → Mode (entry (c .before .before .before .before .before) .args .p) (c .before .avoid-cutouts .result)
+cleared c = let p = entry-top c .args .p in rw (c .before .avoid-cutouts .ensures) (avoid-mode (hasSticks p) (p .psp) _ (restored (c .before .before)) _ _ _)
 
-anchored : (c : tie.After-struct-known) → Mode (c .before .before .before .before .before .before .before .before .before .before .before .before .args .p) (c .before .before .anchor-toolbar .result)
+anchored : (c : tie.After-struct-known) → Mode (entry-top (c .before .before .before) .args .p) (c .before .before .anchor-toolbar .result)
 unfolding anchorToolbarOf
 anchored c = rw (c .before .before .anchor-toolbar .ensures) (cleared (c .before .before .before))
 
-placed : (c : tie.After-place-game-in-aspect) → Mode (c .before .before .before .before .before .before .before .before .before .before .before .before .before .args .p) (c .place-game-in-aspect .result)
+placed : (c : tie.After-place-game-in-aspect) → Mode (entry-top (c .before .before .before .before) .args .p) (c .place-game-in-aspect .result)
 unfolding placeGameInAspectOf
 placed c = rw (c .place-game-in-aspect .ensures) (anchored (c .before))
 
-returns : tie.Need-returns
+-- ---- what the calls require
+with-saved-requires : tie.Need-with-saved-requires
+with-saved-requires c κs =
+    let s = entry (c .before .before) in
+    let n = few (hasSticks (s .args .p)) (s .args .p .psp) (c .before .arrangement .result) (arranged c) in
+    (s .pre .0, n .count, n .stickcount, s .pre .2, s .pre .3)
+
+avoid-cutouts-requires : tie.Need-avoid-cutouts-requires
+avoid-cutouts-requires c κs =
+    let s = entry (c .before .before .before) in
+    let n = few (hasSticks (s .args .p)) (s .args .p .psp) (c .with-saved .result) (restored c) in
+    ((n .count, n .stickcount), (s .pre .1, n .faces))
+
+anchor-toolbar-requires : tie.Need-anchor-toolbar-requires
+anchor-toolbar-requires c κs =
+    let s = entry-top c in
+    let n = few (hasSticks (s .args .p)) (s .args .p .psp) (c .before .avoid-cutouts .result) (cleared c) in
+    (s .pre .1, n .count, n .stickcount, rw (c .reusable-top .ensures) (zero-le-max _))
+
+place-requires : tie.Need-place-game-in-aspect-requires
+place-requires c κs =
+    let p = entry-top (c .before .before .before) .args .p in
+    let n = few (hasSticks p) (p .psp) (c .before .before .anchor-toolbar .result) (anchored c) in
+    (n .count, n .stickcount)
+
+fit-requires : tie.Need-fit-landscape-controls-requires
+fit-requires c κs =
+    let g = c .before .before in
+    let p = entry-placed g .args .p in
+    let n = few (hasSticks p) (p .psp) (g .place-game-in-aspect .result) (placed g) in
+    (n .count, n .stickcount)
+
+-- ---- the layout, from where its game is placed
+game-placed : (g : tie.After-place-game-in-aspect) → let t = g .before .before .before .before in let r = t .before .before .before .before .before in let a = entry r .args in let l = g .place-game-in-aspect .result in
+    laidOutOf (a .p) (a .w) (a .h) (cutoutList (a .cutouts)) (a .picture) ≡ cond (rowAllowedOf (a .p) (cutoutList (a .cutouts))) (fitLandscapeControlsOf l (a .w) (a .h) (r .area .result) (g .before .before .aspect .result)) l
 unfolding laidOutOf settledOf
+game-placed g =
+    let t = g .before .before .before .before in
+    let v = t .before .before in
+    let r = v .before .before .before in
+    let m = r .before .before in
+    let a = entry r .args in
+    let area = same-area (a .w) (a .h) (cutoutList (a .cutouts)) (a .picture) (a .p .psp) (a .p .analog) (m .is-maximum .result) in
+    rw (
+      ← m .before .picture-fit .ensures,
+      ← m .is-maximum .ensures,
+      ← r .before .plain .ensures,
+      area,
+      ← r .area .ensures,
+      ← v .before .before .arrangement .ensures,
+      ← v .with-saved .ensures,
+      ← t .before .avoid-cutouts .ensures,
+      ← t .reusable-top .ensures,
+      ← g .before .before .before .anchor-toolbar .ensures,
+      ← g .before .before .aspect .ensures,
+      ← g .place-game-in-aspect .ensures,
+    )
+
+returns : tie.Need-returns
 returns c =
-    let s = c .before .before .before .before .before .before .before .before .before .before .before .before .before in
-    let a = s .before .before .before .args in
-    let area = same-area (a .w) (a .h) (cutoutList (a .cutouts)) (a .picture) (a .p .psp) (a .p .analog) (s .before .is-maximum .result) in
-    rw (← s .plain .ensures, ← s .before .before .picture-fit .ensures, ← s .before .is-maximum .ensures, area, ← c .before .before .before .before .before .before .before .before .before .before .before .before .area .ensures, ← c .before .before .before .before .before .before .before .before .before .before .before .arrangement .ensures, ← c .before .before .before .before .before .before .before .before .before .with-saved .ensures, ← c .before .before .before .before .before .before .before .before .avoid-cutouts .ensures, ← c .before .before .before .before .before .before .before .reusable-top .ensures, ← c .before .before .before .before .before .before .anchor-toolbar .ensures, ← c .before .before .before .before .before .aspect .ensures, ← c .before .before .before .place-game-in-aspect .ensures, ← c .before .before .row-allowed .ensures, c .before .if1 .taken) (c .fit-landscape-controls .ensures)
+    let g = c .before .before .before in
+    rw (game-placed g, ← c .before .before .row-allowed .ensures, c .before .if1 .taken) (c .fit-landscape-controls .ensures)
 
 returns-2 : tie.Need-returns-2
-unfolding laidOutOf settledOf
-returns-2 c =
-    let s = c .before .before .before .before .before .before .before .before .before .before .before .before in
-    let a = s .before .before .before .args in
-    let area = same-area (a .w) (a .h) (cutoutList (a .cutouts)) (a .picture) (a .p .psp) (a .p .analog) (s .before .is-maximum .result) in
-    rw (← s .plain .ensures, ← s .before .before .picture-fit .ensures, ← s .before .is-maximum .ensures, area, ← c .before .before .before .before .before .before .before .before .before .before .before .area .ensures, ← c .before .before .before .before .before .before .before .before .before .before .arrangement .ensures, ← c .before .before .before .before .before .before .before .before .with-saved .ensures, ← c .before .before .before .before .before .before .before .avoid-cutouts .ensures, ← c .before .before .before .before .before .before .reusable-top .ensures, ← c .before .before .before .before .before .anchor-toolbar .ensures, ← c .before .before .before .before .aspect .ensures, ← c .before .before .place-game-in-aspect .ensures, ← c .before .row-allowed .ensures, c .if1 .left)
+returns-2 c = rw (game-placed (c .before .before), ← c .before .row-allowed .ensures, c .if1 .left)
 
 pub laid-out-spec : {M : Type 1} → statement M
 laid-out-spec =
@@ -57,13 +122,13 @@ laid-out-spec =
     (λ c κs. search needs)
     (λ c κs. search needs)
     (λ c κs. search needs)
-    (λ c κs. let s = c .before .before .before .before .before .before in let p = s .args .p in let n = few (hasSticks p) (p .psp) (c .before .arrangement .result) (arranged c) in (s .pre .0, (n .count, n .stickcount)))
-    (λ c κs. let s = c .before .before .before .before .before .before .before in let p = s .args .p in let n = few (hasSticks p) (p .psp) (c .with-saved .result) (restored c) in ((n .count, n .stickcount), (s .pre .1, n .faces)))
+    with-saved-requires
+    avoid-cutouts-requires
     (λ c κs. search needs)
-    (λ c κs. let s = c .before .before .before .before .before .before .before .before .before in let p = s .args .p in let n = few (hasSticks p) (p .psp) (c .before .avoid-cutouts .result) (cleared c) in (s .pre .1, n .count, n .stickcount))
+    anchor-toolbar-requires
     (λ c κs. search needs)
-    (λ c κs. let p = c .before .before .before .before .before .before .before .before .before .before .before .before .args .p in let n = few (hasSticks p) (p .psp) (c .before .before .anchor-toolbar .result) (anchored c) in (n .count, n .stickcount))
-    (λ c κs. c .before .before .before .before .before .before .before .before .before .before .before .before .before .pre)
-    (λ c κs. let p = c .before .before .before .before .before .before .before .before .before .before .before .before .before .before .before .args .p in let n = few (hasSticks p) (p .psp) (c .before .before .place-game-in-aspect .result) (placed (c .before .before)) in (n .count, n .stickcount))
+    place-requires
+    (λ c κs. let p = entry-placed c .pre in (p .0, p .1))
+    fit-requires
     returns
     returns-2)

@@ -9,6 +9,6 @@ restore-spec =
     tie.close
     (tie.spec
     (λ c κs. search needs)
-    (λ c κs. search needs)
+    (λ c κs. let p = c .before .before .pre in (rw (← c .before .usable .ensures, c .if1 .taken) tt, p .0, p .1))
     (λ c. rw (← c .before .before .usable .ensures, c .before .if1 .taken) (c .on-screen .ensures))
     (λ c. rw (← c .before .usable .ensures, c .if1 .left)))

@@ -2,6 +2,7 @@ use mathlib.Core.Path.{_∙_}
 use mathlib.Core.Logic.{⊎-elim}
 use Rattle.search.proofs.Steps.{game-returned}
 use borrow.Author.Needs.{needs}
+use lib.Ieee.{le, ofBits}
 use Rattle.search.proofs.game.Statement.{statement}
 use Rattle.search.proofs.game.Tie as tie
 
@@ -20,6 +21,7 @@ returns c =
     (clamps .clamp3 .ensures)
 
 pub game-spec : {M : Type 1} → statement M
+unfolding le ofBits
 game-spec =
     tie.close
     (tie.spec

@@ -1,7 +1,15 @@
 use borrow.Author.Needs.{needs}
+use Rattle.float.specs.Float.{k0}
+use Rattle.float.proofs.Ends.{le-trans, zero-le-max, neg-le-zero}
 use Rattle.toolbar.specs.Toolbar.{anchorToolbarOf}
 use Rattle.toolbar.proofs.anchor_toolbar.Statement.{statement}
 use Rattle.toolbar.proofs.anchor_toolbar.Tie as tie
+
+clamp-requires : tie.Need-clamp-requires
+clamp-requires c κs =
+    let m = c .before .before .before .before in
+    let s = m .before .before .before .before .before in
+    rw (c .max2 .ensures) (le-trans _ k0 _ (neg-le-zero (s .args .reusable-top) (s .pre .3)) (zero-le-max _))
 
 returns : tie.Need-returns
 unfolding anchorToolbarOf
@@ -43,7 +51,7 @@ anchor-toolbar-spec =
     (λ c κs. search needs)
     (λ c κs. search needs)
     (λ c κs. search needs)
-    (λ c κs. search needs)
+    clamp-requires
     (λ c κs. search needs)
     (λ c κs. search needs)
     (λ c κs. search needs)
