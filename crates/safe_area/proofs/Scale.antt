@@ -6,7 +6,7 @@ use Prim.Native.Nat.{ℕ, zero, suc, _+_, _-_, _^_, _≤_}
 use native.Mathlib.Omega.{arith}
 use lib.Dec.{T, ltb, eqb, lt→ltb, le→leb}
 use lib.IntN.{ℤ, pos, negsuc, subℕ, _-ℤ_}
-use lib.Signed.{mag, ltZ}
+use lib.Signed.{mag, ltZ, leZ}
 use lib.Ieee.{binary32, inFloat}
 use mir.Syntax.{w32}
 use mir.Val.{SFits, ofZ}
@@ -71,6 +71,12 @@ cast-small z h = rw (kept z (omega arith)) (in-float z h)
 max-mag : (k : ℕ) (a b : ℤ) → mag a ≤ k → mag b ≤ k → mag (maxOf a b) ≤ k
 unfolding maxOf
 max-mag k a b p q = either (λ z. mag z ≤ k) (ltZ a b) q p
+
+-- clamp's ends: 0 and what is raised to it
+pub zero-least : (z : ℤ) → T (leZ (pos 0) (maxOf z (pos 0)))
+unfolding maxOf
+zero-least (pos n) = either (λ z. T (leZ (pos 0) z)) (ltb n 0) tt (le→leb 0 n (omega arith))
+zero-least (negsuc n) = tt
 
 -- ---- a span: its start, the differences up to its extent, and the extent
 pub record Measured (whole near far start end : ℤ) : Type 0 where

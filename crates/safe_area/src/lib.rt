@@ -2,6 +2,8 @@
 ghost use mathlib.Core.Path.{_≡_};
 ghost use mathlib.Core.Bool.{true};
 ghost use Prim.Native.Nat.{_<_};
+ghost use lib.Dec.{T};
+ghost use lib.Signed.{leZ};
 ghost use Rattle.safe_area.specs.Safe.{maxOf, clampOf, withinLimitsOf, onScaleOf, allOnScaleOf, sameSizeOf, currentEdgesOf, spanAlongOf, contentOf, safeContentOf, mergedEdgeOf, mergedOf, safeEdgesOf, contentAnswer, edgesAnswer};
 use geometry::Rect;
 
@@ -78,7 +80,9 @@ fn max(a: i32, b: i32) -> i32
     if a < b { b } else { a }
 }
 
+// Rust's clamp asserts low <= high; here that is required.
 fn clamp(x: i32, low: i32, high: i32) -> i32
+    requires { ⌜ T (leZ low high) ⌝ }
     ensures { λ r. ⌜ r ≡ clampOf x low high ⌝ }
 {
     if x < low {

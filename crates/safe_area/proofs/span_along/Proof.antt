@@ -1,5 +1,5 @@
 use Rattle.prelude.specs.Signed.{stored}
-use Rattle.safe_area.proofs.Scale.{extent-small, Measured, measured, within-at, cast-small, extent-is}
+use Rattle.safe_area.proofs.Scale.{extent-small, Measured, measured, within-at, zero-least, cast-small, extent-is}
 use borrow.Author.Needs.{needs}
 use Rattle.safe_area.specs.Safe.{at, spanAlongOf}
 use native.Mathlib.Omega.{arith}
@@ -38,7 +38,7 @@ span-along-spec =
     (λ c. search needs)
     (λ c. search needs)
     (λ c κs. search needs)
-    (λ c κs. search needs)
+    (λ c κs. rw (stored (c .max .ok) (c .max .ensures)) (zero-least _))
     (λ c. search needs)
     (λ c. search needs)
     (λ c. search needs)
