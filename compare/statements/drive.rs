@@ -181,7 +181,9 @@ fn inner(r: &mut Random) {
     hypot::hypot((u * u - v * v) as f32 * scale, (2 * u * v) as f32 * scale);
     float::min(a, b);
     float::max(a, b);
-    float::clamp(a, b, c);
+    if b <= c {
+        float::clamp(a, b, c);
+    }
 }
 
 /// A value of any type that a function takes.
