@@ -7,15 +7,16 @@ use Rattle.float.specs.Float.{k0}
 use Rattle.geometry.specs.declared.Rect.{Rect}
 use Rattle.layout.specs.declared.Layout.{Layout}
 use Rattle.toolbar.specs.Toolbar.{avoidedOf, anchorToolbarOf, reusableTopOf}
-use Rattle.arranged.specs.Places.{blankOf}
 use Rattle.chosen.specs.Chosen.{startOf, belowToolbarOf, firstOf, areaOf}
 
 module _ (w h : Float) (cutouts : List Rect) (picture : Rect) where
-  same-below : (l m : Layout) (top : Float) → belowToolbarOf (anchorToolbarOf l w h top k0 cutouts) picture ≡ belowToolbarOf (anchorToolbarOf m w h top k0 cutouts) picture
+  pub same-below : (l m : Layout) (top : Float) → belowToolbarOf (anchorToolbarOf l w h top k0 cutouts) picture ≡ belowToolbarOf (anchorToolbarOf m w h top k0 cutouts) picture
   unfolding belowToolbarOf anchorToolbarOf avoidedOf lt ofBits
   same-below l m top = refl
 
-  pub same-area : (psp analog maximum : Bool) → areaOf maximum (firstOf psp analog maximum w h cutouts picture) picture ≡ areaOf maximum (anchorToolbarOf blankOf w h (reusableTopOf picture) k0 cutouts) picture
+  -- the area over every layout is that over the layout at first
+  pub first-area : (psp analog maximum : Bool) {area : Rect} → ((l : Layout) → area ≡ areaOf maximum (anchorToolbarOf l w h (reusableTopOf picture) k0 cutouts) picture)
+      → area ≡ areaOf maximum (firstOf psp analog maximum w h cutouts picture) picture
   unfolding areaOf firstOf
-  same-area psp analog true = same-below (startOf psp analog w h cutouts picture) blankOf (reusableTopOf picture)
-  same-area psp analog false = refl
+  first-area psp analog true e = e (startOf psp analog w h cutouts picture)
+  first-area psp analog false e = e (startOf psp analog w h cutouts picture)

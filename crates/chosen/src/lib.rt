@@ -6,10 +6,10 @@ ghost use Prim.Native.Nat.{_≤_};
 ghost use lib.Dec.{T};
 ghost use lib.Ieee.{le};
 ghost use Rattle.float.specs.Float.{k0};
+ghost use Rattle.layout.specs.declared.Layout.{Layout};
 ghost use Rattle.layout.specs.Labels.{OfMode};
 ghost use Rattle.layout.specs.Layout.{cutoutList};
 ghost use Rattle.toolbar.specs.Toolbar.{anchorToolbarOf, reusableTopOf};
-ghost use Rattle.arranged.specs.Places.{blankOf};
 ghost use Rattle.band.specs.Band.{controllerBandOf};
 ghost use Rattle.chosen.specs.Chosen.{startOf, belowToolbarOf, largestOf, aroundOf, railsWinOf, tryRailsOf, bandOrRailsOf, firstOf, areaOf, arrangementOf};
 use arranged::BLANK;
@@ -158,10 +158,10 @@ fn first(
     layout
 }
 
-// The area that the game gets. The toolbar's keys lie the same over every layout.
+// The area that the game gets. The toolbar's keys lie the same over every layout l.
 pub fn area(maximum: bool, w: f32, h: f32, cutouts: Cutouts, picture: Rect) -> Rect
     requires { ⌜ cutouts .count ≤ 16 ⌝ }
-    ensures { λ r. ⌜ r ≡ areaOf maximum (anchorToolbarOf blankOf w h (reusableTopOf picture) k0 (cutoutList cutouts)) picture ⌝ }
+    ensures { λ r. ⌜ ((l : Layout) → r ≡ areaOf maximum (anchorToolbarOf l w h (reusableTopOf picture) k0 (cutoutList cutouts)) picture) ⌝ }
 {
     if maximum {
         let bar = anchor_toolbar(BLANK, w, h, reusable_top(picture), 0.0, cutouts);

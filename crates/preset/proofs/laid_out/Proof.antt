@@ -8,7 +8,7 @@ use Rattle.search.specs.Search.{placeGameInAspectOf}
 use Rattle.settings.specs.declared.Preset.{Preset}
 use Rattle.toolbar.specs.Toolbar.{anchorToolbarOf}
 use Rattle.landscape.specs.Landscape.{fitLandscapeControlsOf}
-use Rattle.chosen.proofs.Keys.{same-area}
+use Rattle.chosen.proofs.Keys.{first-area}
 use Rattle.chosen.specs.ChosenLabels.{few, avoid-mode, arrangement-mode}
 use Rattle.preset.specs.PresetLabels.{saved-mode}
 use Rattle.preset.specs.Preset.{settledOf, hasSticks, rowAllowedOf, laidOutOf}
@@ -89,13 +89,12 @@ game-placed g =
     let r = v .before .before .before in
     let m = r .before .before in
     let a = entry r .args in
-    let area = same-area (a .w) (a .h) (cutoutList (a .cutouts)) (a .picture) (a .p .psp) (a .p .analog) (m .is-maximum .result) in
+    let area = first-area (a .w) (a .h) (cutoutList (a .cutouts)) (a .picture) (a .p .psp) (a .p .analog) (m .is-maximum .result) (r .area .ensures) in
     rw (
       ← m .before .picture-fit .ensures,
       ← m .is-maximum .ensures,
       ← r .before .plain .ensures,
-      area,
-      ← r .area .ensures,
+      ← area,
       ← v .before .before .arrangement .ensures,
       ← v .with-saved .ensures,
       ← t .before .avoid-cutouts .ensures,
