@@ -1,7 +1,7 @@
 //! Plain data as the inner functions take it.
-use ours::probe::{Layout, List, Rects};
+use ours::probe::{self, Layout, List, Rects};
 use player::{
-    Rect,
+    PictureFit, Preset, Rect,
     access::{ControlData, LayoutData},
 };
 
@@ -71,5 +71,50 @@ pub fn layout_data(from: &Layout) -> LayoutData {
         speed: at[4],
         mute: at[5],
         sticks: at[6..6 + sticks].to_vec(),
+    }
+}
+
+/// The places after the saved rectangles hold something else.
+pub fn preset(from: &Preset) -> probe::Preset {
+    let mut places = [[7.; 4]; 32];
+    for (to, r) in places.iter_mut().zip(&from.elements) {
+        *to = numbers(*r);
+    }
+    let fit = match from.picture_fit {
+        None => 0,
+        Some(PictureFit::Maximum) => 1,
+        Some(PictureFit::KeepClear) => 2,
+    };
+    let [across, down] = from.game_offset;
+    probe::Preset {
+        marks: [
+            from.psp.into(),
+            from.analog.into(),
+            from.allow_overlap.into(),
+            fit,
+        ],
+        game: [from.game_scale, across, down],
+        places,
+        count: from.elements.len(),
+    }
+}
+
+pub fn preset_data(from: &probe::Preset) -> Preset {
+    let [psp, analog, allow_overlap, fit] = from.marks;
+    let [game_scale, across, down] = from.game;
+    Preset {
+        psp: psp != 0,
+        analog: analog != 0,
+        allow_overlap: allow_overlap != 0,
+        picture_fit: [None, Some(PictureFit::Maximum), Some(PictureFit::KeepClear)]
+            [usize::from(fit)],
+        game_scale,
+        game_offset: [across, down],
+        elements: from.places[..from.count]
+            .iter()
+            .copied()
+            .map(rect)
+            .collect(),
+        ..Preset::default()
     }
 }

@@ -18,6 +18,8 @@ pub mod orders;
 #[cfg(feature = "probe")]
 pub mod picture;
 pub mod random;
+#[cfg(feature = "probe")]
+pub mod uncalled;
 pub mod widest;
 
 /// The number that follows an option.

@@ -24,6 +24,7 @@ fn comparisons() -> Vec<Comparison> {
     let list = list
         .chain(check::inner::comparisons())
         .chain(check::picture::comparisons())
+        .chain(check::uncalled::comparisons())
         .chain(check::host::comparisons());
     list.collect()
 }

@@ -55,6 +55,8 @@ requests! {
     arranged(w: f32, h: f32, compact: bool) -> LayoutData = access::arranged(w, h, compact);
     side_rails(w: f32, h: f32, picture_height: f32, cutouts: Rects) -> LayoutData
         = access::side_rails(w, h, picture_height, &cutouts);
+    default_with_cutouts(w: f32, h: f32, cutouts: Rects) -> LayoutData
+        = access::default_with_cutouts(w, h, &cutouts);
     default_in(w: f32, h: f32, cutouts: Rects, picture: Rect) -> LayoutData
         = access::default_in(w, h, &cutouts, picture);
     analog_default(w: f32, h: f32) -> LayoutData = access::analog_default(w, h);
@@ -110,7 +112,8 @@ requests! {
         = access::layout_in(&preset, w, h, &cutouts, picture);
     layout_with_cutouts(preset: Preset, w: f32, h: f32, cutouts: Rects) -> LayoutData
         = access::layout_with_cutouts(&preset, w, h, &cutouts);
-    capture(layout: LayoutData, w: f32, h: f32) -> Rects = access::capture(&layout, w, h);
+    capture(preset: Preset, layout: LayoutData, w: f32, h: f32) -> Preset
+        = access::capture(&preset, &layout, w, h);
     viewport_layout(viewport: PlayerViewport, preset: Preset, cutouts: Rects) -> LayoutData
         = access::viewport_layout(viewport, &preset, &cutouts);
 

@@ -132,6 +132,39 @@ unsafe extern "C" {
         n: usize,
         out: &mut Rects,
     ) -> bool;
+    safe fn probe_fit(rect: &Rects, aspect: f32, out: &mut Rects);
+    safe fn probe_same_bounds(rects: &Rects) -> bool;
+    safe fn probe_element(layout: &Rects, kind: u8, index: usize, out: &mut Rects) -> bool;
+    safe fn probe_set_element(
+        layout: &Rects,
+        kind: u8,
+        index: usize,
+        to: &Rects,
+        out: &mut Rects,
+    ) -> bool;
+    safe fn probe_new_layout(w: f32, h: f32, out: &mut Rects);
+    fn probe_default_with_cutouts(w: f32, h: f32, cutouts: &Rects, n: usize, out: &mut Rects);
+    safe fn probe_capture(
+        layout: &Rects,
+        kind: u8,
+        w: f32,
+        h: f32,
+        marks: &mut [u8; 4],
+        game: &mut [f32; 3],
+        places: &mut [[f32; 4]; 32],
+        count: usize,
+    ) -> usize;
+    fn probe_layout_with_cutouts(
+        marks: &[u8; 4],
+        game: &[f32; 3],
+        places: &[[f32; 4]; 32],
+        count: usize,
+        w: f32,
+        h: f32,
+        cutouts: &Rects,
+        n: usize,
+        out: &mut Rects,
+    ) -> bool;
 }
 
 /// The first `count` of the rectangles.
@@ -147,6 +180,17 @@ pub struct List {
 pub struct Layout {
     pub at: Rects,
     pub kind: u8,
+}
+
+/// A preset: psp, analog, allow_overlap and the fit as in tag 4; game_scale and
+/// game_offset; places for saved rectangles, of which the first `count` are in
+/// use.
+#[derive(Clone, Debug)]
+pub struct Preset {
+    pub marks: [u8; 4],
+    pub game: [f32; 3],
+    pub places: [[f32; 4]; 32],
+    pub count: usize,
 }
 
 /// How often a function runs in one call, for timing: the answer is the last.
@@ -328,5 +372,74 @@ pub fn controls(
     // SAFETY: the count is what the function requires.
     maybe(kind_of([analog, psp]), |out| unsafe {
         probe_controls(w, h, &game.at, analog, psp, at, n, out)
+    })
+}
+
+// Functions that no host's call comes to. A rectangle is the first of a list.
+
+pub fn fit(rect: &List, aspect: f32) -> [f32; 4] {
+    let mut out = [[0.; 4]; 20];
+    probe_fit(&rect.at, aspect, &mut out);
+    out[0]
+}
+
+/// Of the first two of the list.
+pub fn same_bounds(rects: &List) -> bool {
+    probe_same_bounds(&rects.at)
+}
+
+/// None if the layout has no element of this index.
+pub fn element(layout: &Layout, index: usize) -> Option<[f32; 4]> {
+    let mut out = [[0.; 4]; 20];
+    let some = probe_element(&layout.at, layout.kind, index, &mut out);
+    some.then_some(out[0])
+}
+
+/// The same.
+pub fn set_element(layout: &Layout, index: usize, to: &List) -> Option<Layout> {
+    let Layout { at, kind } = layout;
+    maybe(*kind, |out| {
+        probe_set_element(at, *kind, index, &to.at, out)
+    })
+}
+
+pub fn new_layout(w: f32, h: f32) -> Layout {
+    made(0, |out| probe_new_layout(w, h, out))
+}
+
+pub fn default_with_cutouts(w: f32, h: f32, cutouts: &List) -> Layout {
+    let (at, n) = lent(cutouts);
+    // SAFETY: the count is what the function requires.
+    made(0, |out| unsafe {
+        probe_default_with_cutouts(w, h, at, n, out)
+    })
+}
+
+pub fn capture(preset: &Preset, layout: &Layout, w: f32, h: f32) -> Preset {
+    let mut new = preset.clone();
+    let Preset {
+        marks,
+        game,
+        places,
+        count,
+    } = &mut new;
+    *count = probe_capture(&layout.at, layout.kind, w, h, marks, game, places, *count);
+    new
+}
+
+/// None if the screen is not in the limits of an order.
+pub fn layout_with_cutouts(preset: &Preset, w: f32, h: f32, cutouts: &List) -> Option<Layout> {
+    let Preset {
+        marks,
+        game,
+        places,
+        count,
+    } = preset;
+    assert!(*count <= 32);
+    let (at, n) = lent(cutouts);
+    let kind = kind_of([marks[1] > 0, marks[0] > 0]);
+    // SAFETY: the counts are what the function requires.
+    maybe(kind, |out| unsafe {
+        probe_layout_with_cutouts(marks, game, places, *count, w, h, at, n, out)
     })
 }

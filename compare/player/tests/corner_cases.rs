@@ -164,7 +164,7 @@ fn an_unset_fit_follows_the_picture() {
 /// rectangles give the layout again, and tops of zero change nothing.
 #[test]
 fn capture_and_viewport() {
-    let mut preset = Preset::default();
+    let preset = Preset::default();
     let layout = access::layout_with_cutouts(&preset, 1024., 1024., &[]);
     let viewport = PlayerViewport {
         controls: [1024.; 2],
@@ -173,7 +173,7 @@ fn capture_and_viewport() {
         covered_top: 0.,
     };
     assert_eq!(access::viewport_layout(viewport, &preset, &[]), layout);
-    preset.elements = access::capture(&layout, 1024., 1024.);
+    let preset = access::capture(&preset, &layout, 1024., 1024.);
     assert_eq!(
         access::layout_with_cutouts(&preset, 1024., 1024., &[]).dpad,
         layout.dpad

@@ -48,6 +48,9 @@ pub fn arranged(w: f32, h: f32, compact: bool) -> LayoutData {
 pub fn side_rails(w: f32, h: f32, picture_height: f32, cutouts: &[Rect]) -> LayoutData {
     Layout::side_rails(w, h, picture_height, cutouts).into()
 }
+pub fn default_with_cutouts(w: f32, h: f32, cutouts: &[Rect]) -> LayoutData {
+    Layout::default_with_cutouts(w, h, cutouts).into()
+}
 pub fn default_in(w: f32, h: f32, cutouts: &[Rect], picture: Rect) -> LayoutData {
     Layout::default_in(w, h, cutouts, picture).into()
 }
@@ -172,11 +175,11 @@ pub fn layout_in(preset: &Preset, w: f32, h: f32, cutouts: &[Rect], picture: Rec
 pub fn layout_with_cutouts(preset: &Preset, w: f32, h: f32, cutouts: &[Rect]) -> LayoutData {
     preset.layout_with_cutouts(w, h, cutouts).into()
 }
-/// The rectangles that `capture` saves.
-pub fn capture(layout: &LayoutData, w: f32, h: f32) -> Vec<Rect> {
-    let mut preset = Preset::default();
+/// The preset after `capture`.
+pub fn capture(preset: &Preset, layout: &LayoutData, w: f32, h: f32) -> Preset {
+    let mut preset = preset.clone();
     preset.capture(&layout.into(), w, h);
-    preset.elements
+    preset
 }
 pub fn viewport_layout(viewport: PlayerViewport, preset: &Preset, cutouts: &[Rect]) -> LayoutData {
     viewport.layout(preset, cutouts).into()
