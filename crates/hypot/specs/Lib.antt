@@ -2,4 +2,3 @@ pub mod Hypot
 pub mod Pattern
 pub mod Nearest
 pub mod Parts
-pub mod Vectors

@@ -1,4 +1,3 @@
 pub mod Order
 pub mod Accepted
 pub mod Readings
-pub mod Cases
