@@ -215,6 +215,9 @@ impl<'a> Case<'a> {
         for class in layout_classes(self.order, &self.read, length, answer) {
             counts.class(class);
         }
+        if answer.is_ok() && layout.is_ok_and(orders::negative_zero) {
+            counts.class(("accepted, numbers", "with negative zero"));
+        }
         let ours = host::film_sheet(&self.order.bytes);
         let theirs = sheet::padded(&sheet::sheet(layout));
         counts.compare(What::Sheet, "order_film", bytes, ours, theirs);

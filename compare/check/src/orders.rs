@@ -6,7 +6,8 @@ use crate::{
     random::Random,
 };
 use player::{
-    PictureFit, Preset, Rect, access,
+    PictureFit, Preset, Rect,
+    access::{self, native::Layout},
     order::{self, number_bytes},
     words::{Rest, Value, Word},
 };
@@ -314,6 +315,15 @@ fn with_preset(r: &mut Random, parts: Parts, preset: Preset) -> Parts {
         saved: (said || !preset.elements.is_empty()).then_some(preset.elements),
         ..parts
     }
+}
+
+/// Whether a layout has a negative zero, which is written as plus zero.
+pub fn negative_zero(layout: &Layout) -> bool {
+    let elements = (0..layout.element_count()).map(|i| layout.element(i));
+    let numbers = std::iter::once(layout.game).chain(elements);
+    numbers
+        .flat_map(|r| [r.x, r.y, r.w, r.h])
+        .any(|n| n == 0. && n.is_sign_negative())
 }
 
 /// What tag 4 says.

@@ -76,6 +76,21 @@ fn the_first_fault_decides() {
     }
 }
 
+/// A rectangle saved at -0 is there in the layout, and is written at 0.
+#[test]
+fn negative_zero_is_written_as_plus_zero() {
+    let saved = field(7, &number_bytes([-0., -0., 0.2, 0.2]));
+    let order = [screen(1000., 1000.), saved].concat();
+    let Ok(settings) = order::read(&order) else {
+        panic!("a sound order");
+    };
+    let layout = settings.layout();
+    let corner = [layout.dpad.x, layout.dpad.y];
+    assert_eq!(corner.map(f32::to_bits), [0x8000_0000; 2]);
+    let written = order::written(&layout);
+    assert_eq!(written[22..38], number_bytes([0., 0., 200., 200.]));
+}
+
 /// The tops come after the whole order and before the lent length.
 #[test]
 fn tops_come_last() {

@@ -50,6 +50,10 @@ fn bytes(word: &str) -> Vec<u8> {
 fn call(list: &mut List, name: &str, line: &str) {
     let (asked, want) = line.split_once('=').expect("an answer");
     let asked: Vec<&str> = asked.split_whitespace().collect();
+    if let ["written", at] = asked[..] {
+        let at = at.parse().expect("a place");
+        return written(list, name, at, want);
+    }
     let float = |i: usize| asked[i].parse::<f32>().expect("a number");
     let whole = |i: usize| asked[i].parse::<u16>().expect("a whole number");
     let answers = match asked[..] {
@@ -67,6 +71,15 @@ fn call(list: &mut List, name: &str, line: &str) {
     for answer in answers {
         assert!(is(want.trim(), answer), "{name}: {line}: {answer:?}");
     }
+}
+
+/// The bytes that a layout must have from a place on.
+fn written(list: &mut List, name: &str, at: usize, want: &str) {
+    let length = list.layout(ROOM, FILL).expect(name);
+    let layout = &list.bytes[list.bytes.len() - usize::from(length)..];
+    let want: Vec<u8> = want.split_whitespace().flat_map(bytes).collect();
+    let got = &layout[at..at + want.len()];
+    assert_eq!(got, want, "{name}: {got:02X?} at {at}");
 }
 
 /// Whether an answer is `accepted`, or just this number or refusal.
