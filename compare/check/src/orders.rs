@@ -440,8 +440,10 @@ fn rails(r: &mut Random) -> Parts {
     }
 }
 
-/// A standard layout in an area that is about as high as the game which one
-/// arrangement leaves clear, so that another gains next to nothing.
+/// A standard layout in an area that is about as high or as wide as the game
+/// which one arrangement leaves clear, so that another gains next to nothing.
+/// Overlap, or a saved rectangle that is passed over, sees to it that no band
+/// is taken without comparison.
 fn gains(r: &mut Random) -> Parts {
     let screen = r.pick(&[generate::tablet, |r: &mut Random| r.pick(SCREENS)])(r);
     let [w, h] = screen;
@@ -449,13 +451,20 @@ fn gains(r: &mut Random) -> Parts {
     let arranged = access::arranged(w, h, r.yes());
     let game = access::place_game_in(&arranged, whole, false, 1., [0.5; 2]).game;
     let more = r.pick(&[-0.01, 0., 0.001, 0.005, 0.0099, 0.01, 0.0101, 0.02]);
-    let bottom = game.y + (game.w + more) * 0.75;
+    let wider = game.w + more;
+    let [across, bottom] = [wider, game.y + wider * 0.75].map(|n| n.clamp(0., LIMIT));
+    // In a low area no band gains 0.01 or less: what reaches 0.01 into it is no
+    // obstacle to the other layout.
+    let low = Rect::new(0., 0., w, bottom);
+    let narrow = Rect::new(0., 0., across, h);
+    let passed_over = Rect::new(f32::NAN, 0., 0., 0.);
     Parts {
         screen,
-        picture: Some(Rect::new(0., 0., w, bottom.clamp(0., LIMIT))),
-        mode: r.pick(&[None, None, Some(4)]),
+        picture: Some(r.pick(&[low, narrow])),
+        mode: r.pick(&[None, Some(4)]),
         fit: Some(r.pick(&[2, 2, 2, 1])),
         cutouts: (r.below(4) == 0).then(|| cameras(r, screen)),
+        saved: (r.below(4) == 0).then(|| vec![passed_over]),
         ..Parts::default()
     }
 }
@@ -746,5 +755,24 @@ mod tests {
             refusals[refusal.unwrap_or(0) as usize] += 1;
         }
         assert!(refusals.iter().all(|count| *count > 100), "{refusals:?}");
+    }
+
+    /// The kind `gains` has orders in which a band gains 0.01 or less over the
+    /// layout at first, and is not taken in another way.
+    #[test]
+    fn small_gains_of_a_band_are_met() {
+        let r = &mut Random::new(1);
+        let gain = |parts: &Parts| {
+            let ([w, h], area) = (parts.screen, parts.picture?);
+            let cutouts = parts.cutouts.as_deref().unwrap_or(&[]);
+            let band = access::controller_band(w, h, false, false, area)?;
+            Some(band.game.w - access::default_in(w, h, cutouts, area).game.w)
+        };
+        let small = |parts: &Parts| {
+            let plain = parts.mode.is_none() && parts.saved.is_none();
+            !plain && gain(parts).is_some_and(|gain| gain > 0. && gain <= 0.01)
+        };
+        let count = (0..20_000).filter(|_| small(&gains(r))).count();
+        assert!(count > 50, "{count}");
     }
 }

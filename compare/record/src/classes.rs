@@ -1,7 +1,7 @@
 //! What the orders of a list are: counts for its README.
 use check::{
     masks::pressed,
-    orders::{Order, fit_word},
+    orders::{Order, fit_word, negative_zero},
 };
 use player::{
     Rect,
@@ -42,6 +42,8 @@ impl Tally {
         self.add("accepted, overlap allowed", yes(preset.allow_overlap));
         self.add("accepted, tag 2 given", yes(settings.picture.is_some()));
         self.add("accepted, cutouts", yes(!settings.cutouts.is_empty()));
+        let zero = negative_zero(&settings.layout());
+        self.add("accepted, negative zero in the layout", yes(zero));
         self.add("accepted, arrangement", arrangement(settings));
     }
     pub fn touch(&mut self, answer: Answer<u16>) {

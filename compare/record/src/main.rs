@@ -16,7 +16,7 @@ use std::{env, fs, path::Path, process::ExitCode};
 use steps::List;
 
 /// The seed and how many orders; longer ones are passed over.
-const SEED: u64 = 39;
+const SEED: u64 = 77;
 const ORDERS: usize = 600;
 const LONGEST: usize = 800;
 
