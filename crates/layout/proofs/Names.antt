@@ -1,6 +1,5 @@
 -- The name of a label: it has at most six bytes, and it is what the code's array holds in its first places.
 use mathlib.Core.Path.{_≡_, refl}
-use mathlib.Core.List.{_++_}
 use Prim.Native.Nat.{_-_, _≤_}
 use lib.Dec.{lit≤}
 use lib.ListN.{length, take, replicate}

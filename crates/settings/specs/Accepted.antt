@@ -39,9 +39,12 @@ finite-side : (x : Float) → inLimitsOf k0 x ≡ true → T (finite x)
 unfolding inLimitsOf ofBits
 finite-side x e = let b = both (le k0 x) (le x k8192) e in finite-between k0 x k8192 tt tt (passes _ (b .0)) (passes _ (b .1))
 
-pub finite-screen : (s : Settings) → acceptedOf s ≡ true → T (finite (s .w)) × T (finite (s .h))
+pub finite-sides : (w h : Float) → screenInLimitsOf w h ≡ true → T (finite w) × T (finite h)
 unfolding screenInLimitsOf
-finite-screen s e = let b = both _ _ (accepted-parts s e .screen) in (finite-side (s .w) (b .0), finite-side (s .h) (b .1))
+finite-sides w h e = let b = both _ _ e in (finite-side w (b .0), finite-side h (b .1))
+
+pub finite-screen : (s : Settings) → acceptedOf s ≡ true → T (finite (s .w)) × T (finite (s .h))
+finite-screen s e = finite-sides (s .w) (s .h) (accepted-parts s e .screen)
 
 pub tops-least : (reusable covered : Float) → topsInLimitsOf reusable covered ≡ true → T (le k0 reusable)
 unfolding topsInLimitsOf inLimitsOf

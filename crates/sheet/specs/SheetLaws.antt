@@ -3,7 +3,7 @@ use mathlib.Core.Path.{_≡_, refl}
 use mathlib.Core.List.{List, [], _∷_, _++_, map, flatMap, zipWith}
 use Prim.Native.Nat.{ℕ, _+_, _*_, _≤_, zero-le}
 use native.Mathlib.Omega.{arith}
-use lib.Dec.{T, leb, leb→le, le→leb, lit≤}
+use lib.Dec.{T, leb, leb→le, le→leb}
 use lib.ListN.{length, length-append, length-map, length-take}
 use lib.Seq.{length-take-le}
 use Rattle.prelude.specs.Each.{Each, _&_}
