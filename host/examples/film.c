@@ -14,5 +14,9 @@ int main(void)
     }
     uint8_t sheet[TL_SHEET] = {0};
     size_t text = (size_t)tl_film(order, length, sheet);
-    return fwrite(sheet, 1, text, stdout) != text;
+    if (fwrite(sheet, 1, text, stdout) != text || fclose(stdout) != 0) {
+        perror("film");
+        return 2;
+    }
+    return 0;
 }

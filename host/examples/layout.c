@@ -97,5 +97,9 @@ int main(int count, char **arguments)
         printf("REFUSED %d: %s\n", (int)-answer, words[-answer]);
     else
         print_layout(layout);
+    if (ferror(stdout) || fclose(stdout) != 0) {
+        perror("layout");
+        return 2;
+    }
     return 0;
 }
