@@ -62,10 +62,13 @@ fn options(mut words: impl Iterator<Item = String>) -> Result<Option<Options>, S
     Ok(Some(options))
 }
 
+/// How often it says how far it is.
+const INTERVAL: Duration = Duration::from_secs(10);
+
 /// Runs blocks on all threads; how many there were, and their counts.
 fn run(options: &Options, start: Instant) -> (u64, Counts) {
     let next = AtomicU64::new(0);
-    let total = Mutex::new((0, Counts::default()));
+    let total = Mutex::new((0, Counts::default(), start));
     let work = || {
         while start.elapsed() < options.time {
             let number = next.fetch_add(1, Ordering::Relaxed);
@@ -73,16 +76,18 @@ fn run(options: &Options, start: Instant) -> (u64, Counts) {
                 break;
             }
             let counts = block(options.seed, number);
-            let (blocks, sum) = &mut *total.lock().expect("no thread has panicked");
+            let (blocks, sum, said) = &mut *total.lock().expect("no thread has panicked");
             let left = options.shown.saturating_sub(sum.unlisted());
             for difference in counts.shown.iter().take(left as usize) {
                 println!("{difference}");
             }
             sum.add(counts);
             *blocks += 1;
-            if *blocks % 1000 == 0 {
+            if said.elapsed() >= INTERVAL {
+                *said = Instant::now();
                 let (orders, unlisted) = (sum.orders(), sum.unlisted());
-                eprintln!("{orders} orders, {unlisted} unlisted differences so far");
+                let seconds = start.elapsed().as_secs();
+                eprintln!("{seconds} s: {orders} orders, {unlisted} unlisted differences so far");
             }
         }
     };
@@ -91,7 +96,8 @@ fn run(options: &Options, start: Instant) -> (u64, Counts) {
             scope.spawn(work);
         }
     });
-    total.into_inner().expect("no thread has panicked")
+    let (blocks, sum, _) = total.into_inner().expect("no thread has panicked");
+    (blocks, sum)
 }
 
 fn main() -> ExitCode {
