@@ -1,4 +1,4 @@
--- Each literal of the source is the f32 nearest its decimal value.
+-- Each literal of the source is the f32 nearest its decimal value. For the reader: no proof cites this law.
 use mathlib.Core.Path.{_≡_, refl}
 use mathlib.Core.Bool.{false}
 use mathlib.Core.List.{map}

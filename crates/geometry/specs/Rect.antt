@@ -27,7 +27,7 @@ fitOf r aspect =
     newOf (r .x ⊕ (r .w ⊖ w) ⊘ k2) (r .y ⊕ (r .h ⊖ h) ⊘ k2) w h
 
 -- Across and down, each begins more than 0.01 before the other ends. So neighbours that share 0.01 or less do not overlap, and a
--- rectangle without width or height that lies inside another does.
+-- rectangle without width or height that lies more than 0.01 inside another does.
 unfoldable pub overlapsOf : Rect → Rect → Bool
 overlapsOf a b =
     lt (a .x) (b .x ⊕ b .w ⊖ k0·01)

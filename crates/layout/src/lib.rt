@@ -351,7 +351,7 @@ impl Layout {
         bounds
     }
 
-    // Keeps the controls that a psp has, in their order, and one stick.
+    // Keeps the controls that a psp has, in their order, and at most one stick.
     pub fn psp_inputs(self) -> Layout
         requires { ⌜ self .count ≤ 12 ⌝ }
         ensures { λ r. ⌜ r ≡ pspInputsOf self ⌝ }

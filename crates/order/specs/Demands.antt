@@ -12,7 +12,7 @@ use Rattle.written.specs.Written.{writtenGame, writtenElements}
 use Rattle.preset.specs.Demand.{KeptClear, shapeWidth, shapeHeight}
 use Rattle.preset.specs.Preset.{settingsLayoutOf}
 
--- Where an order gives the settings s, of KeepClear without overlap at size factor 1, and its layout is written: no rival is wider than the game by more than 1/16, and the game meets no element by more.
+-- Where an order gives the settings s, of KeepClear without overlap at size factor 1, and its layout is written: game and elements are finite, no rival is wider than the game by more than 1/16, and the game meets no element by more.
 -- "The game and the elements are those of the layout's tags 1 and 2, toolbar included", "the area is the order's tag 2 rectangle".
 abbrev pub WidestWritten : List ℕ → Answer ℕ → List ℕ → Type 0
 WidestWritten order answer out =

@@ -108,6 +108,7 @@ module _ (p : Preset) {w h : Float} (W : In w (at 0) (at 8192)) (H : In h (at 0)
   unfolding layoutInOf
   game-bounded scale across down = laid-out-game (max-in W (lit 1)) (max-in H (lit 1)) A p cutouts O scale across down
 
+  -- of a viewport, for the reader: no proof cites these two laws
   pub viewport-bounded : {reusable covered : Float} → In reusable (at 0) (at 8192) → In covered (minus 8192) (at 8192) → Bounded (viewportLayoutOf p w h picture reusable covered cutouts)
   unfolding viewportLayoutOf
   viewport-bounded {reusable} {covered} R C =

@@ -1,4 +1,5 @@
 -- What a host may count on: a number of bytes that fits, and a number below 0 only for one of the refusals, which leaves every output as it was.
+-- Laws for hosts: proofs cite `layout-small` and `viewport-small` alone.
 use mathlib.Core.Path.{_≡_, refl}
 use mathlib.Core.Bool.{Bool, true, false}
 use mathlib.Core.List.{List}
