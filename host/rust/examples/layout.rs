@@ -2,11 +2,23 @@
 //! A line for the game and each element: its name, then x, y, w, h. A refused
 //! order gives one line.
 use std::{
-    env, fs,
-    io::{self, Write},
+    env,
+    ffi::OsString,
+    fs::File,
+    io::{self, Read, Write},
     process::ExitCode,
 };
 use thumb_layout::Layout;
+
+/// No byte past these changes what an order says: `first-bytes` in
+/// crates/film_sheet/specs/FirstBytes.antt.
+const MOST: u64 = 70_000;
+
+fn read(path: &OsString) -> io::Result<Vec<u8>> {
+    let mut order = Vec::new();
+    File::open(path)?.take(MOST).read_to_end(&mut order)?;
+    Ok(order)
+}
 
 fn print(order: &[u8]) -> io::Result<()> {
     let mut out = io::stdout().lock();
@@ -19,20 +31,21 @@ fn print(order: &[u8]) -> io::Result<()> {
     }
 }
 
-fn failed(what: &str, error: io::Error) -> ExitCode {
-    eprintln!("{what}: {error}");
-    ExitCode::from(2)
-}
-
 fn main() -> ExitCode {
-    let arguments: Vec<String> = env::args().collect();
+    let arguments: Vec<OsString> = env::args_os().collect();
     let [_, path] = &arguments[..] else {
         eprintln!("usage: layout FILE");
         return ExitCode::from(2);
     };
-    match fs::read(path).map(|order| print(&order)) {
-        Ok(Ok(())) => ExitCode::SUCCESS,
-        Ok(Err(error)) => failed("standard output", error),
-        Err(error) => failed(path, error),
+    let (what, result) = match read(path) {
+        Ok(order) => ("standard output".into(), print(&order)),
+        Err(error) => (path.display().to_string(), Err(error)),
+    };
+    match result {
+        Ok(()) => ExitCode::SUCCESS,
+        Err(error) => {
+            eprintln!("{what}: {error}");
+            ExitCode::from(2)
+        }
     }
 }
