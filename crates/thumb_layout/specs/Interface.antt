@@ -1,7 +1,7 @@
 -- The functions for hosts in other languages: each answer as one number, and each lent output afterwards. Definitions only.
 use mathlib.Core.Bool.{not}
 use mathlib.Core.List.{List, [], _∷_}
-use Prim.Native.Nat.{ℕ}
+use Prim.Native.Nat.{ℕ, _+_}
 use lib.Dec.{eqb}
 use lib.Ieee.{Float}
 use lib.IntN.{ℤ, pos, negℤ}
@@ -40,13 +40,16 @@ tlFilmOf order = pos (filmSheetOf order .len)
 abbrev pub statusOf : {A : Type 0} → Answer A → ℤ
 statusOf a = numberOf (andThen a (λ v. accepted 0))
 
--- of eight numbers
+-- two numbers, and four, from place i on
+unfoldable pub twoOf : List ℤ → ℕ → List ℤ
+twoOf numbers i = at numbers i ∷ at numbers (i + 1) ∷ []
+
+unfoldable pub fourOf : List ℤ → ℕ → List ℤ
+fourOf numbers i = at numbers i ∷ at numbers (i + 1) ∷ at numbers (i + 2) ∷ at numbers (i + 3) ∷ []
+
+-- of eight numbers: the size, the inset size, the edges
 unfoldable pub contentFrom : List ℤ → Answer Rect
-contentFrom numbers =
-    let size = at numbers 0 ∷ at numbers 1 ∷ [] in
-    let inset = at numbers 2 ∷ at numbers 3 ∷ [] in
-    let edges = at numbers 4 ∷ at numbers 5 ∷ at numbers 6 ∷ at numbers 7 ∷ [] in
-    safeContentOf size inset edges
+contentFrom numbers = safeContentOf (twoOf numbers 0) (twoOf numbers 2) (fourOf numbers 4)
 
 abbrev pub areaAfter : Answer Rect → List Float → List Float
 areaAfter (accepted r) area = r .x ∷ r .y ∷ r .w ∷ r .h ∷ []
@@ -58,13 +61,9 @@ tlSafeContentOf numbers = statusOf (contentFrom numbers)
 unfoldable pub tlSafeContentOutputOf : List ℤ → List Float → List Float
 tlSafeContentOutputOf numbers area = areaAfter (contentFrom numbers) area
 
--- of twelve numbers; any mark but 0 says that a side camera is a local obstacle
+-- of twelve numbers: the edges of decoration, navigation and camera; any mark but 0 says that a side camera is a local obstacle
 unfoldable pub edgesFrom : List ℤ → ℕ → Answer Edges
-edgesFrom numbers local =
-    let decoration = at numbers 0 ∷ at numbers 1 ∷ at numbers 2 ∷ at numbers 3 ∷ [] in
-    let navigation = at numbers 4 ∷ at numbers 5 ∷ at numbers 6 ∷ at numbers 7 ∷ [] in
-    let camera = at numbers 8 ∷ at numbers 9 ∷ at numbers 10 ∷ at numbers 11 ∷ [] in
-    safeEdgesOf decoration navigation camera (not (eqb local 0))
+edgesFrom numbers local = safeEdgesOf (fourOf numbers 0) (fourOf numbers 4) (fourOf numbers 8) (not (eqb local 0))
 
 abbrev pub edgesAfter : Answer Edges → List ℤ → List ℤ
 edgesAfter (accepted e) edges = e .left ∷ e .top ∷ e .right ∷ e .bottom ∷ []

@@ -1,13 +1,14 @@
 // The functions for hosts in other languages, through the C calling convention; host/include/thumb_layout.h declares them.
 // An answer below 0 is minus the number of a refusal, and then every lent output is as it was.
 ghost use mathlib.Core.Path.{_≡_};
-ghost use Prim.Native.Nat.{_≤_};
+ghost use Prim.Native.Nat.{_+_, _≤_};
 ghost use lib.IntN.{pos, negℤ};
+ghost use lib.ListN.{length};
 ghost use lib.Signed.{mag};
 ghost use Rattle.order.specs.Demands.{WidestWritten};
 ghost use Rattle.order.specs.Orders.{layoutAnswer, layoutOf, layoutOutputOf, viewportOutputOf};
 ghost use Rattle.film_sheet.specs.Film.{filmSheetOf};
-ghost use Rattle.thumb_layout.specs.Interface.{numberOf, tlLayoutOf, tlTouchOf, tlViewportLayoutOf, tlFilmOf, tlSafeContentOf, tlSafeContentOutputOf, tlSafeEdgesOf, tlSafeEdgesOutputOf};
+ghost use Rattle.thumb_layout.specs.Interface.{numberOf, twoOf, fourOf, tlLayoutOf, tlTouchOf, tlViewportLayoutOf, tlFilmOf, tlSafeContentOf, tlSafeContentOutputOf, tlSafeEdgesOf, tlSafeEdgesOutputOf};
 use film_sheet::film_sheet;
 use order::LayoutAnswer;
 use order::TouchAnswer;
@@ -81,15 +82,13 @@ pub extern "C" fn tl_film(order: &[u8], sheet: &mut [u8; 1024]) -> i32
 
 // ---- the safe area
 
+// The numbers are the size, the inset size and the edges.
 #[no_mangle]
 pub extern "C" fn tl_safe_content(numbers: &[i32; 8], area: &mut [f32; 4]) -> i32
     ensures answer { λ r. ⌜ r ≡ tlSafeContentOf (now (numbers .entry)) ⌝ }
     ensures output { λ _. ⌜ now (area .exit) ≡ tlSafeContentOutputOf (now (numbers .entry)) (now (area .entry)) ⌝ }
 {
-    let size = [numbers[0], numbers[1]];
-    let inset_size = [numbers[2], numbers[3]];
-    let edges = [numbers[4], numbers[5], numbers[6], numbers[7]];
-    match safe_content(size, inset_size, edges) {
+    match safe_content(two(numbers, 0), two(numbers, 2), four(numbers, 4)) {
         SafeContent::Area(r) => {
             *area = [r.x, r.y, r.w, r.h];
             0
@@ -98,6 +97,7 @@ pub extern "C" fn tl_safe_content(numbers: &[i32; 8], area: &mut [f32; 4]) -> i3
     }
 }
 
+// The numbers are the edges of decoration, navigation and camera.
 #[no_mangle]
 pub extern "C" fn tl_safe_edges(
     numbers: &[i32; 12],
@@ -107,14 +107,26 @@ pub extern "C" fn tl_safe_edges(
     ensures answer { λ r. ⌜ r ≡ tlSafeEdgesOf (now (numbers .entry)) «local_side_camera» ⌝ }
     ensures output { λ _. ⌜ now (edges .exit) ≡ tlSafeEdgesOutputOf (now (numbers .entry)) «local_side_camera» (now (edges .entry)) ⌝ }
 {
-    let decoration = [numbers[0], numbers[1], numbers[2], numbers[3]];
-    let navigation = [numbers[4], numbers[5], numbers[6], numbers[7]];
-    let camera = [numbers[8], numbers[9], numbers[10], numbers[11]];
-    match safe_edges(decoration, navigation, camera, local_side_camera != 0) {
+    let local = local_side_camera != 0;
+    match safe_edges(four(numbers, 0), four(numbers, 4), four(numbers, 8), local) {
         SafeEdges::Merged(e) => {
             *edges = [e.left, e.top, e.right, e.bottom];
             0
         }
         SafeEdges::OffScale => -6,
     }
+}
+
+fn two(numbers: &[i32], i: usize) -> [i32; 2]
+    requires { ⌜ i + 2 ≤ length (now numbers) ⌝ }
+    ensures { λ r. ⌜ r ≡ twoOf (now (numbers .entry)) i ⌝ }
+{
+    [numbers[i], numbers[i + 1]]
+}
+
+fn four(numbers: &[i32], i: usize) -> [i32; 4]
+    requires { ⌜ i + 4 ≤ length (now numbers) ⌝ }
+    ensures { λ r. ⌜ r ≡ fourOf (now (numbers .entry)) i ⌝ }
+{
+    [numbers[i], numbers[i + 1], numbers[i + 2], numbers[i + 3]]
 }
