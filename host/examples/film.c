@@ -2,7 +2,7 @@
 #include "thumb_layout.h"
 #include <stdio.h>
 
-/* No byte past the first 70,000 changes a sheet: `first-bytes-film` in crates/film_sheet/specs/FirstBytes.antt. */
+/* No byte past the first 70,000 changes a sheet: `first-bytes-film` in crates/film_sheet/proofs/FirstBytes.antt. */
 static uint8_t order[70000];
 
 int main(void)

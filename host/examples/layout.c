@@ -6,7 +6,7 @@
 #include <stdlib.h>
 #include <string.h>
 
-/* No byte past these changes what an order says: `first-bytes` in crates/film_sheet/specs/FirstBytes.antt. */
+/* No byte past these changes what an order says: `first-bytes` in crates/film_sheet/proofs/FirstBytes.antt. */
 enum { MOST = 70000 };
 
 static const char *const words[] = {

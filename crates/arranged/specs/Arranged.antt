@@ -1,4 +1,4 @@
--- `Layout::arranged` and `Layout::side_rails` of input.rs. Definitions only.
+-- `Layout::arranged` and `Layout::side_rails` of input.rs.
 use mathlib.Core.Bool.{Bool, true, false, cond, _||_}
 use mathlib.Core.List.{List, [], foldl}
 use lib.Ieee.{Float, lt}

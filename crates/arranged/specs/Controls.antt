@@ -1,5 +1,5 @@
 -- Inner functions of the code that the Rust does not have: controls whose toolbar and game are put in place afterwards. `dockedOf` has those of
--- `arranged`; finished, these are `side_rails` (`side-finished` of ControlLaws). Definitions only.
+-- `arranged`; finished, these are `side_rails` (`side-finished` of ControlLaws).
 use mathlib.Core.Bool.{false, cond}
 use mathlib.Core.List.{List}
 use lib.Ieee.{Float, lt}

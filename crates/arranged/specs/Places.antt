@@ -1,4 +1,4 @@
--- A place for each label, and the controls of a layout put there: the loops over `layout.controls` of input.rs. Definitions only.
+-- A place for each label, and the controls of a layout put there: the loops over `layout.controls` of input.rs.
 use mathlib.Core.Bool.{cond}
 use mathlib.Core.List.{List, [], _∷_, map}
 use mathlib.Core.Option.{Option, some, none}

@@ -14,7 +14,7 @@ use Rattle.toolbar.specs.Toolbar.{anchorToolbarOf}
 use Rattle.arranged.specs.Places.{atOf, controllerOf, placedOf}
 use Rattle.arranged.specs.Arranged.{finishedOf, dockPlacesOf, dockedOf, arrangedOf}
 use Rattle.arranged.specs.Controls.{bareOf}
-use Rattle.arranged.specs.ControlLaws.{anchored-anew, game-anew}
+use Rattle.arranged.proofs.ControlLaws.{anchored-anew, game-anew}
 use Rattle.band.specs.declared.Band.{Band}
 use Rattle.band.specs.Band.{aspectOf, plainPlacesOf, withAnalogOf, bandedOf, withInputsOf}
 use Rattle.band.specs.Controls.{bandControlsOf}

@@ -5,10 +5,10 @@ use native.Mathlib.Nat.{le-trans}
 use native.Mathlib.Omega.{arith}
 use lib.Dec.{ltb}
 use lib.ListN.{length}
-use Rattle.prelude.specs.Booleans.{either}
+use Rattle.prelude.proofs.Booleans.{either}
 use Rattle.layout.specs.declared.Layout.{Layout}
 use Rattle.layout.specs.Psp.{atMostOneOf, pspInputsOf}
-use Rattle.layout.specs.PspLaws.{psp-fewer}
+use Rattle.layout.proofs.PspLaws.{psp-fewer}
 
 abbrev pub Counted : Layout → Type 0
 Counted l = (l .count ≤ 12) × (l .stickcount ≤ 2)

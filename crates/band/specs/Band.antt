@@ -1,4 +1,4 @@
--- `Layout::controller_band` of input.rs: mirrored controls in the room that a picture of full width leaves. Definitions only.
+-- `Layout::controller_band` of input.rs: mirrored controls in the room that a picture of full width leaves.
 use mathlib.Core.Bool.{Bool, false, cond, _&&_, _||_}
 use mathlib.Core.List.{_∷_, []}
 use mathlib.Core.Option.{Option, some, none}

@@ -1,4 +1,4 @@
--- An inner function of the code that the Rust does not have. Definitions only.
+-- An inner function of the code that the Rust does not have.
 use mathlib.Core.Bool.{Bool, cond}
 use Rattle.layout.specs.declared.Layout.{Layout}
 use Rattle.arranged.specs.Places.{standardOf, analogOf}

@@ -1,4 +1,4 @@
--- `Layout::analog_camera_rails` of input.rs: rails beside a picture of full height, with a camera between the digital well and the stick. Definitions only.
+-- `Layout::analog_camera_rails` of input.rs: rails beside a picture of full height, with a camera between the digital well and the stick.
 use mathlib.Core.Bool.{Bool, false, cond, _&&_, _||_}
 use mathlib.Core.List.{List, [], _∷_, foldl}
 use mathlib.Core.Option.{Option, some, none}

@@ -1,4 +1,1 @@
 pub mod CameraRails
-pub mod CameraCases
-pub mod CameraLabels
-pub mod CameraRanges

@@ -1,4 +1,4 @@
--- Document 01's pictures of aspect 1, touches on a d-pad and overlaps, as questions with their answers. Definitions only.
+-- Document 01's pictures of aspect 1, touches on a d-pad and overlaps, as questions with their answers.
 use mathlib.Core.Bool.{Bool, true, false}
 use mathlib.Core.List.{List, [], _∷_}
 use Prim.Native.Nat.{ℕ}

@@ -1,1 +1,5 @@
+pub mod ChosenCases
+pub mod ChosenLabels
+pub mod MaximumRanges
+pub mod ChosenRanges
 pub mod Keys

@@ -1,4 +1,4 @@
--- The first steps of `Preset::layout_in` of input.rs: the layout at first, the area that the game gets and the arrangement for it. Definitions only.
+-- The first steps of `Preset::layout_in` of input.rs: the layout at first, the area that the game gets and the arrangement for it.
 use mathlib.Core.Bool.{Bool, cond, _&&_, _||_}
 use mathlib.Core.List.{List, [], _∷_, map, foldl}
 use mathlib.Core.Option.{Option, some, none, Option·getD}

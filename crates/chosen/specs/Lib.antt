@@ -1,5 +1,1 @@
 pub mod Chosen
-pub mod ChosenCases
-pub mod ChosenLabels
-pub mod MaximumRanges
-pub mod ChosenRanges

@@ -7,10 +7,10 @@ use native.Mathlib.Omega.{arith}
 use lib.Ieee.{Float}
 use lib.ListN.{length, take, getD, set}
 use lib.Seq.{getD-take, length-take-le, take-set-lt}
-use Rattle.prelude.specs.Booleans.{either}
+use Rattle.prelude.proofs.Booleans.{either}
 use Rattle.prelude.specs.Lists.{anyOf, filterMap, enumerateFrom}
-use Rattle.prelude.specs.ListLaws.{length-enumerate, enumerate-at}
-use Rattle.prelude.specs.EachLaws.{each-at}
+use Rattle.prelude.proofs.ListLaws.{length-enumerate, enumerate-at}
+use Rattle.prelude.proofs.EachLaws.{each-at}
 use Rattle.geometry.specs.declared.Rect.{Rect}
 use Rattle.geometry.specs.Rect.{overlapsOf}
 use Rattle.layout.specs.declared.Control.{Control}

@@ -1,4 +1,4 @@
--- `Layout::avoid_cutouts` of input.rs: the elements moved off the cutouts, group by group. Definitions only.
+-- `Layout::avoid_cutouts` of input.rs: the elements moved off the cutouts, group by group.
 use mathlib.Core.Bool.{Bool, cond, not, _&&_}
 use mathlib.Core.List.{List, [], _∷_, map, foldl}
 use Prim.Native.Nat.{ℕ, _<_}

@@ -1,4 +1,2 @@
 pub mod Cutouts
 pub mod Settled
-pub mod CutoutLaws
-pub mod CutoutRanges

@@ -1,4 +1,4 @@
--- Where an element can be after the cutout pass. Definitions only.
+-- Where an element can be after the cutout pass.
 use mathlib.Core.Path.{_≡_}
 use mathlib.Core.Bool.{true}
 use mathlib.Core.List.{List, [], _∷_}

@@ -11,12 +11,12 @@ use Rattle.layout.specs.Layout.{elementsOf}
 use Rattle.search.specs.Search.{placeGameInAspectOf}
 use Rattle.arranged.specs.Arranged.{anchoredOf, finishedOf}
 use Rattle.arranged.specs.Controls.{bareOf}
-use Rattle.arranged.specs.ControlLaws.{finished-anew}
+use Rattle.arranged.proofs.ControlLaws.{finished-anew}
 use Rattle.defaults.specs.declared.Size.{Size}
 use Rattle.defaults.specs.Controls.{analogControlsOf}
-use Rattle.defaults.specs.ControlLaws.{added-bare, shrunk-bare}
+use Rattle.defaults.proofs.ControlLaws.{added-bare, shrunk-bare}
 use Rattle.defaults.specs.Defaults.{clearOf, newLayoutOf, analogFullOf, shrunkOf}
-use Rattle.defaults.specs.DefaultLabels.{default-formed}
+use Rattle.defaults.proofs.DefaultLabels.{default-formed}
 
 pub clear-anew : (l : Layout) (w h : Float) (picture : Rect) → clearOf (finishedOf l w h) picture ≡ clearOf (anchoredOf l w h) picture
 unfolding finishedOf placeGameInAspectOf elementsOf

@@ -1,4 +1,4 @@
--- Inner functions of the code that the Rust does not have. Definitions only.
+-- Inner functions of the code that the Rust does not have.
 use lib.Ieee.{Float}
 use Rattle.geometry.specs.declared.Rect.{Rect}
 use Rattle.layout.specs.declared.Layout.{Layout}

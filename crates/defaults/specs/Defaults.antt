@@ -1,4 +1,4 @@
--- `Layout::new`, `default_in`, `analog_default` and `psp` of input.rs: the layouts before a user changes them. Definitions only.
+-- `Layout::new`, `default_in`, `analog_default` and `psp` of input.rs: the layouts before a user changes them.
 use mathlib.Core.Bool.{Bool, true, false, cond, not, _&&_, _||_}
 use mathlib.Core.List.{List, [], map}
 use mathlib.Core.Option.{Option, some, none}

@@ -1,6 +1,2 @@
 pub mod Defaults
-pub mod DefaultCases
-pub mod DefaultLabels
 pub mod Controls
-pub mod ControlLaws
-pub mod DefaultRanges

@@ -1,4 +1,4 @@
--- The film sheet of document 01, made from an order's bytes. Definitions only.
+-- The film sheet of document 01, made from an order's bytes.
 use mathlib.Core.List.{List}
 use Prim.Native.Nat.{ℕ}
 use Rattle.prelude.specs.Answer.{Answer, accepted, refused}

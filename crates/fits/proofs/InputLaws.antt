@@ -14,7 +14,7 @@ use Rattle.layout.specs.declared.Layout.{Layout}
 use Rattle.layout.specs.Label.{isFaceOf}
 use Rattle.layout.specs.Layout.{anyRect, anyControl, controlList, stickList, elementOf, elementCountOf}
 use Rattle.layout.specs.Elements.{controllerElementsOf}
-use Rattle.layout.specs.ActionLaws.{element-control}
+use Rattle.layout.proofs.ActionLaws.{element-control}
 use Rattle.fits.specs.declared.Input.{Input}
 use Rattle.fits.specs.Fits.{input, fromControl, fromStick, inputsOf}
 

@@ -1,4 +1,4 @@
--- `fits` of input/picture.rs. Definitions only.
+-- `fits` of input/picture.rs.
 use mathlib.Core.Bool.{Bool, true, false, not, _&&_, _||_}
 use mathlib.Core.List.{List, [], _∷_, _++_, map}
 use lib.Ieee.{Float, le}

@@ -11,7 +11,7 @@ use lib.Ieee.Bits.{is-false}
 use lib.Ieee.Fits.{and-i, and-l, and-r, eq→eqb, down-pos}
 use lib.Ieee.Order.{round-mono}
 use lib.Ieee.Scale.{finite, round-same}
-use Rattle.prelude.specs.Booleans.{either, by-test}
+use Rattle.prelude.proofs.Booleans.{either, by-test}
 use Rattle.float.specs.Float.{_⊖_, k0}
 use Rattle.float.specs.MinMax.{minOf, maxOf, clampOf}
 use Rattle.float.proofs.Nan.{no-nan}

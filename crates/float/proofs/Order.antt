@@ -11,7 +11,7 @@ use lib.Ieee.Compare.{differs-from-itself}
 use lib.Ieee.Fits.{down-pos, and-l, and-r}
 use lib.Ieee.Bits.{is-true}
 use lib.Ieee.Positive.{first-pos}
-use Rattle.prelude.specs.Booleans.{by-test, or-case}
+use Rattle.prelude.proofs.Booleans.{by-test, or-case}
 use Rattle.float.specs.MinMax.{minOf}
 
 -- the factor of a product that is above something

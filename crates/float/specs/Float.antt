@@ -1,4 +1,4 @@
--- Rust's f32 operators as definitions write them, and the literals of the source by name, each with its bit pattern. Definitions only.
+-- Rust's f32 operators as definitions write them, and the literals of the source by name, each with its bit pattern.
 use mathlib.Core.List.{List, _∷_, []}
 use Prim.Native.Nat.{ℕ}
 use lib.Ieee as Ieee

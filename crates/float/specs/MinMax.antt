@@ -1,4 +1,4 @@
--- Rust's min, max, clamp and abs of f32. Definitions only.
+-- Rust's min, max, clamp and abs of f32.
 use mathlib.Core.Bool.{cond, false}
 use lib.Ieee.{Float, nan, inf, fin, lt, ne}
 

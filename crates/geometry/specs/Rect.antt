@@ -1,4 +1,4 @@
--- `Rect` of input.rs. Definitions only.
+-- `Rect` of input.rs.
 use mathlib.Core.Bool.{Bool, _&&_}
 use lib.Ieee.{Float, lt, le}
 use Rattle.float.specs.Float.{_⊕_, _⊖_, _⊗_, _⊘_, k0, k0·01, k2}

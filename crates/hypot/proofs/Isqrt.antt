@@ -8,8 +8,8 @@ use mathlib.Core.Bool.{Bool, true, false, not, cond}
 use lib.Dec.{T, leb, ltb, leb→le, nleb→lt, ltb→lt, nltb→le}
 use lib.Ieee.{size}
 use lib.Ieee.Digits.{size-lt}
-use Rattle.prelude.specs.Compare.{Cmp}
-use Rattle.prelude.specs.Booleans.{either, by-test}
+use Rattle.prelude.proofs.Compare.{Cmp}
+use Rattle.prelude.proofs.Booleans.{either, by-test}
 use Rattle.hypot.specs.Hypot.{grow, rootBelow, isqrt}
 use Rattle.hypot.specs.Parts.{rootOf}
 use Rattle.hypot.proofs.Order.{lt-or-ge, square-le, square-lt}

@@ -4,7 +4,7 @@ use mathlib.Core.Logic.{_⊎_, inl, inr}
 use Prim.Native.Nat.{ℕ, suc, _*_, _≤_, _<_, compare, Ordering, Ordering·lt, Ordering·eq, Ordering·gt}
 use native.Mathlib.Nat.{le-of-eq, le-of-lt, mul-le-mul}
 use native.Mathlib.Omega.{arith}
-use Rattle.prelude.specs.Compare.{Cmp, cmp}
+use Rattle.prelude.proofs.Compare.{Cmp, cmp}
 
 one : (o p : Ordering) (a b : ℕ) → Cmp o a b → Cmp p a b → o ≡ p
 one Ordering·lt Ordering·lt a b h k = refl

@@ -6,7 +6,7 @@ use native.Mathlib.Nat.{le-trans, le-of-eq, le-of-lt, lt-of-lt-of-le, lt-of-le-o
 use native.Mathlib.Numerals.{add-one, add-one-le, lt-add-one}
 use native.Mathlib.Omega.{arith}
 use lib.Ieee.{nearest}
-use Rattle.prelude.specs.Compare.{Cmp}
+use Rattle.prelude.proofs.Compare.{Cmp}
 use Rattle.hypot.specs.Pattern.{value}
 use Rattle.hypot.specs.Nearest.{mid, Nearest}
 use Rattle.hypot.proofs.Order.{lt-or-ge, square-le, square-lt}

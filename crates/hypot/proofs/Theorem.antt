@@ -10,7 +10,7 @@ use lib.Ieee.{binary32, size, nearest, units}
 use lib.Ieee.Digits.{size-reaches}
 use lib.Ieee.Fits.{kept-lt, nearest-le}
 use lib.Ieee.Nearest.{nearest-ge}
-use Rattle.prelude.specs.Compare.{cmp}
+use Rattle.prelude.proofs.Compare.{cmp}
 use Rattle.hypot.specs.Hypot.{isqrt, nearestRoot}
 use Rattle.hypot.specs.Pattern.{f32At}
 use Rattle.hypot.specs.Nearest.{Nearest, RootIsNearest}

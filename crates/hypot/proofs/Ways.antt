@@ -6,7 +6,7 @@ use native.Mathlib.Nat.{le-trans, le-of-eq, le-of-lt, lt-of-lt-of-le, lt-of-not-
 use native.Mathlib.Omega.{arith}
 use lib.Pow.{pow-pos, pow-add, pow-mono, pow-lt}
 use lib.Ieee.{binary32, nearest, ofBits}
-use Rattle.prelude.specs.Compare.{Cmp, cmp}
+use Rattle.prelude.proofs.Compare.{Cmp, cmp}
 use Rattle.hypot.specs.Hypot.{nearestRoot}
 use Rattle.hypot.specs.Pattern.{exponentOf, significandOf, value, f32At}
 use Rattle.hypot.specs.Nearest.{mid, Nearest}

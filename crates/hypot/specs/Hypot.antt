@@ -1,4 +1,4 @@
--- Document 01's hypot, over whole numbers: the f32 nearest the exact root of the sum of squares, ties to even; infinite if either side is, else NaN with NaN. Definitions only.
+-- Document 01's hypot, over whole numbers: the f32 nearest the exact root of the sum of squares, ties to even; infinite if either side is, else NaN with NaN.
 use Prim.Native.Nat.{ℕ, zero, suc, _+_, _-_, _*_, _/_, _^_, compare}
 use mathlib.Core.Bool.{false, cond}
 use lib.Dec.{leb}

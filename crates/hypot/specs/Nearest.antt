@@ -1,4 +1,4 @@
--- What "nearest, ties to even" means, apart from how it is computed, and the claims that the definition is that. Definitions only.
+-- What "nearest, ties to even" means, apart from how it is computed, and the claims that the definition is that.
 use mathlib.Core.Path.{_≡_}
 use mathlib.Core.Bool.{false}
 use Prim.Native.Nat.{ℕ, _+_, _*_, _%_, _^_, _≤_, _<_}

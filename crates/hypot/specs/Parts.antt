@@ -1,4 +1,4 @@
--- What the parts of the code say to each other. Definitions only.
+-- What the parts of the code say to each other.
 use Prim.Native.Nat.{ℕ, _+_, _-_, _*_, _<_}
 use mathlib.Core.Bool.{cond}
 use lib.Dec.{T, ltb}

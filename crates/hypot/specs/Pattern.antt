@@ -1,4 +1,4 @@
--- The bit patterns of f32 without their sign, and their values as whole numbers of 2 ^ -149. Definitions only.
+-- The bit patterns of f32 without their sign, and their values as whole numbers of 2 ^ -149.
 use Prim.Native.Nat.{ℕ, _-_, _*_, _/_, _%_, _^_, min}
 use lib.Ieee.{Float, binary32, ofBits, toBits}
 

@@ -1,5 +1,5 @@
 -- `Layout::fit_landscape_controls` of input.rs. On a wide screen the keys beside the sticks can make both rails wider than need be: a row
--- at the bottom is tried for them, which makes no thumb's target smaller. Definitions only.
+-- at the bottom is tried for them, which makes no thumb's target smaller.
 use mathlib.Core.Bool.{Bool, false, cond, _||_}
 use mathlib.Core.List.{List}
 use Prim.Native.Nat.{ℕ}

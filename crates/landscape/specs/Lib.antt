@@ -1,3 +1,1 @@
 pub mod Landscape
-pub mod LandscapeLaws
-pub mod LandscapeRanges

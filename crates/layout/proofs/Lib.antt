@@ -1,1 +1,6 @@
+pub mod ElementLaws
+pub mod SetElementLaws
+pub mod ActionLaws
+pub mod PspLaws
+pub mod LabelLaws
 pub mod Names

@@ -1,4 +1,4 @@
--- `action_elements` and `action_bounds` of input.rs: the face controls of a layout. Definitions only.
+-- `action_elements` and `action_bounds` of input.rs: the face controls of a layout.
 use mathlib.Core.List.{List, map}
 use Prim.Native.Nat.{ℕ}
 use Rattle.prelude.specs.Lists.{filterMap, reduce, enumerateFrom}

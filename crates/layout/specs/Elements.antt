@@ -1,4 +1,4 @@
--- `controller_elements` of input.rs, and `set_element` for all elements at once. Definitions only.
+-- `controller_elements` of input.rs, and `set_element` for all elements at once.
 use mathlib.Core.List.{List, _++_, zipWith}
 use Prim.Native.Nat.{ℕ, _+_}
 use lib.ListN.{drop, getD}

@@ -1,4 +1,4 @@
--- The labels of the controls. Definitions only.
+-- The labels of the controls.
 use mathlib.Core.Bool.{Bool, true, false}
 use mathlib.Core.List.{List, [], _∷_, _++_}
 use Prim.Native.Nat.{ℕ, _-_, _^_}

@@ -1,4 +1,4 @@
--- The labels of a layout's controls, its counts and the lengths of its arrays. Definitions only.
+-- The labels of a layout's controls, its counts and the lengths of its arrays.
 use mathlib.Core.Path.{_≡_}
 use mathlib.Core.Bool.{Bool, cond}
 use mathlib.Core.List.{List, [], _∷_, _++_, map}

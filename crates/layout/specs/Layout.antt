@@ -1,4 +1,4 @@
--- `Layout` of input.rs: its elements by index. Definitions only.
+-- `Layout` of input.rs: its elements by index.
 use mathlib.Core.Bool.{cond}
 use mathlib.Core.List.{List, _∷_, _++_, map}
 use Prim.Native.Nat.{ℕ, _+_, _-_}

@@ -1,11 +1,6 @@
 pub mod Label
 pub mod Layout
 pub mod Elements
-pub mod ElementLaws
 pub mod Labels
-pub mod SetElementLaws
 pub mod Actions
 pub mod Psp
-pub mod ActionLaws
-pub mod PspLaws
-pub mod LabelLaws

@@ -1,4 +1,4 @@
--- `psp_inputs` of input.rs: the controls that a psp has, and one stick at most. Definitions only.
+-- `psp_inputs` of input.rs: the controls that a psp has, and one stick at most.
 use mathlib.Core.Bool.{Bool, cond}
 use Prim.Native.Nat.{ℕ}
 use lib.Dec.{ltb}

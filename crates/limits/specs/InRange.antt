@@ -1,4 +1,4 @@
--- Settings whose numbers are in range, as arrangements and the search want them. Definitions only.
+-- Settings whose numbers are in range, as arrangements and the search want them.
 use mathlib.Core.Path.{_≡_}
 use mathlib.Core.Bool.{true}
 use lib.Ieee.{eq}

@@ -1,1 +1,1 @@
-// No code: specs/ has the ranges of accepted settings.
+// No code: specs/ has the ranges of accepted settings, proofs/ that they hold.

@@ -1,3 +1,4 @@
+pub mod LineLaws
 mod Patterns
 pub mod Puts
 mod Numbers

@@ -10,10 +10,10 @@ use lib.Signed.{mag, ltZ}
 use lib.Ieee.{Float}
 use mir.Syntax.{w32}
 use mir.Val.{SFits}
-use Rattle.prelude.specs.Signed.{back, kept, stored, minus-fits, minus-is}
+use Rattle.prelude.proofs.Signed.{back, kept, stored, minus-fits, minus-is}
 use Rattle.numerics.specs.Value.{AtMost}
 use Rattle.lines.specs.Line.{tenthsOf, numberText, digitsOf, most, mostTenths}
-use Rattle.lines.specs.LineLaws.{tenths-most}
+use Rattle.lines.proofs.LineLaws.{tenths-most}
 
 pub kept-tenths : {x : Float} {z : ℤ} → AtMost x most → z ≡ tenthsOf x → back z ≡ tenthsOf x
 kept-tenths {x = x} a p = stored (rw p (omega (arith, tenths-most x a))) p

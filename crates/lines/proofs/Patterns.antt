@@ -14,11 +14,11 @@ use lib.Ieee.Bits.{ofBits-toBits}
 use lib.Ieee.Exact.{HasValue, odd-sign}
 use lib.Pow.{pow-pos, pow-mono, pow-add, shl-lt, shl-exact, shl-shr, shr-shr, ones-lt}
 use Rattle.float.proofs.Patterns.{ofBits-is, fields-normal}
-use Rattle.numerics.specs.Bounds.{eps-pos, most-magnitude}
-use Rattle.numerics.specs.Operations.{value-is}
+use Rattle.numerics.proofs.Bounds.{eps-pos, most-magnitude}
+use Rattle.numerics.proofs.Operations.{value-is}
 use Rattle.numerics.specs.Value.{sign, Whole, eps, AtMost}
 use Rattle.lines.specs.Line.{most, tenthsOf, tenthsSizeOf}
-use Rattle.lines.specs.LineLaws.{tenths-is, size-most}
+use Rattle.lines.proofs.LineLaws.{tenths-is, size-most}
 
 -- ---- shifts
 cut : (a k less : ℕ) → 1 ≤ a → less ≤ 1 → (a * 2 ^ k - less) / 2 ^ k ≡ a - less

@@ -8,7 +8,7 @@ use lib.ListN.{length, set, length-append}
 use Rattle.writer.specs.Bytes.{stored}
 use Rattle.writer.proofs.Stores.{then-on, length-stored}
 use Rattle.lines.specs.Line.{putOf, digitsOf}
-use Rattle.lines.specs.LineLaws.{digits-few, digits-more}
+use Rattle.lines.proofs.LineLaws.{digits-few, digits-more}
 
 pub none : (l : List ℕ) (at : ℕ) → (l, at) ≡ putOf l at []
 unfolding putOf stored

@@ -1,4 +1,4 @@
--- A line of the film sheet of document 01, and its text. Definitions only.
+-- A line of the film sheet of document 01, and its text.
 use mathlib.Core.Bool.{cond}
 use mathlib.Core.List.{List, [], _∷_, _++_}
 use Prim.Native.Nat.{ℕ, zero, suc, _+_, _-_, _*_, _/_, _%_, _^_}

@@ -8,8 +8,8 @@ use native.Mathlib.Omega.{arith}
 use lib.Ieee.{Float}
 use lib.ListN.{length, take, drop, getD, set}
 use lib.Seq.{drop-cons, drop-at, getD-take, length-take-le, set-split, take-set-le, take-set-lt, take-take}
-use Rattle.prelude.specs.ListLaws.{take-zipWith}
-use Rattle.prelude.specs.Loops.{none-left}
+use Rattle.prelude.proofs.ListLaws.{take-zipWith}
+use Rattle.prelude.proofs.Loops.{none-left}
 use Rattle.moves.specs.declared.Move.{Move}
 use Rattle.moves.specs.declared.Move.the-variants.{Go}
 use Rattle.moves.specs.Moves.{Holds, lengthOf, shorterOf, placeOf, insertAtOf, insertOf, movesIn}

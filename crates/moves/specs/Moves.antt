@@ -1,4 +1,4 @@
--- The moves that take a group of elements off the cutouts, and the choice among them, as in `Layout::avoid_cutouts` of input.rs. Definitions only.
+-- The moves that take a group of elements off the cutouts, and the choice among them, as in `Layout::avoid_cutouts` of input.rs.
 use mathlib.Core.Path.{_≡_}
 use mathlib.Core.Bool.{Bool, cond, not, _&&_}
 use mathlib.Core.List.{List, [], _∷_, _++_, map, foldl, flatMap, zipWith}

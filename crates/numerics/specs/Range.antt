@@ -1,4 +1,4 @@
--- Ranges of f32 values, in 256ths and counted from -2^17, so that all ends are natural numbers and compute. Definitions only.
+-- Ranges of f32 values, in 256ths and counted from -2^17, so that all ends are natural numbers and compute.
 use Prim.Native.Nat.{ℕ, _+_, _-_, _*_, _≤_, max}
 use lib.Ieee.{Float}
 use Rattle.numerics.specs.Value.{Whole, posPart, negPart, eps, limit}

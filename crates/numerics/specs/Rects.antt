@@ -1,4 +1,4 @@
--- Rectangles whose numbers are in range: finite ones, elements of a layout, elements as arrangements put them, and the area of a picture. Definitions only.
+-- Rectangles whose numbers are in range: finite ones, elements of a layout, elements as arrangements put them, and the area of a picture.
 use Prim.Native.Nat.{ℕ, _+_, _*_}
 use lib.Dec.{T}
 use lib.Ieee.{le}
@@ -63,3 +63,7 @@ Key m e = Placed 8192 m e
 -- how far off the screen an arrangement puts elements at most
 abbrev pub margin : ℕ
 margin = 768
+
+-- and where a small surface shrinks them
+abbrev pub shrunkMargin : ℕ
+shrunkMargin = 1024

@@ -1,4 +1,4 @@
--- The value of an f32 in exact arithmetic: document 01's "a finite f32 is a whole number of 2^-149". A unit is 2^-149. Definitions only.
+-- The value of an f32 in exact arithmetic: document 01's "a finite f32 is a whole number of 2^-149". A unit is 2^-149.
 use mathlib.Core.Path.{_≡_}
 use mathlib.Core.Bool.{Bool, true, false}
 use Prim.Native.Nat.{ℕ, suc, _+_, _*_, _/_, _^_, _≤_, _<_}

@@ -1,4 +1,4 @@
--- Demand 3, of the bytes of an order and those that are written for it. The words in quotation marks are document 01's. Definitions only.
+-- Demand 3, of the bytes of an order and those that are written for it. The words in quotation marks are document 01's.
 use mathlib.Core.Path.{_≡_}
 use mathlib.Core.List.{List}
 use Prim.Native.Nat.{ℕ}

@@ -1,3 +1,2 @@
 pub mod Orders
 pub mod Demands
-pub mod OrderLaws

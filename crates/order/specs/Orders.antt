@@ -1,4 +1,4 @@
--- The functions that hosts call with an order: its layout in bytes, the mask of a touch, and `PlayerViewport::layout`. Definitions only.
+-- The functions that hosts call with an order: its layout in bytes, the mask of a touch, and `PlayerViewport::layout`.
 use mathlib.Core.List.{List}
 use Prim.Native.Nat.{ℕ}
 use lib.Ieee.{Float}

@@ -1,1 +1,4 @@
+pub mod PictureCases
+pub mod PictureLabels
+pub mod PictureRanges
 pub mod Candidates

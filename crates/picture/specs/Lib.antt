@@ -1,4 +1,1 @@
 pub mod Picture
-pub mod PictureCases
-pub mod PictureLabels
-pub mod PictureRanges

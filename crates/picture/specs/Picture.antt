@@ -1,4 +1,4 @@
--- input/picture.rs: controls beside or below a picture that keeps its size. Definitions only.
+-- input/picture.rs: controls beside or below a picture that keeps its size.
 use mathlib.Core.Bool.{Bool, false, not, _&&_, _||_, cond}
 use mathlib.Core.List.{List, [], _∷_}
 use mathlib.Core.Option.{Option, some, none}

@@ -1,4 +1,4 @@
--- An answer as document 01 gives it: a value, or the number of a refusal. Definitions only.
+-- An answer as document 01 gives it: a value, or the number of a refusal.
 use mathlib.Core.Bool.{Bool, cond}
 use Prim.Native.Nat.{ℕ}
 

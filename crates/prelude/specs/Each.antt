@@ -1,4 +1,4 @@
--- What holds of each element of a list. Definitions only.
+-- What holds of each element of a list.
 use mathlib.Core.List.{List, [], _∷_}
 
 abbrev pub Each : {A : Type 0} → (A → Type 0) → List A → Type 0

@@ -1,12 +1,3 @@
-pub mod Booleans
-pub mod Compare
-pub mod Signed
 pub mod Lists
-pub mod ListLaws
-pub mod Loops
-pub mod Stores
-pub mod Filters
 pub mod Each
-pub mod EachLaws
 pub mod Answer
-pub mod AnswerLaws

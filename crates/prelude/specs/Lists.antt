@@ -1,4 +1,4 @@
--- Loops over lists, as definitions write them: any, all, no element, find, filter with map, retain, reduce, enumerate, `a..b`, and a change of the first elements in place. Definitions only.
+-- Loops over lists, as definitions write them: any, all, no element, find, filter with map, retain, reduce, enumerate, `a..b`, and a change of the first elements in place.
 use mathlib.Core.Bool.{Bool, true, false, _&&_, _||_, cond}
 use mathlib.Core.List.{List, [], _∷_, _++_, foldl}
 use Prim.Native.Nat.{ℕ, zero, suc, _-_}

@@ -1,1 +1,1 @@
-// No code: specs/ has booleans, integers, lists, loops over arrays and answers, as definitions and proofs of all crates use them.
+// No code: specs/ has lists and answers as definitions of all crates use them, proofs/ laws of these, of booleans, integers and loops over arrays.

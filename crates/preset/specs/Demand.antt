@@ -1,4 +1,4 @@
--- Demand 3 for the layout of an order: document 01's paragraph "For the widest picture". Definitions only.
+-- Demand 3 for the layout of an order: document 01's paragraph "For the widest picture".
 use mathlib.Core.Path.{_≡_}
 use mathlib.Core.Bool.{Bool, true, false, cond}
 use Prim.Native.Nat.{ℕ}

@@ -1,4 +1,4 @@
--- `Preset::layout_in` and `layout_with_cutouts` of input.rs, and `PlayerViewport::layout`; the first steps are in crate `chosen`. Definitions only.
+-- `Preset::layout_in` and `layout_with_cutouts` of input.rs, and `PlayerViewport::layout`; the first steps are in crate `chosen`.
 use mathlib.Core.Bool.{Bool, true, false, cond, not, _&&_, _||_}
 use mathlib.Core.List.{List}
 use lib.Ieee.{Float, lt}

@@ -14,7 +14,7 @@ use lib.Pow.{high-ones, pow-pos}
 use lib.Seq.{set-at, append-snoc}
 use Rattle.geometry.specs.Rect.{emptyRect}
 use Rattle.reader.specs.Order.{hasBit, rectAtOf, rects, filled}
-use Rattle.reader.specs.Accepted.{length-rects}
+use Rattle.reader.proofs.Accepted.{length-rects}
 
 -- ---- `b & (1 << i) != 0` tells whether bit i is set
 and-bit : (b i : ℕ) → bitAnd b (2 ^ i) ≡ b / 2 ^ i % 2 * 2 ^ i

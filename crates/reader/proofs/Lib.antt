@@ -1,2 +1,4 @@
+pub mod Accepted
+pub mod Readings
 pub mod Bits
 pub mod Fields

@@ -1,4 +1,4 @@
--- The order, as document 01's section of that name has it: the settings that bytes give, or the number of their first fault. Definitions only.
+-- The order, as document 01's section of that name has it: the settings that bytes give, or the number of their first fault.
 use mathlib.Core.Bool.{Bool, false, _&&_, _||_, cond}
 use mathlib.Core.List.{List, [], _∷_, _++_}
 use Prim.Native.Nat.{ℕ, zero, suc, _+_, _-_, _*_, _/_, _%_, _^_}

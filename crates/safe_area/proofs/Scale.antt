@@ -13,9 +13,9 @@ use mir.Val.{SFits, ofZ}
 use mir.Facts.{toZ-ofZ}
 use borrow.Author.Needs.{sfits-of}
 use borrow.Author.Tests.{leb-true, eqb-true, eqb-false, eq-eqb, ne-eqb}
-use Rattle.prelude.specs.Booleans.{either, both}
+use Rattle.prelude.proofs.Booleans.{either, both}
 use Rattle.prelude.specs.Lists.{allOf}
-use Rattle.prelude.specs.Signed.{back, kept}
+use Rattle.prelude.proofs.Signed.{back, kept}
 use Rattle.safe_area.specs.Safe.{at, eqZ, maxOf, clampOf, withinLimitsOf, onScaleOf, allOnScaleOf, sameSizeOf, currentEdgesOf}
 
 -- ---- tests

@@ -1,4 +1,4 @@
--- `safe_content` and `safe_edges` of input.rs, with refusal 6. Definitions only.
+-- `safe_content` and `safe_edges` of input.rs, with refusal 6.
 use mathlib.Core.Bool.{Bool, false, _&&_, cond}
 use mathlib.Core.List.{List}
 use Prim.Native.Nat.{ℕ, _+_}

@@ -5,7 +5,7 @@ use lib.Ieee.Scale.{finite}
 use Rattle.float.specs.Float.{_⊖_, _⊗_, k0}
 use Rattle.float.specs.MinMax.{minOf, clampOf}
 use Rattle.float.proofs.Ends.{finite-number, min-le-right, clamp-le-high, zero-le-sub}
-use Rattle.numerics.specs.Ranges.{mul-not-nan}
+use Rattle.numerics.proofs.Ranges.{mul-not-nan}
 
 module _ (least w : Float) (W : T (finite w)) where
   pub side-ends : T (le (minOf least w) w)

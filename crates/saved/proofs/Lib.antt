@@ -1,2 +1,4 @@
+pub mod SavedLaws
+pub mod SavedRanges
 pub mod Turns
 pub mod Ends

@@ -8,7 +8,7 @@ use lib.Ieee.{Float}
 use lib.ListN.{length, take, getD, set}
 use lib.Seq.{take-all, take-take}
 use Rattle.prelude.specs.Lists.{replaceFirst}
-use Rattle.prelude.specs.Loops.{take-map}
+use Rattle.prelude.proofs.Loops.{take-map}
 use Rattle.geometry.specs.declared.Rect.{Rect}
 use Rattle.saved.specs.Saved.{restoreOf, restoredOf}
 

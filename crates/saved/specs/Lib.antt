@@ -1,3 +1,1 @@
 pub mod Saved
-pub mod SavedLaws
-pub mod SavedRanges

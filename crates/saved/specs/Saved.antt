@@ -1,4 +1,4 @@
--- Saved rectangles, as parts of the screen: what `Preset::layout_in` restores, and `Preset::capture` of input.rs. Definitions only.
+-- Saved rectangles, as parts of the screen: what `Preset::layout_in` restores, and `Preset::capture` of input.rs.
 use mathlib.Core.Bool.{Bool, false, cond, _&&_}
 use mathlib.Core.List.{List, [], _∷_, map}
 use lib.Ieee.{Float, inf, lt}

@@ -7,13 +7,13 @@ use native.Mathlib.Omega.{arith}
 use lib.Dec.{T, leb, leb→le, le→leb}
 use lib.Ieee.{Float, le, ofBits}
 use lib.Ieee.Fits.{and-l, and-r}
-use Rattle.prelude.specs.Booleans.{and-three, last-fails}
+use Rattle.prelude.proofs.Booleans.{and-three, last-fails}
 use Rattle.prelude.specs.Each.{Each}
 use Rattle.float.specs.Float.{_⊕_, k0, k0·01}
 use Rattle.numerics.specs.Value.{AtMost, P, N, E, Le}
 use Rattle.numerics.specs.Rects.{maxArea}
-use Rattle.numerics.specs.Bounds.{add-law, add-most, le-law, le-not, E-pos, zero-most}
-use Rattle.numerics.specs.Literals.{hundredth-most, hundredth}
+use Rattle.numerics.proofs.Bounds.{add-law, add-most, le-law, le-not, E-pos, zero-most}
+use Rattle.numerics.proofs.Literals.{hundredth-most, hundredth}
 use Rattle.search.specs.Search.{withinOf}
 use Rattle.search.proofs.Shapes.{edge}
 

@@ -8,15 +8,15 @@ use native.Mathlib.Omega.{arith}
 use lib.Dec.{T}
 use lib.Ieee.{Float, le}
 use Rattle.prelude.specs.Each.{Each}
-use Rattle.prelude.specs.EachLaws.{each-imp, each-both, each-unmap, fold-ind}
+use Rattle.prelude.proofs.EachLaws.{each-imp, each-both, each-unmap, fold-ind}
 use Rattle.float.specs.Float.{_⊕_, _⊖_, _⊗_, _⊘_, k0, k0·01, k2}
 use Rattle.float.specs.MinMax.{maxOf}
 use Rattle.geometry.specs.declared.Rect.{Rect}
 use Rattle.geometry.specs.Rect.{newOf, emptyRect}
 use Rattle.numerics.specs.Value.{AtMost, P, N, E, Le}
 use Rattle.numerics.specs.Rects.{maxSide, maxArea}
-use Rattle.numerics.specs.Bounds.{Muls, sub-law, sub-most, mul-law, mul-most, div-law, div-most, most-more, le-law, max-ind, max-law, max-most, zero-most, zero-parts}
-use Rattle.numerics.specs.Literals.{f2}
+use Rattle.numerics.proofs.Bounds.{Muls, sub-law, sub-most, mul-law, mul-most, div-law, div-most, most-more, le-law, max-ind, max-law, max-most, zero-most, zero-parts}
+use Rattle.numerics.proofs.Literals.{f2}
 use Rattle.search.specs.Search.{bottomOf, bottoms, withinOf, narrowOf, widthAt, tryAt, centeredOf}
 use Rattle.search.proofs.Shapes.{corner, way, width, left-end, Shape, times-most, stays}
 use Rattle.search.proofs.Candidates.{Edge, Good, Under, within-low, zero-within, find-last}

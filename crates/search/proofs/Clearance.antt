@@ -7,15 +7,15 @@ use native.Mathlib.Omega.{arith}
 use lib.Dec.{T}
 use lib.Ieee.{Float, le}
 use Rattle.prelude.specs.Each.{Each}
-use Rattle.prelude.specs.EachLaws.{each-map, each-imp, each-both}
+use Rattle.prelude.proofs.EachLaws.{each-map, each-imp, each-both}
 use Rattle.float.specs.Float.{_⊕_, _⊖_, _⊗_, _⊘_, k0, k0·01}
 use Rattle.float.specs.MinMax.{minOf, maxOf}
 use Rattle.geometry.specs.declared.Rect.{Rect}
 use Rattle.geometry.specs.Rect.{newOf, emptyRect}
 use Rattle.numerics.specs.Value.{AtMost, P, N, E, Le}
 use Rattle.numerics.specs.Rects.{maxSide, maxArea}
-use Rattle.numerics.specs.Bounds.{add-law, add-most, sub-law, sub-most, le-law, zero-most, zero-parts, most-more}
-use Rattle.numerics.specs.Literals.{hundredth-most, hundredth}
+use Rattle.numerics.proofs.Bounds.{add-law, add-most, sub-law, sub-most, le-law, zero-most, zero-parts, most-more}
+use Rattle.numerics.proofs.Literals.{hundredth-most, hundredth}
 use Rattle.search.specs.Search.{bottomOf, rightOf, bottoms, rights, withinOf}
 use Rattle.search.proofs.Shapes.{corner, edge, way, width, left-end, Shape, over-most, falls, grows, stays, thin}
 use Rattle.search.proofs.Candidates.{Edge, Good, Under, within-low, within-high, escape}

@@ -10,16 +10,16 @@ use lib.Dec.{T, not-T}
 use lib.IntN.{ℤ, pos, negsuc, negℤ, _+ℤ_, _-ℤ_, _*ℤ_}
 use lib.Signed.{leZ, ltZ}
 use lib.Ieee.{Float, lt}
-use Rattle.prelude.specs.Booleans.{by-test, all-four, one-fails, or-l, or-r}
+use Rattle.prelude.proofs.Booleans.{by-test, all-four, one-fails, or-l, or-r}
 use Rattle.prelude.specs.Each.{Each}
-use Rattle.prelude.specs.EachLaws.{each-imp, each-both}
+use Rattle.prelude.proofs.EachLaws.{each-imp, each-both}
 use Rattle.float.specs.Float.{k0, k1}
 use Rattle.geometry.specs.declared.Rect.{Rect}
 use Rattle.numerics.specs.Value.{Whole, posPart, negPart, value, above, below, eps, P, N, E}
 use Rattle.numerics.specs.Rects.{WholeRect, Element, Area}
-use Rattle.numerics.specs.Integers.{le-parts, parts-le, nle-parts, nlt-parts, add-parts, neg-parts, mul-parts, eq-parts, value-parts, scaled-parts}
-use Rattle.numerics.specs.Operations.{lt-true}
-use Rattle.numerics.specs.Bounds.{zero-most}
+use Rattle.numerics.proofs.Integers.{le-parts, parts-le, nle-parts, nlt-parts, add-parts, neg-parts, mul-parts, eq-parts, value-parts, scaled-parts}
+use Rattle.numerics.proofs.Operations.{lt-true}
+use Rattle.numerics.proofs.Bounds.{zero-most}
 use Rattle.search.specs.declared.Offset.{Offset}
 use Rattle.search.specs.Search.{gameOf, obstaclesOf}
 use Rattle.search.specs.Widest.{Exact, over, rightEdge, lowerEdge, meets, middle, lesser, greater, meetAcross, meetDown, sixteenth, centredWidth, Rival, Widest}

@@ -5,19 +5,19 @@ use Prim.Native.Nat.{ℕ, _+_}
 use native.Mathlib.Nat.{zero-lt-suc}
 use native.Mathlib.Omega.{arith}
 use lib.Ieee.{Float}
-use Rattle.prelude.specs.Booleans.{either}
+use Rattle.prelude.proofs.Booleans.{either}
 use Rattle.prelude.specs.Each.{Each, _&_}
-use Rattle.prelude.specs.EachLaws.{each-take, each-append, each-map}
+use Rattle.prelude.proofs.EachLaws.{each-take, each-append, each-map}
 use Rattle.float.specs.Float.{_⊕_, k1}
 use Rattle.geometry.specs.declared.Rect.{Rect}
 use Rattle.layout.specs.declared.Layout.{Layout}
 use Rattle.layout.specs.Layout.{controlList, boundsOf, elementsOf}
 use Rattle.numerics.specs.Value.{Whole, AtMost}
 use Rattle.numerics.specs.Rects.{maxArea, Element, Area}
-use Rattle.numerics.specs.Bounds.{add-most, most-size, most-more, between-most}
-use Rattle.numerics.specs.Ranges.{range-most, sub-in, clamp-whole-in}
-use Rattle.numerics.specs.Products.{product-most}
-use Rattle.numerics.specs.Literals.{lit, i0·25}
+use Rattle.numerics.proofs.Bounds.{add-most, most-size, most-more, between-most}
+use Rattle.numerics.proofs.Ranges.{range-most, sub-in, clamp-whole-in}
+use Rattle.numerics.proofs.Products.{product-most}
+use Rattle.numerics.proofs.Literals.{lit, i0·25}
 use Rattle.search.specs.declared.Offset.{Offset}
 use Rattle.search.specs.Search.{clearPictureAspectOf, obstaclesOf, gameOf, placeGameInAspectOf}
 use Rattle.search.specs.Widest.{WidestGame}

@@ -7,9 +7,9 @@ use Prim.Native.Nat.{ℕ, _≤_}
 use lib.ListN.{take, drop}
 use lib.Dec.{T}
 use lib.Ieee.{Float, lt, le, eq}
-use Rattle.prelude.specs.Booleans.{either}
-use Rattle.prelude.specs.Loops.{Rest, runs-out}
-use Rattle.prelude.specs.EachLaws.{fold-keeps}
+use Rattle.prelude.proofs.Booleans.{either}
+use Rattle.prelude.proofs.Loops.{Rest, runs-out}
+use Rattle.prelude.proofs.EachLaws.{fold-keeps}
 use Rattle.float.specs.Float.{_⊕_, _⊘_, k0·01}
 use Rattle.float.proofs.Order.{lt-trans, lt-irrefl, lt-not-eq, min-below}
 use Rattle.geometry.specs.declared.Rect.{Rect}

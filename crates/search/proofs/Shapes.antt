@@ -8,8 +8,8 @@ use lib.Ieee.{Float, eq, div, ofBits}
 use Rattle.float.specs.Float.{_⊗_, _⊘_, k3, k4, k272, k480}
 use Rattle.numerics.specs.Value.{limit, AtMost, Fraction, P, N, E, Le}
 use Rattle.numerics.specs.Rects.{maxCorner, maxSide, maxArea}
-use Rattle.numerics.specs.Bounds.{mul-law, div-law, mul-most, div-most}
-use Rattle.numerics.specs.Literals.{f4/3, f480/272}
+use Rattle.numerics.proofs.Bounds.{mul-law, div-law, mul-most, div-most}
+use Rattle.numerics.proofs.Literals.{f4/3, f480/272}
 
 -- an obstacle's corner in the area's frame, its far edges, the way from an edge to a corner, and the width of a picture
 abbrev pub corner : ℕ

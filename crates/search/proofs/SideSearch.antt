@@ -9,16 +9,16 @@ use native.Mathlib.Omega.{arith}
 use lib.Dec.{T}
 use lib.Ieee.{Float, le}
 use Rattle.prelude.specs.Each.{Each}
-use Rattle.prelude.specs.EachLaws.{each-imp, each-both, each-unmap, fold-ind}
+use Rattle.prelude.proofs.EachLaws.{each-imp, each-both, each-unmap, fold-ind}
 use mir.Facts.{or-no}
-use Rattle.prelude.specs.Booleans.{or-case}
+use Rattle.prelude.proofs.Booleans.{or-case}
 use Rattle.float.specs.Float.{_⊕_, _⊖_, _⊗_, _⊘_, k0, k0·01}
 use Rattle.float.specs.MinMax.{maxOf}
 use Rattle.geometry.specs.declared.Rect.{Rect}
 use Rattle.geometry.specs.Rect.{newOf, emptyRect}
 use Rattle.numerics.specs.Value.{AtMost, P, N, Le}
 use Rattle.numerics.specs.Rects.{maxArea}
-use Rattle.numerics.specs.Bounds.{sub-law, sub-most, most-more, max-ind, max-law, max-most, zero-most, zero-parts}
+use Rattle.numerics.proofs.Bounds.{sub-law, sub-most, most-more, max-ind, max-law, max-most, zero-most, zero-parts}
 use Rattle.search.specs.Search.{bottomOf, rightOf, bottoms, rights, withinOf, narrowSideOf, sideWidthAt, trySideAt, tryColumn, sideOf}
 use Rattle.search.proofs.Shapes.{width, left-end, Shape, times-most}
 use Rattle.search.proofs.Candidates.{Edge, Good, Under, within-low, within-high, zero-within, find-last}

@@ -6,7 +6,7 @@ use Prim.Native.Nat.{ℕ, _-_, _<_, _≤_}
 use native.Mathlib.Omega.{arith}
 use lib.ListN.{getD}
 use lib.Ieee.{Float, eq}
-use Rattle.prelude.specs.Loops.{getD-first}
+use Rattle.prelude.proofs.Loops.{getD-first}
 use Rattle.float.specs.Float.{_⊕_, _⊖_, _⊗_, _⊘_, k0, k0·25, k1, k3, k4}
 use Rattle.float.specs.MinMax.{clampOf}
 use Rattle.geometry.specs.declared.Rect.{Rect}

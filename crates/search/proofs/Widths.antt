@@ -10,16 +10,16 @@ use lib.Dec.{T}
 use lib.Ieee.{Float, lt, eq}
 use lib.Ieee.Fits.{and-l}
 use mir.Facts.{or-no}
-use Rattle.prelude.specs.Booleans.{either, by-test, or-case}
+use Rattle.prelude.proofs.Booleans.{either, by-test, or-case}
 use Rattle.prelude.specs.Each.{Each}
-use Rattle.prelude.specs.EachLaws.{fold-ind, fold-each}
+use Rattle.prelude.proofs.EachLaws.{fold-ind, fold-each}
 use Rattle.float.specs.Float.{_⊖_, _⊗_, _⊘_, k0}
 use Rattle.float.specs.MinMax.{minOf, maxOf}
 use Rattle.geometry.specs.declared.Rect.{Rect}
 use Rattle.geometry.specs.Rect.{newOf}
 use Rattle.numerics.specs.Value.{AtMost, P, N, E, Le}
 use Rattle.numerics.specs.Rects.{maxArea}
-use Rattle.numerics.specs.Bounds.{sub-law, sub-most, most-more, lt-law, lt-not, eq-law, min-ind, max-ind, min-law, max-law, min-most, max-most, zero-most, zero-parts}
+use Rattle.numerics.proofs.Bounds.{sub-law, sub-most, most-more, lt-law, lt-not, eq-law, min-ind, max-ind, min-law, max-law, min-most, max-most, zero-most, zero-parts}
 use Rattle.search.specs.Search.{betterOf}
 use Rattle.search.proofs.Shapes.{width, way, Shape, times-most, grows, stays, sinks}
 use Rattle.search.proofs.Candidates.{Edge}

@@ -1,10 +1,9 @@
--- Layouts whose numbers are in range. Definitions only.
+-- Layouts whose numbers are in range.
 use Rattle.prelude.specs.Each.{Each}
 use Rattle.geometry.specs.declared.Rect.{Rect}
 use Rattle.layout.specs.declared.Layout.{Layout}
 use Rattle.numerics.specs.Value.{AtMost}
-use Rattle.numerics.specs.Rects.{Element, maxGameCorner, maxGameSide, OnScreen, Key, margin}
-use Rattle.numerics.specs.Shrunk.{shrunkMargin}
+use Rattle.numerics.specs.Rects.{Element, maxGameCorner, maxGameSide, OnScreen, Key, margin, shrunkMargin}
 
 -- C holds of the d-pad, the controls and the sticks, D of the toolbar's keys: of every rectangle but the game, and of the unused places of the arrays too
 pub record Every (C D : Rect → Type 0) (l : Layout) : Type 0 where

@@ -1,4 +1,3 @@
 pub mod Search
 pub mod Widest
 pub mod Bounded
-pub mod Changes

@@ -1,4 +1,4 @@
--- `clear_picture_aspect` and `place_game_in_aspect` of input.rs. Definitions only.
+-- `clear_picture_aspect` and `place_game_in_aspect` of input.rs.
 use mathlib.Core.Bool.{Bool, cond, _&&_, _||_}
 use mathlib.Core.List.{List, [], _∷_, map, foldl}
 use lib.Ieee.{Float, lt, le, eq}

@@ -1,4 +1,4 @@
--- Demand 3: what is required of a game, in exact arithmetic. The terms are those of document 01's paragraph "For the widest picture". Definitions only.
+-- Demand 3: what is required of a game, in exact arithmetic. The terms are those of document 01's paragraph "For the widest picture".
 use mathlib.Core.Path.{_≡_}
 use mathlib.Core.Logic.{_⊎_}
 use mathlib.Core.List.{List}

@@ -1,4 +1,4 @@
--- The settings of an order, their limits, and `Preset::picture_fit` of input.rs. Definitions only.
+-- The settings of an order, their limits, and `Preset::picture_fit` of input.rs.
 use mathlib.Core.Path.{_≡_}
 use mathlib.Core.Bool.{Bool, true, false, _&&_, cond}
 use mathlib.Core.List.{List}

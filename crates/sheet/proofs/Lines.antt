@@ -5,7 +5,7 @@ use Prim.Native.Nat.{ℕ, zero, suc, _+_, _-_, _<_, _≤_}
 use native.Mathlib.Nat.{zero-add, sub-zero, suc-sub-suc}
 use native.Mathlib.Omega.{arith}
 use lib.ListN.{length, take, drop, getD, length-append, length-replicate}
-use Rattle.prelude.specs.Stores.{two}
+use Rattle.prelude.proofs.Stores.{two}
 use Rattle.geometry.specs.declared.Rect.{Rect}
 use Rattle.layout.specs.declared.Control.{Control}
 use Rattle.layout.specs.declared.Layout.{Layout}
@@ -14,7 +14,7 @@ use Rattle.search.specs.Bounded.{Bounded, BoundedGame}
 use Rattle.writer.proofs.Stores.{stored-all}
 use Rattle.lines.specs.Line.{Line, lineOf, lineText, headText, putOf}
 use Rattle.sheet.specs.Sheet.{controlLine, toolbarLines, stickLines, linesOf, linesText, film, refusal, sheetText, refusedText, layoutSheetOf, refusedSheetOf, gameName, dpadName, pauseName, playName, speedName, muteName, leftName, rightName, zeros, pageOf}
-use Rattle.sheet.specs.SheetLaws.{refused-fits, sheet-fits}
+use Rattle.sheet.proofs.SheetLaws.{refused-fits, sheet-fits}
 
 lines-append : (xs ys : List Line) → linesText (xs ++ ys) ≡ linesText xs ++ linesText ys
 unfolding flatMap

@@ -1,4 +1,4 @@
--- The film sheet of document 01: a layout as lines, and lines as text. Definitions only.
+-- The film sheet of document 01: a layout as lines, and lines as text.
 use mathlib.Core.List.{List, [], _∷_, _++_, map, flatMap, zipWith}
 use Prim.Native.Nat.{ℕ, _-_}
 use lib.ListN.{length, replicate}

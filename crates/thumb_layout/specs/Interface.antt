@@ -1,4 +1,4 @@
--- The functions for hosts in other languages: each answer as one number, and each lent output afterwards. Definitions only.
+-- The functions for hosts in other languages: each answer as one number, and each lent output afterwards.
 use mathlib.Core.Bool.{not}
 use mathlib.Core.List.{List, [], _∷_}
 use Prim.Native.Nat.{ℕ, _+_}

@@ -1,1 +1,2 @@
+pub mod ToolbarRanges
 pub mod Scan

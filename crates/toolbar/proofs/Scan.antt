@@ -7,7 +7,7 @@ use lib.Dec.{ltb}
 use lib.ListN.{getD}
 use borrow.Author.Tests.{ltb-true, ltb-false}
 use Rattle.prelude.specs.Lists.{anyOf, find}
-use Rattle.prelude.specs.Loops.{Rest, goes-on, runs-out}
+use Rattle.prelude.proofs.Loops.{Rest, goes-on, runs-out}
 
 -- the answer k is v if an element was met, else it lies with the elements from i on
 pub record Scanned {A B : Type 0} (p : A → Bool) (hit : A → B) (none : B) (l : List A) (n : ℕ) (k : B) (i : ℕ) (v : B) (met : Bool) : Type 0 where

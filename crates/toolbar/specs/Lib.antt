@@ -1,2 +1,1 @@
 pub mod Toolbar
-pub mod ToolbarRanges

@@ -1,4 +1,4 @@
--- `anchor_toolbar` of input.rs. Definitions only.
+-- `anchor_toolbar` of input.rs.
 use mathlib.Core.Bool.{Bool, true, false, cond, not, _&&_}
 use mathlib.Core.Path.{_≡_}
 use mathlib.Core.List.{List, _++_, map}

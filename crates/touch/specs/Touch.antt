@@ -1,4 +1,4 @@
--- `mask_near` of input.rs: the mask of a touch, by the three sources of its bits. Definitions only.
+-- `mask_near` of input.rs: the mask of a touch, by the three sources of its bits.
 use mathlib.Core.Bool.{Bool, cond, not, _&&_, _||_}
 use mathlib.Core.List.{List, foldl}
 use Prim.Native.Nat.{ℕ, _^_}

@@ -9,12 +9,12 @@ use borrow.Author.Tests.{le-leb, lt-leb}
 use lib.ListN.{length, set, drop}
 use lib.Seq.{sets-eq, length-sets}
 use Rattle.prelude.specs.Answer.{accepted, refused, must}
-use Rattle.prelude.specs.Stores.{store, store-sets}
+use Rattle.prelude.proofs.Stores.{store, store-sets}
 use Rattle.geometry.specs.declared.Rect.{Rect}
 use Rattle.layout.specs.declared.Layout.{Layout}
 use Rattle.layout.specs.Layout.{elementsOf, controlList, elementCountOf}
 use Rattle.writer.specs.Bytes.{stored, rectBytes, maskBytes, headBytes, layoutBytes, writeLayoutOf, outputOf}
-use Rattle.writer.specs.Length.{length-rect, length-head, length-rects, length-masks, length-layout, lengthFor}
+use Rattle.writer.proofs.Length.{length-rect, length-head, length-rects, length-masks, length-layout, lengthFor}
 
 -- stores at i, i + 1 and so on
 pub stored-run : (l : List ℕ) (i a : ℕ) (vs : List ℕ) → store (set l i a) i 1 vs ≡ stored l i (a ∷ vs)

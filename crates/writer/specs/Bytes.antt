@@ -1,4 +1,4 @@
--- The layout as document 01's bytes. Definitions only.
+-- The layout as document 01's bytes.
 use mathlib.Core.Bool.{cond}
 use mathlib.Core.List.{List, [], _∷_, _++_, flatMap}
 use Prim.Native.Nat.{ℕ, _/_, _%_, _^_}

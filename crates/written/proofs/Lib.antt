@@ -1,1 +1,3 @@
+pub mod ReadBack
+pub mod WidestWritten
 pub mod Owned

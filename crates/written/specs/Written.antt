@@ -1,4 +1,4 @@
--- The game and the elements of a written layout, as its bytes have them: document 01's tags 1 and 2. Definitions only.
+-- The game and the elements of a written layout, as its bytes have them: document 01's tags 1 and 2.
 use mathlib.Core.Path.{_≡_}
 use mathlib.Core.Bool.{true, cond}
 use mathlib.Core.List.{List, []}

@@ -1,1 +1,1 @@
-// No code: specs/ has how a written layout is read, and that reading gives back what was written.
+// No code: specs/ has how a written layout is read, proofs/ that reading gives back what was written.

@@ -5,7 +5,7 @@ use std::{
 };
 
 /// No byte past these changes a sheet: `first-bytes-film` in
-/// crates/film_sheet/specs/FirstBytes.antt.
+/// crates/film_sheet/proofs/FirstBytes.antt.
 const MOST: u64 = 70_000;
 
 fn print() -> io::Result<()> {

@@ -11,7 +11,7 @@ use std::{
 use thumb_layout::Layout;
 
 /// No byte past these changes what an order says: `first-bytes` in
-/// crates/film_sheet/specs/FirstBytes.antt.
+/// crates/film_sheet/proofs/FirstBytes.antt.
 const MOST: u64 = 70_000;
 
 fn read(path: &OsString) -> io::Result<Vec<u8>> {

@@ -1,6 +1,6 @@
 use native.Mathlib.Omega.{arith}
 use borrow.Author.Needs.{needs}
-use Rattle.arranged.specs.ControlLaws.{arranged-finished}
+use Rattle.arranged.proofs.ControlLaws.{arranged-finished}
 use Rattle.arranged.proofs.arranged.Statement.{statement}
 use Rattle.arranged.proofs.arranged.Tie as tie
 

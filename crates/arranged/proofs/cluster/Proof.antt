@@ -1,7 +1,7 @@
 use borrow.Author.Needs.{needs}
 use mathlib.Core.List.{foldl}
 use lib.ListN.{take}
-use Rattle.prelude.specs.Loops.{in-array, Rest, goes-on, runs-out}
+use Rattle.prelude.proofs.Loops.{in-array, Rest, goes-on, runs-out}
 use Rattle.layout.specs.Layout.{anyRect}
 use Rattle.arranged.specs.Arranged.{narrowOf, clusterOf}
 use native.Mathlib.Omega.{arith}

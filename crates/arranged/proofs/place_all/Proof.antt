@@ -1,6 +1,6 @@
 use borrow.Author.Needs.{needs}
 use Rattle.prelude.specs.Lists.{mapFirst}
-use Rattle.prelude.specs.Loops.{sized, Done, all-done, mapFirst-zero, changes}
+use Rattle.prelude.proofs.Loops.{sized, Done, all-done, mapFirst-zero, changes}
 use Rattle.layout.specs.Layout.{anyControl}
 use Rattle.arranged.specs.Places.{moved}
 use native.Mathlib.Omega.{arith}

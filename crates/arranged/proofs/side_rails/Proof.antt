@@ -1,6 +1,6 @@
 use native.Mathlib.Omega.{arith}
 use borrow.Author.Needs.{needs}
-use Rattle.arranged.specs.ControlLaws.{side-finished}
+use Rattle.arranged.proofs.ControlLaws.{side-finished}
 use Rattle.arranged.proofs.side_rails.Statement.{statement}
 use Rattle.arranged.proofs.side_rails.Tie as tie
 

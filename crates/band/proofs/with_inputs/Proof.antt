@@ -1,7 +1,7 @@
 use mathlib.Core.Path.{_≡_}
 use lib.ListN.{length}
 use borrow.Author.Needs.{needs}
-use Rattle.prelude.specs.Loops.{sized}
+use Rattle.prelude.proofs.Loops.{sized}
 use Rattle.band.proofs.Counts.{psp-counts}
 use Rattle.band.proofs.with_inputs.Statement.{statement}
 use Rattle.band.proofs.with_inputs.Tie as tie

@@ -5,7 +5,7 @@ use lib.ListN.{length}
 use Rattle.layout.specs.Actions.{actionElementsOf}
 use Rattle.search.specs.Search.{placeGameInAspectOf}
 use Rattle.band.proofs.Counts.{Counted}
-use Rattle.camera_rails.specs.CameraLabels.{anchored-faces, cleared-counts}
+use Rattle.camera_rails.proofs.CameraLabels.{anchored-faces, cleared-counts}
 use Rattle.camera_rails.specs.CameraRails.{analogCameraRailsOf}
 use Rattle.camera_rails.proofs.analog_camera_rails.Statement.{statement}
 use Rattle.camera_rails.proofs.analog_camera_rails.Tie as tie

@@ -3,7 +3,7 @@ use native.Mathlib.Omega.{arith}
 use mathlib.Core.Logic.{⊎-elim}
 use Prim.Native.Nat.{_-_}
 use lib.ListN.{take}
-use Rattle.prelude.specs.Loops.{in-array, Rest, goes-on, runs-out}
+use Rattle.prelude.proofs.Loops.{in-array, Rest, goes-on, runs-out}
 use Rattle.layout.specs.Layout.{anyRect}
 use Rattle.camera_rails.specs.CameraRails.{cameraTopOf}
 use Rattle.camera_rails.proofs.camera_top.Statement.{statement}

@@ -2,7 +2,7 @@ use borrow.Author.Needs.{needs}
 use native.Mathlib.Omega.{arith}
 use Prim.Native.Nat.{_-_}
 use Rattle.prelude.specs.Lists.{anyOf}
-use Rattle.prelude.specs.Loops.{in-array, Rest, stops, goes-on, runs-out}
+use Rattle.prelude.proofs.Loops.{in-array, Rest, stops, goes-on, runs-out}
 use Rattle.layout.specs.Layout.{anyRect, cutoutList, elementList}
 use Rattle.cutouts.specs.Cutouts.{hitsOf}
 use Rattle.camera_rails.proofs.hits.Statement.{statement}

@@ -1,4 +1,4 @@
-use Rattle.chosen.specs.ChosenLabels.{first-mode}
+use Rattle.chosen.proofs.ChosenLabels.{first-mode}
 use borrow.Author.Tests.{not-true, not-false}
 use borrow.Author.Needs.{needs}
 use Rattle.chosen.proofs.arrangement.Statement.{statement}

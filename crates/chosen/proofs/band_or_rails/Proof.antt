@@ -1,7 +1,7 @@
 use Rattle.layout.specs.Labels.{OfMode}
-use Rattle.band.specs.BandLabels.{band-formed}
+use Rattle.band.proofs.BandLabels.{band-formed}
 use Rattle.chosen.specs.Chosen.{bandOrRailsOf}
-use Rattle.chosen.specs.ChosenCases.{found-case}
+use Rattle.chosen.proofs.ChosenCases.{found-case}
 use borrow.Author.Needs.{needs}
 use Rattle.chosen.proofs.band_or_rails.Statement.{statement}
 use Rattle.chosen.proofs.band_or_rails.Tie as tie

@@ -1,4 +1,4 @@
-use Rattle.chosen.specs.ChosenLabels.{Few, few, start-mode}
+use Rattle.chosen.proofs.ChosenLabels.{Few, few, start-mode}
 use mathlib.Core.Bool.{_||_}
 use borrow.Author.Needs.{needs}
 use Rattle.float.proofs.Ends.{zero-le-max}

@@ -3,7 +3,7 @@ use borrow.Author.Needs.{needs}
 use Rattle.chosen.proofs.try_rails.Statement.{statement}
 use Rattle.chosen.proofs.try_rails.Tie as tie
 use Rattle.chosen.specs.Chosen.{tryRailsOf}
-use Rattle.chosen.specs.ChosenLabels.{Few, few, avoid-mode}
+use Rattle.chosen.proofs.ChosenLabels.{Few, few, avoid-mode}
 use mathlib.Core.Bool.{true}
 
 avoid-cutouts-requires : tie.Need-avoid-cutouts-requires

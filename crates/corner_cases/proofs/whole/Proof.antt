@@ -2,7 +2,7 @@ use Prim.Native.Nat.{_%_}
 use native.Mathlib.Omega.{arith}
 use lib.IntN.{pos}
 use borrow.Author.Needs.{needs}
-use Rattle.prelude.specs.Signed.{minus-fits}
+use Rattle.prelude.proofs.Signed.{minus-fits}
 use Rattle.corner_cases.proofs.whole.Statement.{statement}
 use Rattle.corner_cases.proofs.whole.Tie as tie
 

@@ -4,8 +4,8 @@ use mathlib.Core.Path.{sym, _∙_, _≡_}
 use lib.ListN.{length}
 use lib.Seq.{length-take-le}
 use Rattle.prelude.specs.Lists.{range}
-use Rattle.prelude.specs.ListLaws.{length-range, range-at}
-use Rattle.prelude.specs.Loops.{sized, Rest, rest-all, goes-on, runs-out}
+use Rattle.prelude.proofs.ListLaws.{length-range, range-at}
+use Rattle.prelude.proofs.Loops.{sized, Rest, rest-all, goes-on, runs-out}
 use Rattle.geometry.specs.declared.Rect.{Rect}
 use Rattle.cutouts.specs.Cutouts.{settleOf, groupList}
 use Rattle.cutouts.proofs.Groups.{missed, outside, below-one}

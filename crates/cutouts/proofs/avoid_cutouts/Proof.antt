@@ -2,8 +2,8 @@ use borrow.Author.Tests.{ne-eqb}
 use Rattle.layout.specs.Elements.{setElementsOf}
 use mathlib.Core.Path.{ap, _∙_}
 use native.Mathlib.Omega.{arith}
-use Rattle.prelude.specs.Loops.{in-array}
-use Rattle.prelude.specs.ListLaws.{none-counted}
+use Rattle.prelude.proofs.Loops.{in-array}
+use Rattle.prelude.proofs.ListLaws.{none-counted}
 use Rattle.cutouts.specs.Cutouts.{avoidCutoutsOf}
 use borrow.Author.Needs.{needs}
 use Rattle.cutouts.proofs.avoid_cutouts.Statement.{statement}

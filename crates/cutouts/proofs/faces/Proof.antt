@@ -5,8 +5,8 @@ use mathlib.Core.List.{_∷_, _++_, append-nil}
 use lib.ListN.{length, take, drop, length-append, length-set}
 use lib.Seq.{length-take-le}
 use Rattle.prelude.specs.Lists.{enumerateFrom}
-use Rattle.prelude.specs.Loops.{in-array, Rest, rest-all, stops, goes-on, runs-out}
-use Rattle.prelude.specs.Stores.{put-rest}
+use Rattle.prelude.proofs.Loops.{in-array, Rest, rest-all, stops, goes-on, runs-out}
+use Rattle.prelude.proofs.Stores.{put-rest}
 use Rattle.cutouts.specs.Cutouts.{groupList}
 use Rattle.cutouts.proofs.Groups.{facesOf, length-numbered, face-at, faces-below}
 use Rattle.layout.specs.Actions.{actionElementsOf}

@@ -2,7 +2,7 @@ use borrow.Author.Needs.{needs}
 use native.Mathlib.Omega.{arith}
 use Prim.Native.Nat.{_-_}
 use lib.ListN.{take}
-use Rattle.prelude.specs.Loops.{Rest, stops, goes-on, runs-out}
+use Rattle.prelude.proofs.Loops.{Rest, stops, goes-on, runs-out}
 use Rattle.prelude.specs.Lists.{anyOf}
 use Rattle.layout.specs.Layout.{anyRect, cutoutList}
 use Rattle.cutouts.specs.Cutouts.{hitsOf}

@@ -1,7 +1,7 @@
 use Prim.Native.Nat.{_-_}
 use borrow.Author.Tests.{eq-eqb, ne-eqb}
 use lib.ListN.{take}
-use Rattle.prelude.specs.Loops.{in-array, Rest, stops, goes-on, runs-out}
+use Rattle.prelude.proofs.Loops.{in-array, Rest, stops, goes-on, runs-out}
 use Rattle.prelude.specs.Lists.{anyOf}
 use Rattle.cutouts.specs.Cutouts.{inGroupOf}
 use native.Mathlib.Omega.{arith}

@@ -2,8 +2,8 @@ use Prim.Native.Nat.{_-_}
 use mathlib.Core.List.{_++_, map, append-nil}
 use mathlib.Core.Path.{refl, ap, sym, _∙_, _≡_}
 use lib.ListN.{length, take, getD, length-set}
-use Rattle.prelude.specs.Loops.{in-array, Rest, goes-on, runs-out}
-use Rattle.prelude.specs.Stores.{put-rest}
+use Rattle.prelude.proofs.Loops.{in-array, Rest, goes-on, runs-out}
+use Rattle.prelude.proofs.Stores.{put-rest}
 use Rattle.cutouts.specs.Cutouts.{groupList}
 use Rattle.cutouts.proofs.Groups.{members-first, below-index}
 use Rattle.layout.specs.Layout.{anyRect}

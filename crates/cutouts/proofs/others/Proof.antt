@@ -4,9 +4,9 @@ use mathlib.Core.List.{_++_, append-nil}
 use lib.ListN.{length, take, getD, length-set}
 use lib.Seq.{getD-take, length-take-le}
 use Rattle.prelude.specs.Lists.{range}
-use Rattle.prelude.specs.ListLaws.{length-range, range-at}
-use Rattle.prelude.specs.Loops.{sized, Rest, rest-all, goes-on, runs-out}
-use Rattle.prelude.specs.Stores.{put-rest}
+use Rattle.prelude.proofs.ListLaws.{length-range, range-at}
+use Rattle.prelude.proofs.Loops.{sized, Rest, rest-all, goes-on, runs-out}
+use Rattle.prelude.proofs.Stores.{put-rest}
 use Rattle.cutouts.specs.Cutouts.{groupList}
 use Rattle.cutouts.proofs.Groups.{outside}
 use Rattle.layout.specs.Layout.{anyRect}

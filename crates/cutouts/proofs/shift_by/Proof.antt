@@ -2,7 +2,7 @@ use Prim.Native.Nat.{ℕ, _-_}
 use mathlib.Core.List.{List, foldl}
 use mathlib.Core.Path.{refl, _≡_}
 use lib.ListN.{length, take, getD, set, length-set}
-use Rattle.prelude.specs.Loops.{in-array, sized, Rest, goes-on, runs-out}
+use Rattle.prelude.proofs.Loops.{in-array, sized, Rest, goes-on, runs-out}
 use Rattle.geometry.specs.declared.Rect.{Rect}
 use Rattle.moves.specs.declared.Move.the-variants.{Go}
 use Rattle.moves.specs.Moves.{movedOf}

@@ -3,8 +3,8 @@ use borrow.Author.Tests.{not-true, not-false}
 use mathlib.Core.Path.{sym, _≡_}
 use mathlib.Core.List.{_++_, append-nil}
 use lib.ListN.{length, take, length-set}
-use Rattle.prelude.specs.Loops.{in-array, sized, Rest, goes-on, runs-out}
-use Rattle.prelude.specs.Stores.{put-rest}
+use Rattle.prelude.proofs.Loops.{in-array, sized, Rest, goes-on, runs-out}
+use Rattle.prelude.proofs.Stores.{put-rest}
 use Rattle.prelude.specs.Lists.{retain}
 use Rattle.cutouts.specs.Cutouts.{hasAreaOf}
 use Rattle.layout.specs.Layout.{anyRect}

@@ -1,8 +1,8 @@
 use borrow.Author.Needs.{needs}
 use Rattle.layout.specs.Labels.{analogLabels}
-use Rattle.layout.specs.LabelLaws.{with-counts}
+use Rattle.layout.proofs.LabelLaws.{with-counts}
 use Rattle.defaults.specs.Defaults.{analogDefaultOf}
-use Rattle.defaults.specs.DefaultLabels.{analog-formed}
+use Rattle.defaults.proofs.DefaultLabels.{analog-formed}
 use Rattle.defaults.proofs.Anew.{full-anew}
 use Rattle.defaults.proofs.analog_default.Statement.{statement}
 use Rattle.defaults.proofs.analog_default.Tie as tie

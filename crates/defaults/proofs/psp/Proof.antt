@@ -1,8 +1,8 @@
 use borrow.Author.Needs.{needs}
 use Rattle.layout.specs.Labels.{pspLabels}
-use Rattle.layout.specs.LabelLaws.{with-counts}
+use Rattle.layout.proofs.LabelLaws.{with-counts}
 use Rattle.defaults.specs.Defaults.{pspOf}
-use Rattle.defaults.specs.DefaultLabels.{psp-formed}
+use Rattle.defaults.proofs.DefaultLabels.{psp-formed}
 use Rattle.defaults.proofs.psp.Statement.{statement}
 use Rattle.defaults.proofs.psp.Tie as tie
 

@@ -3,8 +3,8 @@ use native.Mathlib.Omega.{arith}
 use mathlib.Core.Path.{refl}
 use Prim.Native.Nat.{_-_}
 use Rattle.prelude.specs.Lists.{mapFirst}
-use Rattle.prelude.specs.Loops.{sized, Done, all-done, mapFirst-zero, changes}
-use Rattle.prelude.specs.ListLaws.{take-mapFirst}
+use Rattle.prelude.proofs.Loops.{sized, Done, all-done, mapFirst-zero, changes}
+use Rattle.prelude.proofs.ListLaws.{take-mapFirst}
 use Rattle.layout.specs.Layout.{anyRect}
 use Rattle.defaults.specs.Defaults.{scaledRectOf}
 use Rattle.defaults.proofs.scaled.Statement.{statement}

@@ -1,5 +1,5 @@
 use borrow.Author.Needs.{needs}
-use Rattle.arranged.specs.ControlLaws.{arranged-finished}
+use Rattle.arranged.proofs.ControlLaws.{arranged-finished}
 use Rattle.defaults.specs.Defaults.{tryDockOf}
 use Rattle.defaults.proofs.try_dock.Statement.{statement}
 use Rattle.defaults.proofs.try_dock.Tie as tie

@@ -1,5 +1,5 @@
 use borrow.Author.Needs.{needs}
-use Rattle.arranged.specs.ControlLaws.{side-finished}
+use Rattle.arranged.proofs.ControlLaws.{side-finished}
 use Rattle.defaults.specs.Defaults.{trySideOf}
 use Rattle.defaults.proofs.try_side.Statement.{statement}
 use Rattle.defaults.proofs.try_side.Tie as tie

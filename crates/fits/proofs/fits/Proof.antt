@@ -5,7 +5,7 @@ use native.Mathlib.Omega.{arith}
 use mathlib.Core.Path.{_≡_}
 use Prim.Native.Nat.{_-_}
 use lib.ListN.{length, take}
-use Rattle.prelude.specs.Loops.{sized, Rest, stops, goes-on, runs-out}
+use Rattle.prelude.proofs.Loops.{sized, Rest, stops, goes-on, runs-out}
 use Rattle.layout.specs.Layout.{anyRect, cutoutList}
 use Rattle.fits.specs.Fits.{fromStick, allFit, fitsOf}
 use Rattle.fits.proofs.fits.Statement.{statement}

@@ -6,8 +6,8 @@ use Prim.Native.Nat.{_+_, _-_, _≤_}
 use mathlib.Core.Bool.{false}
 use mathlib.Core.List.{List, [], _∷_, _++_, map}
 use lib.ListN.{length, take, getD, length-set, length-map}
-use Rattle.prelude.specs.Loops.{sized, take-map}
-use Rattle.prelude.specs.Stores.{map-put, take-store, two}
+use Rattle.prelude.proofs.Loops.{sized, take-map}
+use Rattle.prelude.proofs.Stores.{map-put, take-store, two}
 use Rattle.geometry.specs.declared.Rect.{Rect}
 use Rattle.layout.specs.Layout.{anyRect, controlList}
 use Rattle.fits.specs.declared.Input.{Input}

@@ -4,7 +4,7 @@ use native.Mathlib.Omega.{arith}
 use Prim.Native.Nat.{_+_, _-_}
 use lib.ListN.{take, drop}
 use Rattle.prelude.specs.Lists.{allOf}
-use Rattle.prelude.specs.Loops.{in-array, Rest, stops, goes-on, runs-out}
+use Rattle.prelude.proofs.Loops.{in-array, Rest, stops, goes-on, runs-out}
 use Rattle.layout.specs.Layout.{anyRect}
 use Rattle.fits.specs.Fits.{fromStick, separateOf}
 use Rattle.fits.proofs.separate_after.Statement.{statement}

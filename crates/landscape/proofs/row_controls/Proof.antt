@@ -2,7 +2,7 @@ use borrow.Author.Needs.{needs}
 use mathlib.Core.Path.{ap}
 use lib.ListN.{getD}
 use Rattle.prelude.specs.Lists.{mapFirst}
-use Rattle.prelude.specs.Loops.{sized, Done, all-done, mapFirst-zero, changes}
+use Rattle.prelude.proofs.Loops.{sized, Done, all-done, mapFirst-zero, changes}
 use Rattle.layout.specs.Layout.{anyControl, withBounds}
 use Rattle.landscape.specs.Landscape.{inRow}
 use native.Mathlib.Omega.{arith}

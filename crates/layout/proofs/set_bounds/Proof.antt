@@ -5,9 +5,9 @@ use mathlib.Core.List.{zipWith}
 use lib.ListN.{length, length-drop, drop, getD}
 use lib.Seq.{getD-drop}
 use Rattle.prelude.specs.Lists.{replaceFirst}
-use Rattle.prelude.specs.ListLaws.{length-zipWith, getD-zipWith}
-use Rattle.prelude.specs.Loops.{sized, Done, all-done}
-use Rattle.prelude.specs.Stores.{replaces}
+use Rattle.prelude.proofs.ListLaws.{length-zipWith, getD-zipWith}
+use Rattle.prelude.proofs.Loops.{sized, Done, all-done}
+use Rattle.prelude.proofs.Stores.{replaces}
 use Rattle.layout.specs.Layout.{anyRect, anyControl, withBounds}
 use Rattle.layout.proofs.set_bounds.Statement.{statement}
 use Rattle.layout.proofs.set_bounds.Tie as tie

@@ -1,7 +1,7 @@
 use Rattle.lines.proofs.Numbers.{kept-tenths}
 use lib.ListN.{length-set}
 use Rattle.lines.specs.Line.{fieldText}
-use Rattle.lines.specs.LineLaws.{tenths-most}
+use Rattle.lines.proofs.LineLaws.{tenths-most}
 use Rattle.lines.proofs.Puts.{one, after, same}
 use native.Mathlib.Omega.{arith}
 use borrow.Author.Needs.{needs}

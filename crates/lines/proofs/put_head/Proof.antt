@@ -1,5 +1,5 @@
 use Rattle.lines.specs.Line.{headText}
-use Rattle.lines.specs.LineLaws.{length-head}
+use Rattle.lines.proofs.LineLaws.{length-head}
 use Rattle.lines.proofs.Puts.{one, after, ends, same}
 use native.Mathlib.Omega.{arith}
 use Rattle.lines.proofs.put_head.Statement.{statement}

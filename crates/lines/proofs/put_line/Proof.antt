@@ -1,5 +1,5 @@
 use Rattle.lines.specs.Line.{lineText, lineOf}
-use Rattle.lines.specs.LineLaws.{length-parts}
+use Rattle.lines.proofs.LineLaws.{length-parts}
 use Rattle.lines.proofs.Puts.{one, after, ends, same}
 use native.Mathlib.Omega.{arith}
 use Rattle.lines.proofs.put_line.Statement.{statement}

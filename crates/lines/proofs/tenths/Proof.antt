@@ -1,5 +1,5 @@
-use Rattle.prelude.specs.Signed.{stored, minus-fits, minus-is}
-use Rattle.numerics.specs.Operations.{whole-not-nan}
+use Rattle.prelude.proofs.Signed.{stored, minus-fits, minus-is}
+use Rattle.numerics.proofs.Operations.{whole-not-nan}
 use Rattle.lines.proofs.Patterns.{exponent, size-is, tenths-plus, tenths-minus}
 use Prim.Native.Nat.{ℕ}
 use mathlib.Core.Path.{sym, ap, _∙_}

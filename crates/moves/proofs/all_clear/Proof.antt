@@ -4,7 +4,7 @@ use native.Mathlib.Omega.{arith}
 use Prim.Native.Nat.{_-_}
 use lib.ListN.{take}
 use Rattle.prelude.specs.Lists.{allOf}
-use Rattle.prelude.specs.Loops.{Rest, stops, goes-on, runs-out}
+use Rattle.prelude.proofs.Loops.{Rest, stops, goes-on, runs-out}
 use Rattle.layout.specs.Layout.{cutoutList, elementList, anyRect}
 use Rattle.moves.specs.declared.Move.the-variants.{Go}
 use Rattle.moves.specs.Moves.{allClearOf}

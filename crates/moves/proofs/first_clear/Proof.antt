@@ -6,8 +6,8 @@ use Prim.Native.Nat.{_-_}
 use native.Mathlib.Nat.{lt-of-lt-of-le}
 use lib.Ieee.{nan}
 use lib.ListN.{take}
-use Rattle.prelude.specs.ListLaws.{length-zipWith, getD-zipWith}
-use Rattle.prelude.specs.Loops.{Rest, stops, goes-on, runs-out}
+use Rattle.prelude.proofs.ListLaws.{length-zipWith, getD-zipWith}
+use Rattle.prelude.proofs.Loops.{Rest, stops, goes-on, runs-out}
 use Rattle.layout.specs.Layout.{cutoutList, elementList}
 use Rattle.moves.specs.declared.Move.the-variants.{Stay, Go}
 use Rattle.moves.specs.Moves.{movesIn, firstClearOf}

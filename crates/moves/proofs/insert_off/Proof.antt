@@ -3,7 +3,7 @@ use borrow.Author.Tests.{not-true, not-false}
 use native.Mathlib.Omega.{arith}
 use mathlib.Core.List.{foldl, foldl-append, flatMap}
 use Prim.Native.Nat.{_*_, _+_, _-_, _≤_}
-use Rattle.prelude.specs.Loops.{in-array, Rest, goes-on, runs-out}
+use Rattle.prelude.proofs.Loops.{in-array, Rest, goes-on, runs-out}
 use Rattle.layout.specs.Layout.{anyRect, cutoutList}
 use Rattle.moves.specs.Moves.{Holds, movesOff, insertOf, movesIn}
 use Rattle.moves.proofs.Inserts.{held}

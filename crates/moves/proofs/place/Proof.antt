@@ -1,6 +1,6 @@
 use lib.Ieee.{nan}
 use lib.ListN.{take}
-use Rattle.prelude.specs.Loops.{Rest, stops, goes-on, runs-out}
+use Rattle.prelude.proofs.Loops.{Rest, stops, goes-on, runs-out}
 use Rattle.moves.specs.Moves.{placeOf}
 use borrow.Author.Needs.{needs}
 use native.Mathlib.Omega.{arith}

@@ -3,7 +3,7 @@ use mathlib.Core.Path.{refl, ap, _∙_}
 use mathlib.Core.List.{foldl, foldl-append, flatMap}
 use Prim.Native.Nat.{_*_, _-_, _≤_}
 use lib.ListN.{take}
-use Rattle.prelude.specs.Loops.{Rest, goes-on, runs-out}
+use Rattle.prelude.proofs.Loops.{Rest, goes-on, runs-out}
 use Rattle.layout.specs.Layout.{anyRect, cutoutList}
 use Rattle.moves.specs.Moves.{Holds, candidatesOf, insertOf, orderedOf, movesIn, firstClearOf, searchOf}
 use Rattle.moves.proofs.Inserts.{holds-none, held}

@@ -1,12 +1,12 @@
 use mathlib.Core.Path.{sym}
 use borrow.Author.Needs.{needs}
-use Rattle.prelude.specs.AnswerLaws.{never}
-use Rattle.reader.specs.Accepted.{accepted-order}
+use Rattle.prelude.proofs.AnswerLaws.{never}
+use Rattle.reader.proofs.Accepted.{accepted-order}
 use Rattle.written.proofs.Owned.{layout-owned}
 use Rattle.order.specs.Orders.{orderLayout, layoutOf, layoutOutputOf}
-use Rattle.preset.specs.PresetLabels.{settings-few}
-use Rattle.reader.specs.Readings.{read-refused, read-accepted}
-use Rattle.order.specs.OrderLaws.{order-widest}
+use Rattle.preset.proofs.PresetLabels.{settings-few}
+use Rattle.reader.proofs.Readings.{read-refused, read-accepted}
+use Rattle.order.proofs.OrderLaws.{order-widest}
 use Rattle.order.proofs.layout.Statement.{statement}
 use Rattle.order.proofs.layout.Tie as tie
 

@@ -1,8 +1,8 @@
 use borrow.Author.Needs.{needs}
-use Rattle.reader.specs.Accepted.{accepted-order}
+use Rattle.reader.proofs.Accepted.{accepted-order}
 use Rattle.order.specs.Orders.{orderLayout, touchOf}
-use Rattle.preset.specs.PresetLabels.{settings-few}
-use Rattle.reader.specs.Readings.{read-refused, read-accepted}
+use Rattle.preset.proofs.PresetLabels.{settings-few}
+use Rattle.reader.proofs.Readings.{read-refused, read-accepted}
 use Rattle.order.proofs.touch.Statement.{statement}
 use Rattle.order.proofs.touch.Tie as tie
 

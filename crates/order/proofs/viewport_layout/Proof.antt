@@ -2,11 +2,11 @@ use mathlib.Core.Path.{sym, _∙_}
 use borrow.Author.Needs.{needs}
 use borrow.Author.Tests.{not-true, not-false}
 use Rattle.prelude.specs.Answer.{must}
-use Rattle.settings.specs.Accepted.{tops-least}
-use Rattle.reader.specs.Accepted.{accepted-order}
+use Rattle.settings.proofs.Accepted.{tops-least}
+use Rattle.reader.proofs.Accepted.{accepted-order}
 use Rattle.order.specs.Orders.{orderViewport, viewportLayoutOf, viewportOutputOf}
-use Rattle.preset.specs.PresetLabels.{viewport-few}
-use Rattle.reader.specs.Readings.{read-refused, read-accepted}
+use Rattle.preset.proofs.PresetLabels.{viewport-few}
+use Rattle.reader.proofs.Readings.{read-refused, read-accepted}
 use Rattle.order.proofs.viewport_layout.Statement.{statement}
 use Rattle.order.proofs.viewport_layout.Tie as tie
 

@@ -9,8 +9,8 @@ use Rattle.settings.specs.declared.Preset.{Preset}
 use Rattle.toolbar.specs.Toolbar.{anchorToolbarOf}
 use Rattle.landscape.specs.Landscape.{fitLandscapeControlsOf}
 use Rattle.chosen.proofs.Keys.{first-area}
-use Rattle.chosen.specs.ChosenLabels.{few, avoid-mode, arrangement-mode}
-use Rattle.preset.specs.PresetLabels.{saved-mode}
+use Rattle.chosen.proofs.ChosenLabels.{few, avoid-mode, arrangement-mode}
+use Rattle.preset.proofs.PresetLabels.{saved-mode}
 use Rattle.preset.specs.Preset.{settledOf, hasSticks, rowAllowedOf, laidOutOf}
 use borrow.Author.Needs.{needs}
 use Rattle.preset.proofs.laid_out.Statement.{statement}

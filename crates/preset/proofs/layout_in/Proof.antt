@@ -3,7 +3,7 @@ use lib.Ieee.{Float, lt, le, ne, isNan, ofBits}
 use lib.Ieee.Scale.{finite}
 use mathlib.Core.Path.{_≡_}
 use borrow.Author.Needs.{needs}
-use Rattle.prelude.specs.Booleans.{either}
+use Rattle.prelude.proofs.Booleans.{either}
 use Rattle.float.specs.Float.{k0, k1}
 use Rattle.float.specs.MinMax.{maxOf}
 use Rattle.float.proofs.Ends.{le-trans, le-max-right}

@@ -1,7 +1,7 @@
 use lib.ListN.{length}
 use native.Mathlib.Omega.{arith}
-use Rattle.prelude.specs.Loops.{sized}
-use Rattle.prelude.specs.ListLaws.{none-counted}
+use Rattle.prelude.proofs.Loops.{sized}
+use Rattle.prelude.proofs.ListLaws.{none-counted}
 use mathlib.Core.Path.{_≡_}
 use Rattle.preset.proofs.plain.Statement.{statement}
 use Rattle.preset.proofs.plain.Tie as tie

@@ -1,8 +1,8 @@
 use Rattle.preset.specs.Preset.{rowAllowedOf}
 use lib.ListN.{length}
 use native.Mathlib.Omega.{arith}
-use Rattle.prelude.specs.Loops.{sized}
-use Rattle.prelude.specs.ListLaws.{none-counted}
+use Rattle.prelude.proofs.Loops.{sized}
+use Rattle.prelude.proofs.ListLaws.{none-counted}
 use mathlib.Core.Path.{_≡_}
 use borrow.Author.Needs.{needs}
 use Rattle.preset.proofs.row_allowed.Statement.{statement}

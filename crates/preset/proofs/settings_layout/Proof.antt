@@ -1,7 +1,7 @@
 use lib.Ieee.{ofBits}
 use borrow.Author.Needs.{needs}
 use Rattle.preset.specs.Preset.{settingsLayoutOf}
-use Rattle.settings.specs.Accepted.{few-settings, finite-screen}
+use Rattle.settings.proofs.Accepted.{few-settings, finite-screen}
 use Rattle.preset.proofs.settings_layout.Statement.{statement}
 use Rattle.preset.proofs.settings_layout.Tie as tie
 

@@ -1,5 +1,5 @@
 use Rattle.preset.specs.Preset.{settingsViewportOf}
-use Rattle.settings.specs.Accepted.{few-settings, finite-screen}
+use Rattle.settings.proofs.Accepted.{few-settings, finite-screen}
 use Rattle.preset.proofs.settings_viewport.Statement.{statement}
 use Rattle.preset.proofs.settings_viewport.Tie as tie
 

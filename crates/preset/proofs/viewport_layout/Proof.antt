@@ -2,8 +2,8 @@ use Rattle.preset.specs.Preset.{hasSticks, viewportLayoutOf}
 use borrow.Author.Needs.{needs}
 use Rattle.preset.proofs.viewport_layout.Statement.{statement}
 use Rattle.preset.proofs.viewport_layout.Tie as tie
-use Rattle.chosen.specs.ChosenLabels.{Few, few, anchor-mode}
-use Rattle.preset.specs.PresetLabels.{layout-mode}
+use Rattle.chosen.proofs.ChosenLabels.{Few, few, anchor-mode}
+use Rattle.preset.proofs.PresetLabels.{layout-mode}
 
 anchor-toolbar-requires : tie.Need-anchor-toolbar-requires
 anchor-toolbar-requires c κs =

@@ -1,5 +1,5 @@
 use borrow.Author.Needs.{needs}
-use Rattle.prelude.specs.Signed.{stored}
+use Rattle.prelude.proofs.Signed.{stored}
 use Rattle.safe_area.specs.Safe.{mergedOf}
 use Rattle.safe_area.proofs.merged.Statement.{statement}
 use Rattle.safe_area.proofs.merged.Tie as tie

@@ -1,5 +1,5 @@
 use borrow.Author.Needs.{needs}
-use Rattle.prelude.specs.Signed.{kept, stored}
+use Rattle.prelude.proofs.Signed.{kept, stored}
 use Rattle.safe_area.specs.Safe.{mergedEdgeOf}
 use mathlib.Core.Path.{_∙_}
 use Rattle.safe_area.proofs.merged_edge.Statement.{statement}

@@ -6,8 +6,8 @@ use Prim.Native.Nat.{_-_}
 use lib.IntN.{pos}
 use lib.Seq.{take-length}
 use Rattle.prelude.specs.Lists.{allOf}
-use Rattle.prelude.specs.Loops.{Rest, stops, goes-on, runs-out}
-use Rattle.prelude.specs.Signed.{kept}
+use Rattle.prelude.proofs.Loops.{Rest, stops, goes-on, runs-out}
+use Rattle.prelude.proofs.Signed.{kept}
 use Rattle.safe_area.specs.Safe.{onScaleOf}
 use Rattle.safe_area.proofs.on_scale.Statement.{statement}
 use Rattle.safe_area.proofs.on_scale.Tie as tie

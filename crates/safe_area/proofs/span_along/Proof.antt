@@ -1,4 +1,4 @@
-use Rattle.prelude.specs.Signed.{stored}
+use Rattle.prelude.proofs.Signed.{stored}
 use Rattle.safe_area.proofs.Scale.{extent-small, Measured, measured, within-at, zero-least, cast-small, extent-is}
 use borrow.Author.Needs.{needs}
 use Rattle.safe_area.specs.Safe.{at, spanAlongOf}

@@ -4,8 +4,8 @@ use mathlib.Core.Path.{sym, _∙_, _≡_}
 use mathlib.Core.List.{map}
 use lib.ListN.{length, length-map, List·getD-map}
 use Rattle.prelude.specs.Lists.{replaceFirst}
-use Rattle.prelude.specs.Loops.{sized, Done, all-done}
-use Rattle.prelude.specs.Stores.{replaces}
+use Rattle.prelude.proofs.Loops.{sized, Done, all-done}
+use Rattle.prelude.proofs.Stores.{replaces}
 use Rattle.layout.specs.Layout.{anyRect}
 use borrow.Author.Needs.{needs}
 use native.Mathlib.Omega.{arith}

@@ -1,6 +1,6 @@
 use borrow.Author.Needs.{needs}
 use Rattle.saved.specs.Saved.{onScreenOf}
-use Rattle.saved.specs.SavedLaws.{usable-finite}
+use Rattle.saved.proofs.SavedLaws.{usable-finite}
 use Rattle.saved.proofs.Ends.{side-ends, corner-ends}
 use Rattle.saved.proofs.on_screen.Statement.{statement}
 use Rattle.saved.proofs.on_screen.Tie as tie

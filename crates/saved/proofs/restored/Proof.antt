@@ -4,7 +4,7 @@ use Rattle.saved.specs.Saved.{restoredOf}
 use mathlib.Core.Path.{refl, ap, _∙_, _≡_}
 use Rattle.saved.proofs.Turns.{restored-turn, restored-past, restored-front}
 use mathlib.Core.Logic.{⊎-elim}
-use Rattle.prelude.specs.Loops.{sized, Done, does, all-done}
+use Rattle.prelude.proofs.Loops.{sized, Done, does, all-done}
 use Rattle.layout.specs.Layout.{anyRect}
 use borrow.Author.Needs.{needs}
 use native.Mathlib.Omega.{arith}

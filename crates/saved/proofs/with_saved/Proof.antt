@@ -2,8 +2,8 @@ use Rattle.saved.specs.Saved.{withSavedOf}
 use lib.ListN.{length}
 use native.Mathlib.Omega.{arith}
 use borrow.Author.Tests.{ne-eqb}
-use Rattle.prelude.specs.Loops.{sized}
-use Rattle.prelude.specs.ListLaws.{none-counted}
+use Rattle.prelude.proofs.Loops.{sized}
+use Rattle.prelude.proofs.ListLaws.{none-counted}
 use mathlib.Core.Path.{_≡_}
 use borrow.Author.Needs.{needs}
 use Rattle.saved.proofs.with_saved.Statement.{statement}

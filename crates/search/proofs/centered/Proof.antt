@@ -5,8 +5,8 @@ use mathlib.Core.Path.{_≡_, refl, _∙_}
 use mathlib.Core.Logic.{⊎-elim, ⊎-map}
 use mathlib.Core.List.{foldl}
 use lib.ListN.{take, length, length-map}
-use Rattle.prelude.specs.Booleans.{cond-yes, cond-no}
-use Rattle.prelude.specs.Loops.{sized, fold-next, take-first, in-array, Rest, goes-on}
+use Rattle.prelude.proofs.Booleans.{cond-yes, cond-no}
+use Rattle.prelude.proofs.Loops.{sized, fold-next, take-first, in-array, Rest, goes-on}
 use Rattle.float.specs.Float.{_⊖_, _⊘_, k2}
 use Rattle.geometry.specs.Rect.{emptyRect}
 use Rattle.layout.specs.Layout.{anyRect}

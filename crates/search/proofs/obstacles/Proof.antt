@@ -5,8 +5,8 @@ use mathlib.Core.Path.{_≡_, sym}
 use mathlib.Core.List.{_++_, append-nil}
 use mathlib.Core.Logic.{⊎-elim}
 use lib.ListN.{take, length, length-set}
-use Rattle.prelude.specs.Loops.{in-array, sized, Rest, goes-on, runs-out}
-use Rattle.prelude.specs.Stores.{put-rest}
+use Rattle.prelude.proofs.Loops.{in-array, sized, Rest, goes-on, runs-out}
+use Rattle.prelude.proofs.Stores.{put-rest}
 use Rattle.layout.specs.Layout.{anyRect}
 use Rattle.search.specs.Search.{obstaclesOf}
 use Prim.Native.Nat.{_-_, _≤_}

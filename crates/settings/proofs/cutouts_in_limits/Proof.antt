@@ -1,7 +1,7 @@
 use borrow.Author.Tests.{not-true, not-false}
 use lib.ListN.{take}
 use Rattle.prelude.specs.Lists.{allOf}
-use Rattle.prelude.specs.Loops.{in-array, Rest, stops, goes-on, runs-out}
+use Rattle.prelude.proofs.Loops.{in-array, Rest, stops, goes-on, runs-out}
 use Rattle.layout.specs.Layout.{anyRect}
 use Rattle.settings.specs.Settings.{least, rectInLimitsOf, cutoutsInLimitsOf}
 use borrow.Author.Needs.{needs}

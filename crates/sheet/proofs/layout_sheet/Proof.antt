@@ -1,7 +1,7 @@
 -- `layout_sheet` puts the header and the lines one after the other, and the text that they make fits.
 use Rattle.lines.proofs.Puts.{after, ends, same}
 use native.Mathlib.Omega.{arith}
-use Rattle.sheet.specs.SheetLaws.{element-printable, game-printable}
+use Rattle.sheet.proofs.SheetLaws.{element-printable, game-printable}
 use Rattle.sheet.proofs.Lines.{sheet-room, sheet-is}
 use borrow.Author.Needs.{needs}
 use Rattle.sheet.proofs.layout_sheet.Statement.{statement}

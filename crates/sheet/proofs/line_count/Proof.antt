@@ -1,9 +1,9 @@
 use mathlib.Core.Path.{_≡_}
 use native.Mathlib.Omega.{arith}
 use lib.ListN.{length, length-map}
-use Rattle.prelude.specs.Loops.{sized}
+use Rattle.prelude.proofs.Loops.{sized}
 use borrow.Author.Needs.{needs}
-use Rattle.sheet.specs.SheetLaws.{line-count}
+use Rattle.sheet.proofs.SheetLaws.{line-count}
 use Rattle.sheet.proofs.line_count.Statement.{statement}
 use Rattle.sheet.proofs.line_count.Tie as tie
 

@@ -1,11 +1,11 @@
 use mathlib.Core.Path.{refl, sym, _∙_, _≡_}
 use lib.Seq.{length-take-le}
-use Rattle.prelude.specs.EachLaws.{each-at}
-use Rattle.prelude.specs.Loops.{in-array, sized, Rest, stops, goes-on, runs-out}
+use Rattle.prelude.proofs.EachLaws.{each-at}
+use Rattle.prelude.proofs.Loops.{in-array, sized, Rest, stops, goes-on, runs-out}
 use Rattle.layout.specs.Layout.{anyControl}
 use Rattle.layout.proofs.Names.{name-held}
 use Rattle.numerics.specs.Rects.{Element}
-use Rattle.sheet.specs.SheetLaws.{element-printable}
+use Rattle.sheet.proofs.SheetLaws.{element-printable}
 use Rattle.lines.proofs.Puts.{none, onward, ends, same}
 use Rattle.sheet.proofs.Lines.{controlText}
 use lib.ListN.{length, length-append}

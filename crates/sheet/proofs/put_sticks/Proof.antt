@@ -1,11 +1,11 @@
 use native.Mathlib.Omega.{arith}
 use mathlib.Core.Path.{_≡_, ap}
 use lib.ListN.{length, length-append}
-use Rattle.prelude.specs.Loops.{sized}
-use Rattle.prelude.specs.EachLaws.{each-at}
+use Rattle.prelude.proofs.Loops.{sized}
+use Rattle.prelude.proofs.EachLaws.{each-at}
 use Rattle.layout.specs.Layout.{anyRect}
 use Rattle.numerics.specs.Rects.{Element}
-use Rattle.sheet.specs.SheetLaws.{element-printable}
+use Rattle.sheet.proofs.SheetLaws.{element-printable}
 use Rattle.lines.proofs.Puts.{none, after, ends}
 use Rattle.sheet.proofs.Lines.{no-stick, one-stick, two-sticks, first-room}
 use borrow.Author.Needs.{needs}

@@ -1,6 +1,6 @@
 use native.Mathlib.Omega.{arith}
 use lib.ListN.{length-append}
-use Rattle.sheet.specs.SheetLaws.{element-printable}
+use Rattle.sheet.proofs.SheetLaws.{element-printable}
 use Rattle.lines.proofs.Puts.{after, ends}
 use Rattle.sheet.proofs.Lines.{toolbar-text}
 use borrow.Author.Needs.{needs}

@@ -2,7 +2,7 @@ use native.Mathlib.Omega.{arith}
 use mir.Syntax.{w32}
 use mir.Facts.{toZ-pos}
 use borrow.Author.Needs.{sfits-of, needs}
-use Rattle.prelude.specs.Signed.{stored}
+use Rattle.prelude.proofs.Signed.{stored}
 use Rattle.thumb_layout.proofs.layout_number.Statement.{statement}
 use Rattle.thumb_layout.proofs.layout_number.Tie as tie
 

@@ -1,7 +1,7 @@
 use borrow.Author.Needs.{needs}
 use native.Mathlib.Omega.{arith}
 use lib.IntN.{pos}
-use Rattle.prelude.specs.Signed.{minus-fits, minus-is}
+use Rattle.prelude.proofs.Signed.{minus-fits, minus-is}
 use Rattle.thumb_layout.proofs.minus.Statement.{statement}
 use Rattle.thumb_layout.proofs.minus.Tie as tie
 

@@ -4,7 +4,7 @@ use mir.Syntax.{w32}
 use mir.Facts.{toZ-pos}
 use borrow.Author.Needs.{sfits-of, needs}
 use Rattle.film_sheet.specs.Film.{filmSheetOf}
-use Rattle.film_sheet.specs.FilmLaws.{film-fits}
+use Rattle.film_sheet.proofs.FilmLaws.{film-fits}
 use Rattle.thumb_layout.specs.Interface.{tlFilmOf}
 use Rattle.thumb_layout.proofs.tl_film.Statement.{statement}
 use Rattle.thumb_layout.proofs.tl_film.Tie as tie

@@ -1,7 +1,7 @@
 use mathlib.Core.Path.{ap, _∙_}
-use Rattle.prelude.specs.Signed.{stored}
+use Rattle.prelude.proofs.Signed.{stored}
 use Rattle.thumb_layout.specs.Interface.{numberOf, tlLayoutOf}
-use Rattle.thumb_layout.specs.InterfaceLaws.{layout-small}
+use Rattle.thumb_layout.proofs.InterfaceLaws.{layout-small}
 use borrow.Author.Needs.{needs}
 use Rattle.thumb_layout.proofs.tl_layout.Statement.{statement}
 use Rattle.thumb_layout.proofs.tl_layout.Tie as tie

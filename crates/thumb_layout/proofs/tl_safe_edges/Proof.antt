@@ -2,7 +2,7 @@
 use mathlib.Core.Path.{_≡_}
 use denote.Ref.{now}
 use borrow.Author.Needs.{needs}
-use Rattle.prelude.specs.Signed.{kept}
+use Rattle.prelude.proofs.Signed.{kept}
 use Rattle.safe_area.specs.Safe.{edgesAnswer}
 use Rattle.thumb_layout.specs.Interface.{edgesFrom, tlSafeEdgesOf, tlSafeEdgesOutputOf}
 use Rattle.thumb_layout.proofs.tl_safe_edges.Statement.{statement}

@@ -1,7 +1,7 @@
 use mathlib.Core.Path.{ap, _∙_}
 use mir.Syntax.{w32}
 use mir.Facts.{toZ-pos}
-use Rattle.prelude.specs.Signed.{stored}
+use Rattle.prelude.proofs.Signed.{stored}
 use Rattle.thumb_layout.specs.Interface.{numberOf, tlTouchOf}
 use borrow.Author.Needs.{needs}
 use Rattle.thumb_layout.proofs.tl_touch.Statement.{statement}

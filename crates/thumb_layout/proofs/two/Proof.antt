@@ -1,4 +1,4 @@
-use Rattle.prelude.specs.Signed.{kept}
+use Rattle.prelude.proofs.Signed.{kept}
 use Rattle.thumb_layout.specs.Interface.{twoOf}
 use borrow.Author.Needs.{needs}
 use Rattle.thumb_layout.proofs.two.Statement.{statement}

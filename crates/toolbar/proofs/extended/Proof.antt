@@ -5,8 +5,8 @@ use lib.ListN.{length, take, length-set}
 use lib.Seq.{take-suc}
 use native.Mathlib.Nat.{add-zero}
 use native.Mathlib.Numerals.{add-one}
-use Rattle.prelude.specs.Loops.{sized}
-use Rattle.prelude.specs.Stores.{put-more}
+use Rattle.prelude.proofs.Loops.{sized}
+use Rattle.prelude.proofs.Stores.{put-more}
 use Rattle.layout.specs.Layout.{anyRect}
 use Prim.Native.Nat.{_+_, _-_, _≤_, zero-le}
 use Rattle.toolbar.proofs.extended.Statement.{statement}

@@ -3,8 +3,8 @@ use mathlib.Core.Path.{_≡_, refl}
 use native.Mathlib.Numerals.{add-one}
 use lib.ListN.{length, take, length-set}
 use lib.Seq.{take-suc}
-use Rattle.prelude.specs.Loops.{sized}
-use Rattle.prelude.specs.Stores.{put-more}
+use Rattle.prelude.proofs.Loops.{sized}
+use Rattle.prelude.proofs.Stores.{put-more}
 use Rattle.layout.specs.Layout.{anyRect}
 use Prim.Native.Nat.{_-_, _≤_, zero-le}
 use Rattle.toolbar.proofs.from_cutouts.Statement.{statement}

@@ -1,6 +1,6 @@
 use borrow.Author.Needs.{needs}
 use mathlib.Core.Path.{_≡_, refl, sym}
-use Rattle.prelude.specs.Booleans.{either}
+use Rattle.prelude.proofs.Booleans.{either}
 use Rattle.touch.specs.Touch.{isFreeOf}
 use Rattle.touch.proofs.face_mask.Statement.{statement}
 use Rattle.touch.proofs.face_mask.Tie as tie

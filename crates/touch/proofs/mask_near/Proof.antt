@@ -7,8 +7,8 @@ use Prim.Native.Nat.{_-_, _<_, _≤_}
 use lib.Bits.{bitOr}
 use lib.Ieee.{nanBits}
 use lib.ListN.{length, take, length-map}
-use Rattle.prelude.specs.Booleans.{both}
-use Rattle.prelude.specs.Loops.{fold-next}
+use Rattle.prelude.proofs.Booleans.{both}
+use Rattle.prelude.proofs.Loops.{fold-next}
 use Rattle.layout.specs.Layout.{controlList}
 use Rattle.touch.specs.declared.Face.{Face}
 use Rattle.touch.specs.Touch.{othersMaskOf, outsideOf, isFreeOf, nearest, maskNearOf}

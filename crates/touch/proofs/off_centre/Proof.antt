@@ -5,7 +5,7 @@ use mathlib.Core.Bool.{Bool, true, _&&_}
 use lib.Dec.{T}
 use lib.Ieee.{Float, binary32, fits, lt, eq}
 use denote.Floats.{passes, is-true}
-use Rattle.prelude.specs.Booleans.{both}
+use Rattle.prelude.proofs.Booleans.{both}
 use Rattle.float.specs.MinMax.{absOf}
 use Rattle.hypot.specs.Hypot.{hypotOf}
 use Rattle.hypot.proofs.Cases.{hypot-comm}

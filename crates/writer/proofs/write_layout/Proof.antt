@@ -2,7 +2,7 @@ use denote.Ref.{now}
 use mathlib.Core.Path.{_≡_}
 use native.Mathlib.Omega.{arith}
 use lib.ListN.{length, length-map}
-use Rattle.prelude.specs.Loops.{sized}
+use Rattle.prelude.proofs.Loops.{sized}
 use Rattle.writer.proofs.Stores.{too-small, fits, layout-run}
 use borrow.Author.Needs.{needs}
 use Rattle.writer.proofs.write_layout.Statement.{statement}

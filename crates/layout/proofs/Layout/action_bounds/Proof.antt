@@ -6,15 +6,15 @@ use mathlib.Core.Logic.{⊎-elim}
 use mathlib.Core.List.{List, [], _∷_, _++_}
 use lib.ListN.{length, length-map, take, getD}
 use Rattle.prelude.specs.Lists.{filterMap, reduce}
-use Rattle.prelude.specs.Loops.{one-more, no-more}
-use Rattle.prelude.specs.Filters.{nonempty, nonempty-more, reduce-more}
+use Rattle.prelude.proofs.Loops.{one-more, no-more}
+use Rattle.prelude.proofs.Filters.{nonempty, nonempty-more, reduce-more}
 use Rattle.geometry.specs.declared.Rect.{Rect}
 use Rattle.geometry.specs.Rect.{emptyRect}
 use Rattle.layout.specs.declared.Control.{Control}
 use Rattle.layout.specs.Label.{isFaceOf}
 use Rattle.layout.specs.Layout.{anyControl}
 use Rattle.layout.specs.Actions.{joinOf}
-use Rattle.layout.specs.ActionLaws.{action-bounds}
+use Rattle.layout.proofs.ActionLaws.{action-bounds}
 use Rattle.layout.proofs.Layout.action_bounds.Statement.{statement}
 use Rattle.layout.proofs.Layout.action_bounds.Tie as tie
 

@@ -5,11 +5,11 @@ use mathlib.Core.List.{List, [], _∷_, _++_}
 use native.Mathlib.Omega.{arith}
 use lib.ListN.{length, length-map, take, getD}
 use lib.Seq.{take-take}
-use Rattle.prelude.specs.Loops.{sized}
-use Rattle.prelude.specs.Stores.{take-store, two}
+use Rattle.prelude.proofs.Loops.{sized}
+use Rattle.prelude.proofs.Stores.{take-store, two}
 use Rattle.geometry.specs.declared.Rect.{Rect}
 use Rattle.layout.specs.Layout.{anyRect, boundsOf}
-use Rattle.layout.specs.ElementLaws.{first-elements, controller-elements}
+use Rattle.layout.proofs.ElementLaws.{first-elements, controller-elements}
 use Rattle.layout.proofs.Layout.controller_elements.Statement.{statement}
 use Rattle.layout.proofs.Layout.controller_elements.Tie as tie
 

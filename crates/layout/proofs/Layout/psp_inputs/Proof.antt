@@ -5,7 +5,7 @@ use Prim.Native.Nat.{_-_, _<_, _≤_}
 use mathlib.Core.Logic.{⊎-elim}
 use lib.ListN.{length, length-map, length-set, take}
 use Rattle.prelude.specs.Lists.{retain, compact}
-use Rattle.prelude.specs.Filters.{put-count, put-list, skip-count, skip-list}
+use Rattle.prelude.proofs.Filters.{put-count, put-list, skip-count, skip-list}
 use Rattle.layout.specs.Layout.{anyControl, controlList}
 use Rattle.layout.specs.Psp.{onPsp, pspInputsOf}
 use Rattle.layout.proofs.Layout.psp_inputs.Statement.{statement}

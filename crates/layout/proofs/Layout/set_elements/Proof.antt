@@ -6,13 +6,13 @@ use mathlib.Core.List.{List}
 use lib.ListN.{length, length-map, length-drop, drop}
 use lib.Seq.{getD-drop}
 use Rattle.prelude.specs.Lists.{replaceFirst}
-use Rattle.prelude.specs.Loops.{sized, Done, all-done}
-use Rattle.prelude.specs.Stores.{replaces}
+use Rattle.prelude.proofs.Loops.{sized, Done, all-done}
+use Rattle.prelude.proofs.Stores.{replaces}
 use Rattle.geometry.specs.declared.Rect.{Rect}
 use Rattle.layout.specs.declared.Control.{Control}
 use Rattle.layout.specs.Layout.{anyRect, withControls, withSticks}
 use Rattle.layout.specs.Elements.{setElementsOf}
-use Rattle.layout.specs.SetElementLaws.{set-elements-front}
+use Rattle.layout.proofs.SetElementLaws.{set-elements-front}
 use Rattle.layout.proofs.Layout.set_elements.Statement.{statement}
 use Rattle.layout.proofs.Layout.set_elements.Tie as tie
 

@@ -1,0 +1,5 @@
+pub mod Found
+pub mod ControlLaws
+pub mod ArrangedLabels
+pub mod PlaceRanges
+pub mod ArrangedRanges

@@ -1,0 +1,3 @@
+pub mod CameraCases
+pub mod CameraLabels
+pub mod CameraRanges

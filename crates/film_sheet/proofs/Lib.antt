@@ -1,0 +1,2 @@
+pub mod FilmLaws
+pub mod FirstBytes

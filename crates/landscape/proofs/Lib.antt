@@ -1,0 +1,2 @@
+pub mod LandscapeLaws
+pub mod LandscapeRanges

@@ -1,0 +1,9 @@
+pub mod Booleans
+pub mod Compare
+pub mod Signed
+pub mod ListLaws
+pub mod Loops
+pub mod Stores
+pub mod Filters
+pub mod EachLaws
+pub mod AnswerLaws

@@ -1,0 +1,55 @@
+-- What stands at the front of an array after stores, and an array of two.
+use mathlib.Core.Path.{_≡_, refl, ap, sym, _∙_}
+use mathlib.Core.List.{List, [], _∷_, _++_, map, map-append, append-assoc}
+use Prim.Native.Nat.{ℕ, suc, _+_, _<_, _≤_}
+use native.Mathlib.Nat.{add-suc}
+use native.Mathlib.Numerals.{add-one}
+use native.Mathlib.Omega.{arith}
+use lib.ListN.{length, take, drop, getD, set}
+use lib.Seq.{take-suc, take-suc-set, take-append-le, take-append-add, length-take-le, sets, sets-eq, set-at, append-snoc, drop-cons}
+use Rattle.prelude.specs.Lists.{replaceFirst}
+use Rattle.prelude.proofs.Loops.{Done, does}
+
+-- one more behind the first n
+pub put-more : {A : Type 0} (out : List A) (n : ℕ) (v : A) {xs xs' : List A} → n < length out → take n out ≡ xs → xs' ≡ xs ++ (v ∷ []) → take (n + 1) (set out n v) ≡ xs'
+put-more out n v h p e = rw (add-one n, take-suc-set out n v h, p, e)
+
+-- the same, with what is still to come
+pub put-rest : {A : Type 0} (out : List A) (n : ℕ) (v : A) (rest : List A) → n < length out → take (n + 1) (set out n v) ++ rest ≡ take n out ++ (v ∷ rest)
+put-rest out n v rest h = rw (add-one n, take-suc-set out n v h, append-snoc)
+
+module _ {A B : Type 0} where
+  -- a turn of a loop that stores f of the next element behind xs
+  pub map-put : (f : A → B) (l : List A) (i : ℕ) (d : A) (xs out : List B) (k : ℕ) → i < length l → k < length out → take k out ≡ xs ++ map f (take i l)
+      → take (k + 1) (set out k (f (getD l i d))) ≡ xs ++ map f (take (i + 1) l)
+  map-put f l i d xs out k h j p = put-more out k _ j p (rw (add-one i, take-suc l i d, map-append, append-assoc))
+
+module _ {A : Type 0} where
+  -- the elements vs stored at n + j, n + (j + 1) and so on
+  abbrev pub store : List A → ℕ → ℕ → List A → List A
+  store out n j [] = out
+  store out n j (v ∷ vs) = store (set out (n + j) v) n (suc j) vs
+
+  pub store-sets : (out : List A) (n j : ℕ) (vs : List A) → store out n j vs ≡ sets out (n + j) vs
+  store-sets out n j [] = refl
+  store-sets out n j (v ∷ vs) = store-sets (set out (n + j) v) n (suc j) vs ∙ ap (λ (k : ℕ). sets (set out (n + j) v) k vs) (add-suc n j)
+
+  -- xs, and then the first m of the elements that were stored behind it
+  pub take-store : (out xs vs : List A) (n j m k : ℕ) → take (n + j) out ≡ xs → n + j + length vs ≤ length out → m ≤ length vs → k ≡ n + j + m → take k (store out n j vs) ≡ xs ++ take m vs
+  take-store out xs vs n j m k p h l e =
+      let q : length xs ≡ n + j = ap length (sym p) ∙ length-take-le (n + j) out (omega arith) in
+      let r : k ≡ length xs + m = omega arith in
+      rw (store-sets out n j vs, sets-eq vs out (n + j) h, p, r, append-assoc, take-append-add xs, take-append-le m vs)
+
+  -- an array of two
+  pub two : (l : List A) (d : A) → length l ≡ 2 → getD l 0 d ∷ getD l 1 d ∷ [] ≡ l
+  two [] d e = absurd (let z : ⊥ = omega arith in z)
+  two (x ∷ []) d e = absurd (let z : ⊥ = omega arith in z)
+  two (x ∷ y ∷ []) d e = refl
+  two (x ∷ y ∷ z ∷ l) d e = absurd (let z : ⊥ = omega arith in z)
+
+  -- a turn of a loop that replaces the first elements
+  pub replaces : (new old : List A) (d : A) {out : List A} {n k i : ℕ} {v : A} → Done (λ j. replaceFirst j new old) n k out i → i < n → i < length new → i < length old → v ≡ getD new i d
+      → Done (λ j. replaceFirst j new old) n k (set out i v) (i + 1)
+  replaces new old d {i = i} {v} r h a b e =
+      does v r h (rw (r .is, e, add-one, take-suc new i d a, append-snoc, drop-cons old i d b) (set-at (take i new) (getD old i d) (drop (suc i) old) (getD new i d) i (length-take-le i new (omega arith))))

@@ -1,0 +1,4 @@
+pub mod PresetCases
+pub mod PresetLabels
+pub mod PresetRanges
+pub mod PresetWidest
