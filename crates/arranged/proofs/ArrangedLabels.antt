@@ -10,18 +10,13 @@ use Rattle.geometry.specs.declared.Rect.{Rect}
 use Rattle.layout.specs.declared.Label.{Label}
 use Rattle.layout.specs.declared.Layout.{Layout}
 use Rattle.layout.specs.Labels.{standardLabels, Formed}
-use Rattle.layout.proofs.LabelLaws.{mapped-formed}
 use Rattle.search.specs.Search.{placeGameInAspectOf}
 use Rattle.toolbar.specs.Toolbar.{anchorToolbarOf}
-use Rattle.arranged.specs.declared.Places.{Places}
-use Rattle.arranged.specs.Places.{controllerOf, moved, placedOf}
+use Rattle.places.specs.Places.{controllerOf}
+use Rattle.places.proofs.PlaceLabels.{placed-formed}
 use Rattle.arranged.specs.Arranged.{finishedOf, dockedOf, arrangedOf, railedOf, clusterOf, sideRailsOf}
 
 module _ (labels : List Label) (sticks : ℕ) (l : Layout) where
-  pub placed-formed : (p : Places) → Formed labels sticks l → Formed labels sticks (placedOf l p)
-  unfolding placedOf
-  placed-formed p f = mapped-formed labels sticks l (moved p) (λ c. refl) f
-
   pub finished-formed : (w h : Float) → Formed labels sticks l → Formed labels sticks (finishedOf l w h)
   unfolding finishedOf placeGameInAspectOf anchorToolbarOf
   finished-formed w h f = f

@@ -4,29 +4,31 @@ use mathlib.Core.Bool.{Bool, true, false, cond}
 use mathlib.Core.List.{List, []}
 use lib.Ieee.{Float, lt}
 use Rattle.prelude.specs.Lists.{mapFirst}
-use Rattle.float.specs.Float.{k0, k122}
+use Rattle.float.specs.Float.{_⊖_, k0, k16, k122}
 use Rattle.geometry.specs.declared.Rect.{Rect}
+use Rattle.geometry.specs.Rect.{newOf}
+use Rattle.geometry.specs.declared.Offset.{Offset}
 use Rattle.layout.specs.declared.Layout.{Layout}
 use Rattle.layout.specs.Layout.{elementsOf, withGame, withDpad}
-use Rattle.search.specs.declared.Offset.{Offset}
 use Rattle.search.specs.Search.{placeGameInAspectOf}
 use Rattle.toolbar.specs.Toolbar.{anchorToolbarOf}
-use Rattle.toolbar.proofs.ToolbarRanges.{uncovered}
-use Rattle.arranged.specs.declared.Places.{Places}
-use Rattle.arranged.specs.Places.{atOf, controllerOf, placedOf}
-use Rattle.arranged.specs.Arranged.{finishedOf, dockPlacesOf, dockedOf, arrangedOf, measureRailsOf, railPlacesOf, railDpad, railedOf, clusterOf, sideRailsOf}
+use Rattle.toolbar.proofs.ToolbarRanges.{nothing-covered}
+use Rattle.places.specs.declared.Places.{Places}
+use Rattle.places.specs.Places.{atOf, controllerOf, placedOf}
+use Rattle.arranged.specs.Arranged.{finishedOf, dockPlacesOf, dockedOf, arrangedOf, bottom, railPlacesOf, railedOf, clusterOf, sideRailsOf}
 use Rattle.arranged.specs.Controls.{bareOf, railControlsOf, sideControlsOf}
 
 module _ (w h top : Float) (cutouts : List Rect) where
   bare-anchored : (l : Layout) → anchorToolbarOf l w h top k0 cutouts ≡ withGame (anchorToolbarOf (bareOf l) w h top k0 cutouts) (l .game)
   unfolding anchorToolbarOf
-  bare-anchored l = rw (uncovered l cutouts, uncovered (bareOf l) cutouts)
+  bare-anchored l = rw (nothing-covered l cutouts, nothing-covered (bareOf l) cutouts)
 
   -- what is left of the first layout is its game
   pub anchored-anew : (l m : Layout) → bareOf l ≡ bareOf m → anchorToolbarOf l w h top k0 cutouts ≡ withGame (anchorToolbarOf m w h top k0 cutouts) (l .game)
   anchored-anew l m e = rw (bare-anchored l, bare-anchored m, e)
 
-pub game-anew : (l : Layout) (old : Rect) (bounds : Rect) (overlap : Bool) (scale : Float) (offset : Offset) (aspect : Float) → placeGameInAspectOf (withGame l old) bounds overlap scale offset aspect ≡ placeGameInAspectOf l bounds overlap scale offset aspect
+pub game-anew : (l : Layout) (old : Rect) (bounds : Rect) (overlap : Bool) (scale : Float) (offset : Offset) (aspect : Float)
+    → placeGameInAspectOf (withGame l old) bounds overlap scale offset aspect ≡ placeGameInAspectOf l bounds overlap scale offset aspect
 unfolding placeGameInAspectOf elementsOf
 game-anew l old bounds overlap scale offset aspect = refl
 
@@ -44,7 +46,9 @@ module _ (w h : Float) where
   unfolding finishedOf placedOf placeGameInAspectOf anchorToolbarOf
   moved-anew l p dpad = refl
 
-  rails-bare : (cluster : Float) → let rails = measureRailsOf w h cluster in bareOf (withDpad (placedOf (dockedOf w h false) (railPlacesOf rails)) (railDpad rails cluster)) ≡ bareOf (railControlsOf w h cluster)
+  rails-bare : (cluster : Float)
+      → let mainY = h ⊖ bottom ⊖ cluster in
+      bareOf (withDpad (placedOf (dockedOf w h false) (railPlacesOf w mainY cluster)) (newOf k16 mainY cluster cluster)) ≡ bareOf (railControlsOf w h cluster)
   unfolding placedOf mapFirst atOf controllerOf dockedOf dockPlacesOf railControlsOf railPlacesOf
   rails-bare cluster = refl
 

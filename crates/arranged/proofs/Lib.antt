@@ -1,5 +1,3 @@
-pub mod Found
 pub mod ControlLaws
 pub mod ArrangedLabels
-pub mod PlaceRanges
 pub mod ArrangedRanges

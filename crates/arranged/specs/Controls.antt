@@ -3,14 +3,13 @@
 use mathlib.Core.Bool.{false, cond}
 use mathlib.Core.List.{List}
 use lib.Ieee.{Float, lt}
-use Rattle.float.specs.Float.{k122}
+use Rattle.float.specs.Float.{_⊖_, k16, k122}
 use Rattle.geometry.specs.declared.Rect.{Rect}
-use Rattle.geometry.specs.Rect.{emptyRect}
+use Rattle.geometry.specs.Rect.{newOf, emptyRect}
 use Rattle.layout.specs.declared.Layout.{Layout}
-use Rattle.layout.specs.Layout.{withGame}
-use Rattle.toolbar.specs.Toolbar.{withToolbar}
-use Rattle.arranged.specs.Places.{standardOf}
-use Rattle.arranged.specs.Arranged.{dockedOf, measureRailsOf, railPlacesOf, railDpad, clusterOf}
+use Rattle.layout.specs.Layout.{withGame, withToolbar}
+use Rattle.places.specs.Places.{standardControllerOf}
+use Rattle.arranged.specs.Arranged.{bottom, dockedOf, railPlacesOf, clusterOf}
 
 -- the layout without toolbar and game
 abbrev pub bareOf : Layout → Layout
@@ -18,8 +17,8 @@ bareOf l = withGame (withToolbar l emptyRect emptyRect emptyRect emptyRect) empt
 
 unfoldable pub railControlsOf : Float → Float → Float → Layout
 railControlsOf w h cluster =
-    let rails = measureRailsOf w h cluster in
-    standardOf (railPlacesOf rails) (railDpad rails cluster)
+    let mainY = h ⊖ bottom ⊖ cluster in
+    standardControllerOf (railPlacesOf w mainY cluster) (newOf k16 mainY cluster cluster)
 
 unfoldable pub sideControlsOf : Float → Float → Float → List Rect → Layout
 sideControlsOf w h pictureHeight cutouts =

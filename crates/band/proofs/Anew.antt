@@ -6,17 +6,18 @@ use lib.Ieee.{Float}
 use Rattle.prelude.specs.Lists.{mapFirst}
 use Rattle.float.specs.Float.{k0, k1}
 use Rattle.geometry.specs.declared.Rect.{Rect}
+use Rattle.geometry.specs.Offset.{centred}
 use Rattle.layout.specs.declared.Layout.{Layout}
 use Rattle.layout.specs.Layout.{withGame}
-use Rattle.layout.specs.Psp.{pspInputsOf}
-use Rattle.search.specs.Search.{centred, placeGameInAspectOf}
+use Rattle.layout.specs.Psp.{pspInputsOf, withInputsOf}
+use Rattle.search.specs.Search.{placeGameInAspectOf, aspectOf}
 use Rattle.toolbar.specs.Toolbar.{anchorToolbarOf}
-use Rattle.arranged.specs.Places.{atOf, controllerOf, placedOf}
+use Rattle.places.specs.Places.{atOf, controllerOf, placedOf}
 use Rattle.arranged.specs.Arranged.{finishedOf, dockPlacesOf, dockedOf, arrangedOf}
 use Rattle.arranged.specs.Controls.{bareOf}
 use Rattle.arranged.proofs.ControlLaws.{anchored-anew, game-anew}
 use Rattle.band.specs.declared.Band.{Band}
-use Rattle.band.specs.Band.{aspectOf, plainPlacesOf, withAnalogOf, bandedOf, withInputsOf}
+use Rattle.band.specs.Band.{plainPlacesOf, withAnalogOf, bandedOf}
 use Rattle.band.specs.Controls.{bandControlsOf}
 
 banded-bare : (w h : Float) (analog deep : Bool) (b : Band) → bareOf (bandedOf w h analog deep b) ≡ bareOf (bandControlsOf analog deep b)

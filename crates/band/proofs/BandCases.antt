@@ -5,12 +5,14 @@ use lib.Dec.{T}
 use lib.Ieee.{Float, lt}
 use Rattle.float.specs.Float.{_⊗_, k0, k1, k1·35, k122, k600, k800}
 use Rattle.geometry.specs.declared.Rect.{Rect}
+use Rattle.geometry.specs.Offset.{centred}
 use Rattle.layout.specs.declared.Layout.{Layout}
-use Rattle.search.specs.Search.{centred, placeGameInAspectOf}
+use Rattle.layout.proofs.Found.{Given, given, guard}
+use Rattle.layout.specs.Psp.{withInputsOf}
+use Rattle.search.specs.Search.{placeGameInAspectOf, aspectOf}
 use Rattle.toolbar.specs.Toolbar.{anchorToolbarOf, reusableTopOf}
-use Rattle.arranged.proofs.Found.{Given, given, guard}
 use Rattle.band.specs.declared.Room.{Room}
-use Rattle.band.specs.Band.{aspectOf, findRoomOf, measureBandOf, bandedOf, withInputsOf, controllerBandOf}
+use Rattle.band.specs.Band.{findRoomOf, measureBandOf, bandedOf, controllerBandOf}
 
 module _ (w h : Float) (analog psp : Bool) (picture : Rect) where
   abbrev pub bandRoom : Room

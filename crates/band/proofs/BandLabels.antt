@@ -12,19 +12,17 @@ use Rattle.layout.specs.declared.Control.{Control}
 use Rattle.layout.specs.declared.Label.{Label}
 use Rattle.layout.specs.declared.Label.the-variants.{L3, R3}
 use Rattle.layout.specs.declared.Layout.{Layout}
-use Rattle.layout.specs.Label.{idOf, maskOf, onPspOf}
 use Rattle.layout.specs.Labels.{standardLabels, analogLabels, Formed, OfMode}
-use Rattle.layout.proofs.LabelLaws.{psp-inputs-formed}
-use Rattle.layout.specs.Layout.{controlList}
-use Rattle.layout.specs.Psp.{atMostOneOf}
+use Rattle.layout.proofs.LabelLaws.{with-inputs-formed}
+use Rattle.layout.specs.Layout.{control, controlList}
+use Rattle.layout.proofs.Found.{Given}
 use Rattle.search.specs.Search.{placeGameInAspectOf}
 use Rattle.toolbar.specs.Toolbar.{anchorToolbarOf}
-use Rattle.arranged.specs.Places.{control}
+use Rattle.places.proofs.PlaceLabels.{placed-formed}
 use Rattle.arranged.specs.Arranged.{arrangedOf}
-use Rattle.arranged.proofs.Found.{Given}
-use Rattle.arranged.proofs.ArrangedLabels.{placed-formed, arranged-formed}
+use Rattle.arranged.proofs.ArrangedLabels.{arranged-formed}
 use Rattle.band.specs.declared.Band.{Band}
-use Rattle.band.specs.Band.{measureBandOf, withAnalogOf, bandedOf, withInputsOf, controllerBandOf}
+use Rattle.band.specs.Band.{measureBandOf, withAnalogOf, bandedOf, controllerBandOf}
 use Rattle.band.proofs.BandCases.{bandRoom, bandAnchored, controller-band-case}
 
 -- L3 and R3 after the other controls
@@ -51,12 +49,6 @@ banded-formed : (w h : Float) (analog deep : Bool) (b : Band) → OfMode analog 
 unfolding bandedOf
 banded-formed w h true deep b = with-analog-formed _ _ _ _ _ (placed-formed standardLabels 0 (arrangedOf w h false) _ (arranged-formed w h false))
 banded-formed w h false deep b = placed-formed standardLabels 0 (arrangedOf w h false) _ (arranged-formed w h false)
-
-pub with-inputs-formed : (analog psp : Bool) (l : Layout) → OfMode analog false l → OfMode analog psp (withInputsOf l psp)
-unfolding atMostOneOf onPspOf maskOf idOf
-with-inputs-formed analog false l f = f
-with-inputs-formed true true l f = psp-inputs-formed analogLabels 2 l refl f
-with-inputs-formed false true l f = psp-inputs-formed standardLabels 0 l refl f
 
 pub band-formed : (w h : Float) (analog psp : Bool) (picture : Rect) → Given (OfMode analog psp) (controllerBandOf w h analog psp picture)
 unfolding placeGameInAspectOf anchorToolbarOf

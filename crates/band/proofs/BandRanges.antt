@@ -9,6 +9,8 @@ use Rattle.prelude.specs.Each.{_&_}
 use Rattle.prelude.proofs.EachLaws.{each-set}
 use Rattle.float.specs.Float.{k1}
 use Rattle.geometry.specs.declared.Rect.{Rect}
+use Rattle.geometry.specs.Offset.{centred}
+use Rattle.layout.specs.Layout.{control}
 use Rattle.layout.specs.declared.Label.the-variants.{L3, R3}
 use Rattle.layout.specs.declared.Layout.{Layout}
 use Rattle.numerics.specs.Rects.{Area}
@@ -16,18 +18,18 @@ use Rattle.numerics.specs.Range.{In, at, minus}
 use Rattle.numerics.proofs.Ranges.{in-more, most-in, add-in, sub-in, mul-in, times-in, div-in, min-in, clamp-in, cond-in, not-below, placed-in}
 use Rattle.numerics.proofs.Products.{scaled-in}
 use Rattle.numerics.proofs.Literals.{lit, f0·75, f2, f4, f52, psp-high}
-use Rattle.search.specs.Bounded.{Every, Arranged}
+use Rattle.layout.proofs.Found.{Given}
+use Rattle.layout.specs.Psp.{withInputsOf}
+use Rattle.layout_ranges.specs.Bounded.{Every, Arranged}
 use Rattle.search.proofs.Layouts.{place-bounded}
-use Rattle.search.proofs.Changes.{dpad-in, psp-in}
-use Rattle.search.specs.Search.{centred}
+use Rattle.layout_ranges.proofs.Changes.{dpad-in, psp-in}
+use Rattle.search.specs.Search.{aspectOf}
 use Rattle.toolbar.proofs.ToolbarRanges.{anchored-in, reusable-in}
-use Rattle.arranged.specs.Places.{control}
-use Rattle.arranged.proofs.Found.{Given}
-use Rattle.arranged.proofs.PlaceRanges.{Coordinate, coordinate, FacesIn, well-faces-in, PlacesIn, empty-in, controls-placed}
+use Rattle.places.proofs.PlaceRanges.{Coordinate, coordinate, FacesIn, well-faces-in, PlacesIn, empty-in, controls-placed}
 use Rattle.arranged.proofs.ArrangedRanges.{arranged-in}
 use Rattle.band.specs.declared.Room.{Room}
 use Rattle.band.specs.declared.Band.{Band}
-use Rattle.band.specs.Band.{aspectOf, findRoomOf, measureBandOf, plainPlacesOf, deepPlacesOf, rowPlacesOf, bandPlacesOf, withAnalogOf, bandedOf, withInputsOf, controllerBandOf}
+use Rattle.band.specs.Band.{findRoomOf, measureBandOf, plainPlacesOf, deepPlacesOf, middlePlacesOf, bandPlacesOf, withAnalogOf, bandedOf, controllerBandOf}
 use Rattle.band.proofs.BandCases.{bandRoom, bandLayout, bandAnchored, controller-band-case}
 
 record RoomIn (r : Room) : Type 0 where
@@ -116,9 +118,9 @@ module _ {b : Band} (B : BandIn b) where
         start = placed-in (add-in half (lit 4) tt) upper (lit 48) (lit 48) tt;
       }
 
-  row-in : PlacesIn (rowPlacesOf b)
-  unfolding rowPlacesOf
-  row-in =
+  middle-in : PlacesIn (middlePlacesOf b)
+  unfolding middlePlacesOf
+  middle-in =
       let x = div-in (sub-in (B .w) (lit 204) tt) f2 tt in
       let y = sub-in (sub-in (B .h) (lit 4) tt) (lit 100) tt in
       let none = mul-in (lit 0) f52 tt in
@@ -143,7 +145,7 @@ module _ {b : Band} (B : BandIn b) where
 
   band-places-in : (analog deep : Bool) → PlacesIn (bandPlacesOf analog deep b)
   band-places-in true true = deep-in
-  band-places-in true false = row-in
+  band-places-in true false = middle-in
   band-places-in false deep = plain-in
 
 -- ---- the layout

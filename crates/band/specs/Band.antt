@@ -9,21 +9,18 @@ use Rattle.float.specs.Float.{_⊕_, _⊖_, _⊗_, _⊘_, k0, k0·75, k1, k1·3
 use Rattle.float.specs.MinMax.{minOf, clampOf}
 use Rattle.geometry.specs.declared.Rect.{Rect}
 use Rattle.geometry.specs.Rect.{newOf, emptyRect}
+use Rattle.geometry.specs.Offset.{centred}
 use Rattle.layout.specs.declared.Label.the-variants.{L3, R3}
 use Rattle.layout.specs.declared.Layout.{Layout}
-use Rattle.layout.specs.Layout.{withDpad}
-use Rattle.layout.specs.Psp.{pspInputsOf}
-use Rattle.search.specs.Search.{centred, placeGameInAspectOf}
+use Rattle.layout.specs.Layout.{control, withController, withDpad}
+use Rattle.layout.specs.Psp.{withInputsOf}
+use Rattle.search.specs.Search.{placeGameInAspectOf, aspectOf}
 use Rattle.toolbar.specs.Toolbar.{toolbarHeight, anchorToolbarOf, reusableTopOf}
-use Rattle.arranged.specs.declared.Places.{Places}
-use Rattle.arranged.specs.Places.{wellFacesOf, control, placedOf}
+use Rattle.places.specs.declared.Places.{Places}
+use Rattle.places.specs.Places.{wellFacesOf, placedOf}
 use Rattle.arranged.specs.Arranged.{arrangedOf, bottom}
 use Rattle.band.specs.declared.Room.{Room}
 use Rattle.band.specs.declared.Band.{Band}
-
--- the picture's shape: 480 to 272 for psp, else 4 to 3
-abbrev pub aspectOf : Bool → Float
-aspectOf psp = cond psp (k480 ⊘ k272) (k4 ⊘ k3)
 
 -- the room below the whole picture and the width of a digital well in it
 unfoldable pub findRoomOf : Float → Float → Bool → Bool → Rect → Room
@@ -87,8 +84,8 @@ deepPlacesOf b =
     }
 
 -- else: two rows of four keys in the middle
-unfoldable pub rowPlacesOf : Band → Places
-rowPlacesOf b =
+unfoldable pub middlePlacesOf : Band → Places
+middlePlacesOf b =
     let auxiliaryX = (b .w ⊖ k204) ⊘ k2 in
     let auxiliaryY = b .h ⊖ bottom ⊖ k100 in
     let upper = auxiliaryY ⊕ k0 ⊗ k52 in
@@ -106,43 +103,29 @@ rowPlacesOf b =
     }
 
 abbrev pub bandPlacesOf : Bool → Bool → Band → Places
-bandPlacesOf analog deep b = cond analog (cond deep (deepPlacesOf b) (rowPlacesOf b)) (plainPlacesOf b)
+bandPlacesOf analog deep b = cond analog (cond deep (deepPlacesOf b) (middlePlacesOf b)) (plainPlacesOf b)
 
 -- L3, R3 and the two sticks added
 unfoldable pub withAnalogOf : Layout → Rect → Rect → Rect → Rect → Layout
 withAnalogOf l l3 r3 left right =
-    record {
-      game = l .game;
-      dpad = l .dpad;
-      controls = set (set (l .controls) (l .count) (control l3 L3)) (l .count + 1) (control r3 R3);
-      count = l .count + 2;
-      pause = l .pause;
-      playback = l .playback;
-      speed = l .speed;
-      mute = l .mute;
-      sticks = left ∷ right ∷ [];
-      stickcount = 2;
-    }
+    let controls = set (set (l .controls) (l .count) (control l3 L3)) (l .count + 1) (control r3 R3) in
+    withController l (l .dpad) controls (l .count + 2) (left ∷ right ∷ []) 2
 
 abbrev pub bandDpad : Band → Rect
 bandDpad b = newOf (b .digitalx) (b .mainy) (b .face) (b .face)
 
-abbrev pub leftStick : Band → Rect
-leftStick b = newOf (b .outer) (b .h ⊖ bottom ⊖ b .stick) (b .stick) (b .stick)
+abbrev pub bandLeftStick : Band → Rect
+bandLeftStick b = newOf (b .outer) (b .h ⊖ bottom ⊖ b .stick) (b .stick) (b .stick)
 
-abbrev pub rightStick : Band → Rect
-rightStick b = newOf (b .w ⊖ b .outer ⊖ b .stick) (b .h ⊖ bottom ⊖ b .stick) (b .stick) (b .stick)
+abbrev pub bandRightStick : Band → Rect
+bandRightStick b = newOf (b .w ⊖ b .outer ⊖ b .stick) (b .h ⊖ bottom ⊖ b .stick) (b .stick) (b .stick)
 
 -- the controls of `arranged` moved into the band
 unfoldable pub bandedOf : Float → Float → Bool → Bool → Band → Layout
 bandedOf w h analog deep b =
     let places = bandPlacesOf analog deep b in
     let layout = withDpad (placedOf (arrangedOf w h false) places) (bandDpad b) in
-    cond analog (withAnalogOf layout (places .l3) (places .r3) (leftStick b) (rightStick b)) layout
-
--- a psp has some of the inputs only
-abbrev pub withInputsOf : Layout → Bool → Layout
-withInputsOf l psp = cond psp (pspInputsOf l) l
+    cond analog (withAnalogOf layout (places .l3) (places .r3) (bandLeftStick b) (bandRightStick b)) layout
 
 unfoldable pub controllerBandOf : Float → Float → Bool → Bool → Rect → Option Layout
 controllerBandOf w h analog psp picture =

@@ -1,24 +1,26 @@
 // `controller_band` of input.rs: mirrored controls in the room that a picture of full width leaves.
 ghost use mathlib.Core.Path.{_≡_};
 ghost use Prim.Native.Nat.{_≤_};
-ghost use Rattle.arranged.specs.Places.{maybe};
-ghost use Rattle.band.specs.Band.{findRoomOf, measureBandOf, plainPlacesOf, deepPlacesOf, rowPlacesOf, bandPlacesOf, withInputsOf, aspectOf, controllerBandOf};
+ghost use Rattle.layout.specs.Maybe.{maybe};
+ghost use Rattle.band.specs.Band.{findRoomOf, measureBandOf, plainPlacesOf, deepPlacesOf, middlePlacesOf, bandPlacesOf, controllerBandOf};
 ghost use Rattle.band.specs.Controls.{bandControlsOf};
 use arranged::BOTTOM;
-use arranged::Faces;
-use arranged::MaybeLayout;
-use arranged::Places;
-use arranged::controller;
-use arranged::no_layout;
-use arranged::well_faces;
 use float::clamp;
 use float::min;
 use float::pick;
+use geometry::CENTRED;
 use geometry::EMPTY;
 use geometry::Rect;
 use layout::Layout;
+use layout::MaybeLayout;
 use layout::NO_CUTOUTS;
-use search::CENTRED;
+use layout::no_layout;
+use layout::with_inputs;
+use places::Faces;
+use places::Places;
+use places::controller;
+use places::well_faces;
+use search::aspect;
 use toolbar::TOOLBAR_HEIGHT;
 
 // The room below the whole picture and the width of a digital well in it.
@@ -127,8 +129,8 @@ fn deep_places(b: Band) -> Places
 }
 
 // Else: two rows of four keys in the middle.
-fn row_places(b: Band) -> Places
-    ensures { λ r. ⌜ r ≡ rowPlacesOf b ⌝ }
+fn middle_places(b: Band) -> Places
+    ensures { λ r. ⌜ r ≡ middlePlacesOf b ⌝ }
 {
     let faces = b.faces;
     let auxiliary_x = (b.w - 204.0) / 2.0;
@@ -155,7 +157,7 @@ fn band_places(analog: bool, deep: bool, b: Band) -> Places
         if deep {
             return deep_places(b);
         }
-        return row_places(b);
+        return middle_places(b);
     }
     plain_places(b)
 }
@@ -174,24 +176,6 @@ fn band_controls(analog: bool, deep: bool, b: Band) -> Layout
         return controller(places, dpad, 12, sticks, 2);
     }
     controller(places, dpad, 10, [EMPTY; 2], 0)
-}
-
-// A psp has some of the inputs only.
-pub fn with_inputs(l: Layout, psp: bool) -> Layout
-    requires { ⌜ (l .count ≤ 12) × (l .stickcount ≤ 2) ⌝ }
-    ensures { λ r. ⌜ (r ≡ withInputsOf l psp) × (r .count ≤ 12) × (r .stickcount ≤ 2) ⌝ }
-{
-    if psp {
-        return l.psp_inputs();
-    }
-    l
-}
-
-// The picture's shape.
-pub fn aspect(psp: bool) -> f32
-    ensures { λ r. ⌜ r ≡ aspectOf psp ⌝ }
-{
-    pick(psp, 480.0 / 272.0, 4.0 / 3.0)
 }
 
 // The layout beside `some: false` is left open, but for its counts.

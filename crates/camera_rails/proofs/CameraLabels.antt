@@ -4,18 +4,17 @@ use mathlib.Core.Bool.{Bool, true}
 use mathlib.Core.List.{List}
 use lib.Ieee.{Float}
 use lib.ListN.{length}
-use Prim.Native.Nat.{_≤_}
 use Rattle.geometry.specs.declared.Rect.{Rect}
 use Rattle.layout.specs.declared.Layout.{Layout}
+use Rattle.layout.specs.Layout.{Few}
 use Rattle.layout.specs.Actions.{actionElementsOf}
 use Rattle.layout.specs.Labels.{analogLabels, Formed, Holds, OfMode}
-use Rattle.layout.proofs.LabelLaws.{mode-faces, mode-counts, mode-holds}
+use Rattle.layout.proofs.LabelLaws.{mode-faces, mode-counts, mode-holds, with-inputs-formed}
 use Rattle.layout.proofs.ActionLaws.{face-count}
+use Rattle.layout.proofs.Found.{Given}
 use Rattle.search.specs.Search.{placeGameInAspectOf}
 use Rattle.toolbar.specs.Toolbar.{anchorToolbarOf}
-use Rattle.arranged.proofs.Found.{Given}
-use Rattle.arranged.proofs.ArrangedLabels.{placed-formed}
-use Rattle.band.proofs.BandLabels.{with-inputs-formed}
+use Rattle.places.proofs.PlaceLabels.{placed-formed}
 use Rattle.defaults.specs.Defaults.{analogDefaultOf}
 use Rattle.defaults.proofs.DefaultLabels.{analog-formed}
 use Rattle.cutouts.specs.Cutouts.{avoidCutoutsOf}
@@ -48,7 +47,7 @@ module _ (w h rail face : Float) where
       cleared-formed : OfMode true psp (avoidCutoutsOf anchored w h cutouts)
       cleared-formed = let n = mode-counts true psp anchored (anchored-formed psp .0) in avoid-formed _ _ w h anchored (n .0) (n .1) cutouts (anchored-formed psp)
 
-      pub cleared-counts : (avoidCutoutsOf anchored w h cutouts .count ≤ 12) × (avoidCutoutsOf anchored w h cutouts .stickcount ≤ 2)
+      pub cleared-counts : Few (avoidCutoutsOf anchored w h cutouts)
       cleared-counts = mode-counts true psp (avoidCutoutsOf anchored w h cutouts) (cleared-formed .0)
 
 module _ (w h : Float) (picture : Rect) (cutouts : List Rect) (psp : Bool) where

@@ -11,6 +11,7 @@ use Rattle.prelude.proofs.EachLaws.{fold-ind, each-filter}
 use Rattle.float.specs.Float.{_⊖_, _⊗_, _⊘_, k1, k2, k3, k4, k48, k122, k184, k272, k480}
 use Rattle.float.specs.MinMax.{minOf}
 use Rattle.geometry.specs.declared.Rect.{Rect}
+use Rattle.geometry.specs.Offset.{centred}
 use Rattle.numerics.specs.Value.{P, N, E}
 use Rattle.numerics.specs.Rects.{Element, Area}
 use Rattle.numerics.specs.Range.{In, at, minus}
@@ -18,14 +19,13 @@ use Rattle.numerics.proofs.Bounds.{sub-law, div-law}
 use Rattle.numerics.proofs.Ranges.{in-reach, in-more, most-in, from-zero, area-side, add-in, sub-in, mul-in, div-in, min-in, cond-in, not-below, placed-in}
 use Rattle.numerics.proofs.Literals.{lit, f2, f3, f4, psp-wide}
 use Rattle.numerics.proofs.Shrunk.{signed-in, placed-shrunk}
-use Rattle.search.specs.Bounded.{Bounded, Shrunk}
+use Rattle.layout.proofs.Found.{Given}
+use Rattle.layout_ranges.specs.Bounded.{Bounded, Shrunk}
 use Rattle.search.proofs.Layouts.{place-bounded}
-use Rattle.search.proofs.Changes.{shrunk-bounded, anchored-shrunk, dpad-in, sticks-in, psp-in}
-use Rattle.search.specs.Search.{centred}
+use Rattle.layout_ranges.proofs.Changes.{shrunk-bounded, anchored-shrunk, dpad-in, sticks-in, psp-in}
+use Rattle.search.specs.Search.{aspectOf}
 use Rattle.toolbar.proofs.ToolbarRanges.{anchored-in, reusable-in}
-use Rattle.arranged.proofs.Found.{Given}
-use Rattle.arranged.proofs.PlaceRanges.{coordinate, well-faces-in, PlacesIn, controls-placed}
-use Rattle.band.specs.Band.{aspectOf}
+use Rattle.places.proofs.PlaceRanges.{coordinate, well-faces-in, PlacesIn, controls-placed}
 use Rattle.defaults.proofs.DefaultRanges.{analog-in}
 use Rattle.cutouts.specs.Cutouts.{avoidCutoutsOf}
 use Rattle.cutouts.proofs.CutoutRanges.{avoid-bounded}
@@ -68,10 +68,12 @@ rail-in psp W A t =
 camera-top-in : (w rail : Float) {h : Float} (cutouts : List Rect) → In h (at 1) (at 8192) → Each Element cutouts → In (cameraTopOf w h rail cutouts) (minus 21875) (at 8192)
 unfolding cameraTopOf
 camera-top-in w rail {h} cutouts H O =
-    fold-ind (λ y. In y (minus 21875) (at 8192)) (λ y. In y (minus 21875) (at 21875)) minOf (λ x y X Y. min-in X Y) (filterMap (inRailOf w rail) (λ c. c .y) cutouts) h (in-more (minus 21875) (at 8192) H tt tt)
+    let tops = filterMap (inRailOf w rail) (λ c. c .y) cutouts in
+    fold-ind (λ y. In y (minus 21875) (at 8192)) (λ y. In y (minus 21875) (at 21875)) minOf (λ x y X Y. min-in X Y) tops h (in-more (minus 21875) (at 8192) H tt tt)
     (each-filter (inRailOf w rail) (λ c. c .y) Element (λ y. In y (minus 21875) (at 21875)) (λ c C. most-in (C .y) tt) cutouts O)
 
-face-in : (w : Float) {h rail : Float} (cutouts : List Rect) → In h (at 1) (at 8192) → In rail (at 184) (at 4097) → Each Element cutouts → T (not (lt (sizeFaceOf w h rail cutouts) k122)) → In (sizeFaceOf w h rail cutouts) (at 122) (at 184)
+face-in : (w : Float) {h rail : Float} (cutouts : List Rect) → In h (at 1) (at 8192) → In rail (at 184) (at 4097) → Each Element cutouts
+    → T (not (lt (sizeFaceOf w h rail cutouts) k122)) → In (sizeFaceOf w h rail cutouts) (at 122) (at 184)
 unfolding sizeFaceOf
 face-in w {rail = rail} cutouts H R O t =
     let below = sub-in (sub-in (camera-top-in w rail cutouts H O) (lit 32) tt) (lit 8) tt in
@@ -111,7 +113,8 @@ module _ {w h : Float} (W : In w (at 1) (at 8192)) (H : In h (at 1) (at 8192)) w
       sticks-in L (placed-in (lit 4) y (lit 128) (lit 128) tt & placed-in (sub-in (sub-in W (lit 4) tt) (lit 128) tt) y (lit 128) (lit 128) tt & tt)
 
   module _ {picture : Rect} (A : Area picture) (psp : Bool) where
-    anchored-rails-in : (cutouts : List Rect) → Each Element cutouts → T (not (lt (cameraRail w h picture cutouts psp) k184)) → T (not (lt (cameraFace w h picture cutouts psp) k122)) → Shrunk (cameraLayout w h picture cutouts psp)
+    anchored-rails-in : (cutouts : List Rect) → Each Element cutouts
+        → T (not (lt (cameraRail w h picture cutouts psp) k184)) → T (not (lt (cameraFace w h picture cutouts psp) k122)) → Shrunk (cameraLayout w h picture cutouts psp)
     unfolding anchoredRailsOf
     anchored-rails-in cutouts O r f =
         let R = rail-in psp W A r in
@@ -121,8 +124,9 @@ module _ {w h : Float} (W : In w (at 1) (at 8192)) (H : In h (at 1) (at 8192)) w
     pub camera-bounded : (cutouts : List Rect) → Each Element cutouts → Given Bounded (analogCameraRailsOf w h picture cutouts psp)
     camera-bounded cutouts O =
         let holds = anchored-holds w h (cameraRail w h picture cutouts psp) (cameraFace w h picture cutouts psp) picture cutouts psp in
+        let avoided = avoid-bounded (from-zero W) (from-zero H) (cameraLayout w h picture cutouts psp) cutouts (holds .controls) (holds .sticks) in
         camera-case w h picture cutouts psp Bounded
-        (λ r f. place-bounded (avoid-bounded (from-zero W) (from-zero H) (cameraLayout w h picture cutouts psp) cutouts (holds .controls) (holds .sticks) (shrunk-bounded (anchored-rails-in cutouts O r f))) picture false k1 centred (aspectOf psp))
+        (λ r f. place-bounded (avoided (shrunk-bounded (anchored-rails-in cutouts O r f))) picture false k1 centred (aspectOf psp))
 
     -- with no cutouts no element moves
     pub camera-in : Given Shrunk (analogCameraRailsOf w h picture [] psp)

@@ -8,13 +8,14 @@ use Rattle.float.specs.Float.{_⊕_, _⊖_, _⊗_, _⊘_, k0, k1, k1·35, k2, k
 use Rattle.float.specs.MinMax.{minOf}
 use Rattle.geometry.specs.declared.Rect.{Rect}
 use Rattle.geometry.specs.Rect.{newOf}
+use Rattle.geometry.specs.Offset.{centred}
 use Rattle.layout.specs.declared.Layout.{Layout}
 use Rattle.layout.specs.Layout.{withDpad, withSticks, elementsOf}
-use Rattle.search.specs.Search.{centred, placeGameInAspectOf}
+use Rattle.layout.specs.Psp.{withInputsOf}
+use Rattle.search.specs.Search.{placeGameInAspectOf, aspectOf}
 use Rattle.toolbar.specs.Toolbar.{anchorToolbarOf, reusableTopOf}
-use Rattle.arranged.specs.declared.Places.{Places}
-use Rattle.arranged.specs.Places.{wellFacesOf, placedOf}
-use Rattle.band.specs.Band.{aspectOf, withInputsOf}
+use Rattle.places.specs.declared.Places.{Places}
+use Rattle.places.specs.Places.{wellFacesOf, placedOf}
 use Rattle.defaults.specs.Defaults.{analogDefaultOf}
 use Rattle.cutouts.specs.Cutouts.{hitsOf, avoidCutoutsOf}
 
@@ -25,8 +26,8 @@ measureRailOf w picture psp =
     (w ⊖ fullHeightWidth) ⊘ k2
 
 -- below the compact toolbar and a gap
-abbrev pub top : Float
-top = k32
+abbrev pub railTop : Float
+railTop = k32
 
 abbrev pub stick : Float
 stick = k128
@@ -36,7 +37,7 @@ outer = k4
 
 -- a cutout reaches below the top of a rail
 unfoldable pub inRailOf : Float → Float → Rect → Bool
-inRailOf w rail c = lt top (c .y ⊕ c .h) && (lt (c .x) rail || lt (w ⊖ rail) (c .x ⊕ c .w))
+inRailOf w rail c = lt railTop (c .y ⊕ c .h) && (lt (c .x) rail || lt (w ⊖ rail) (c .x ⊕ c .w))
 
 -- where the highest of these cutouts begins, else the screen's end
 unfoldable pub cameraTopOf : Float → Float → Float → List Rect → Float
@@ -45,16 +46,16 @@ cameraTopOf w h rail cutouts = foldl minOf h (filterMap (inRailOf w rail) (λ c.
 -- the digital well, above the camera and above the four keys
 unfoldable pub sizeFaceOf : Float → Float → Float → List Rect → Float
 sizeFaceOf w h rail cutouts =
-    minOf (minOf (minOf (rail ⊖ k8) k184) (cameraTopOf w h rail cutouts ⊖ top ⊖ k8)) (h ⊖ top ⊖ k224)
+    minOf (minOf (minOf (rail ⊖ k8) k184) (cameraTopOf w h rail cutouts ⊖ railTop ⊖ k8)) (h ⊖ railTop ⊖ k224)
 
 -- the keys lie beside the stick, out of the thumb's way
 unfoldable pub cameraPlacesOf : Float → Float → Float → Places
 cameraPlacesOf w rail face =
-    let auxiliaryY = top ⊕ face ⊕ k8 in
+    let auxiliaryY = railTop ⊕ face ⊕ k8 in
     let inner = rail ⊖ k48 in
     let right = w ⊖ inner ⊖ k48 in
     record {
-      faces = wellFacesOf (w ⊖ outer ⊖ face ⊘ k2) (top ⊕ face ⊘ k2) face;
+      faces = wellFacesOf (w ⊖ outer ⊖ face ⊘ k2) (railTop ⊕ face ⊘ k2) face;
       l1 = newOf inner (auxiliaryY ⊕ k52) k48 k48;
       l2 = newOf inner auxiliaryY k48 k48;
       r2 = newOf right auxiliaryY k48 k48;
@@ -69,7 +70,7 @@ cameraPlacesOf w rail face =
 unfoldable pub cameraRailedOf : Float → Float → Float → Float → Layout
 cameraRailedOf w h rail face =
     let mainY = h ⊖ k24 ⊖ stick in
-    let layout = withDpad (placedOf (analogDefaultOf w h) (cameraPlacesOf w rail face)) (newOf outer top face face) in
+    let layout = withDpad (placedOf (analogDefaultOf w h) (cameraPlacesOf w rail face)) (newOf outer railTop face face) in
     withSticks layout (newOf outer mainY stick stick ∷ newOf (w ⊖ outer ⊖ stick) mainY stick stick ∷ [])
 
 -- with the inputs of a psp, and the toolbar in its place

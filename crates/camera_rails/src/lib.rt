@@ -3,30 +3,30 @@
 ghost use mathlib.Core.Path.{_≡_};
 ghost use Prim.Native.Nat.{_≤_};
 ghost use Rattle.layout.specs.Layout.{cutoutList, elementList};
-ghost use Rattle.arranged.specs.Places.{maybe};
+ghost use Rattle.layout.specs.Maybe.{maybe};
 ghost use Rattle.cutouts.specs.Cutouts.{hitsOf};
 ghost use Rattle.camera_rails.specs.CameraRails.{measureRailOf, inRailOf, cameraTopOf, sizeFaceOf, cameraPlacesOf, cameraRailedOf, anchoredRailsOf, analogCameraRailsOf};
-use arranged::MaybeLayout;
-use arranged::Places;
-use arranged::no_layout;
-use arranged::placed;
-use arranged::well_faces;
-use band::aspect;
-use band::with_inputs;
 use cutouts::avoid_cutouts;
 use defaults::analog_default;
 use float::min;
 use float::pick;
+use geometry::CENTRED;
 use geometry::Rect;
 use layout::Cutouts;
 use layout::Elements;
 use layout::Layout;
-use search::CENTRED;
+use layout::MaybeLayout;
+use layout::no_layout;
+use layout::with_inputs;
+use places::Places;
+use places::placed;
+use places::well_faces;
+use search::aspect;
 use search::place_game_in_aspect;
 use toolbar::anchor_toolbar;
 use toolbar::reusable_top;
 
-const TOP: f32 = 32.0; // Below the compact toolbar and a gap.
+const RAIL_TOP: f32 = 32.0; // Below the compact toolbar and a gap.
 
 const STICK: f32 = 128.0;
 
@@ -44,7 +44,7 @@ fn measure_rail(w: f32, picture: Rect, psp: bool) -> f32
 fn in_rail(w: f32, rail: f32, c: Rect) -> bool
     ensures { λ r. ⌜ r ≡ inRailOf w rail c ⌝ }
 {
-    c.y + c.h > TOP && (c.x < rail || c.x + c.w > w - rail)
+    c.y + c.h > RAIL_TOP && (c.x < rail || c.x + c.w > w - rail)
 }
 
 // Where the highest of these cutouts begins, else the screen's end.
@@ -71,16 +71,16 @@ fn size_face(w: f32, h: f32, rail: f32, cutouts: Cutouts) -> f32
 {
     let camera_top = camera_top(w, h, rail, cutouts);
     min(
-        min(min(rail - 8.0, 184.0), camera_top - TOP - 8.0),
-        h - TOP - 224.0,
+        min(min(rail - 8.0, 184.0), camera_top - RAIL_TOP - 8.0),
+        h - RAIL_TOP - 224.0,
     )
 }
 
 fn camera_places(w: f32, rail: f32, face: f32) -> Places
     ensures { λ r. ⌜ r ≡ cameraPlacesOf w rail face ⌝ }
 {
-    let auxiliary_y = TOP + face + 8.0;
-    let faces = well_faces(w - OUTER - face / 2.0, TOP + face / 2.0, face);
+    let auxiliary_y = RAIL_TOP + face + 8.0;
+    let faces = well_faces(w - OUTER - face / 2.0, RAIL_TOP + face / 2.0, face);
     let inner = rail - 48.0;
     let right = w - inner - 48.0;
     Places {
@@ -97,7 +97,7 @@ fn camera_places(w: f32, rail: f32, face: f32) -> Places
 }
 
 // Some element overlaps a cutout.
-fn hits(elements: Elements, cutouts: Cutouts) -> bool
+fn element_hits(elements: Elements, cutouts: Cutouts) -> bool
     requires { ⌜ (elements .count ≤ 19) × (cutouts .count ≤ 16) ⌝ }
     ensures { λ r. ⌜ r ≡ hitsOf (elementList elements) (cutoutList cutouts) ⌝ }
 {
@@ -114,7 +114,7 @@ fn camera_railed(w: f32, h: f32, rail: f32, face: f32) -> Layout
     ensures { λ r. ⌜ (r ≡ cameraRailedOf w h rail face) × (r .count ≡ 12) × (r .stickcount ≡ 2) ⌝ }
 {
     let main_y = h - 24.0 - STICK;
-    let dpad = Rect::new(OUTER, TOP, face, face);
+    let dpad = Rect::new(OUTER, RAIL_TOP, face, face);
     let left = Rect::new(OUTER, main_y, STICK, STICK);
     let right = Rect::new(w - OUTER - STICK, main_y, STICK, STICK);
     let sticks = [left, right];
@@ -164,7 +164,7 @@ pub fn analog_camera_rails(
         return no_layout();
     }
     let anchored = anchored_rails(w, h, picture, cutouts, psp, rail, face);
-    if hits(anchored.elements(), cutouts) {
+    if element_hits(anchored.elements(), cutouts) {
         return no_layout();
     }
     let clear = avoid_cutouts(anchored, w, h, cutouts);

@@ -4,8 +4,9 @@ use mathlib.Core.List.{List, [], _∷_}
 use Prim.Native.Nat.{ℕ}
 use lib.Ieee.{Float, binary32, round}
 use Rattle.geometry.specs.declared.Rect.{Rect}
-use Rattle.geometry.specs.Rect.{newOf, emptyRect, overlapsOf}
+use Rattle.geometry.specs.Rect.{newOf, overlapsOf}
 use Rattle.layout.specs.declared.Layout.{Layout}
+use Rattle.layout.specs.Layout.{emptyLayout, withController}
 use Rattle.search.specs.Search.{clearPictureAspectOf}
 use Rattle.touch.specs.Touch.{maskNearOf}
 
@@ -15,10 +16,10 @@ pub data Question : Type 0 where
   touch : ℕ → ℕ → Question
   overlap : Rect → Rect → Question
 
-pub data Answer : Type 0 where
-  is : Rect → Answer
-  mask : ℕ → Answer
-  overlaps : Bool → Answer
+pub data Reply : Type 0 where
+  is : Rect → Reply
+  mask : ℕ → Reply
+  overlaps : Bool → Reply
 
 -- n / d as an f32
 abbrev pub ratio : ℕ → ℕ → Float
@@ -28,16 +29,16 @@ abbrev pub rect : ℕ → ℕ → ℕ → ℕ → Rect
 rect x y w h = newOf (ratio x 1) (ratio y 1) (ratio w 1) (ratio h 1)
 
 abbrev pub onlyDpad : Layout
-onlyDpad = record { game = emptyRect; dpad = rect 0 0 100 100; controls = []; count = 0; pause = emptyRect; playback = emptyRect; speed = emptyRect; mute = emptyRect; sticks = []; stickcount = 0 }
+onlyDpad = withController emptyLayout (rect 0 0 100 100) [] 0 [] 0
 
 -- what the definitions answer
-unfoldable pub answer : Question → Answer
+unfoldable pub answer : Question → Reply
 answer (picture obstacles) = is (clearPictureAspectOf (ratio 100 1) (ratio 100 1) obstacles (ratio 1 1))
 answer (touch x y) = mask (maskNearOf onlyDpad (ratio x 1) (ratio y 1) 0)
 answer (overlap a b) = overlaps (overlapsOf a b)
 
 -- what the document answers
-unfoldable pub cases : List (Question × Answer)
+unfoldable pub cases : List (Question × Reply)
 cases =
     (picture [], is (rect 0 0 100 100))
     ∷ (picture (rect 0 0 100 20 ∷ []), is (rect 10 20 80 80))

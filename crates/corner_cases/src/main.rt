@@ -2,7 +2,6 @@
 // the answers. A case prints `ok NAME`, or `WRONG NAME` if one of its calls is wrong.
 ghost use mathlib.Core.Path.{_≡_};
 ghost use Prim.Native.Nat.{_≤_};
-use arranged::MaybeLayout;
 use float::from_bits;
 use float::to_bits;
 use geometry::EMPTY;
@@ -12,11 +11,12 @@ use layout::Cutouts;
 use layout::Elements;
 use layout::Label;
 use layout::Layout;
+use layout::MaybeLayout;
 use libc::STDOUT_FILENO;
-use reader::short;
-use reader::word;
 use safe_area::SafeContent;
 use safe_area::SafeEdges;
+use wire::short;
+use wire::word;
 
 fn main() {
     let file = os::open_read(b"functions");
@@ -186,7 +186,7 @@ fn anchor_toolbar(a: &[u8; 116]) -> MaybeLayout {
         let layout = toolbar::anchor_toolbar(l, w, h, top, float_at(a, 4), holes);
         return MaybeLayout { some: true, layout };
     }
-    arranged::no_layout()
+    layout::no_layout()
 }
 
 // A side below 0, which no list has, has no answer.
@@ -194,7 +194,7 @@ fn controls(w: f32, h: f32, game: Rect, analog: bool, psp: bool) -> MaybeLayout 
     if w >= 0.0 && h >= 0.0 {
         return picture::controls(w, h, game, analog, psp, cutouts(0, game));
     }
-    arranged::no_layout()
+    layout::no_layout()
 }
 
 // The element of it that a call asks for, or 255 for none.
@@ -264,10 +264,7 @@ fn layout_at(a: &[u8; 116], i: usize) -> Layout
 fn control_at(a: &[u8; 116], i: usize) -> Control
     requires { ⌜ i ≤ 15 ⌝ }
 {
-    Control {
-        label: label(word_at(a, i)),
-        bounds: rect_at(a, i + 1),
-    }
+    Control::new(rect_at(a, i + 1), label(word_at(a, i)))
 }
 
 fn label(n: u32) -> Label {

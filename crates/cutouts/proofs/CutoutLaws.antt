@@ -2,9 +2,8 @@
 use mathlib.Core.Path.{_≡_, refl, ap, _∙_}
 use mathlib.Core.Bool.{true}
 use mathlib.Core.List.{List, [], _∷_, foldl}
-use mathlib.Core.Logic.{_⊎_, inl, inr}
+use mathlib.Core.Logic.{inl, inr}
 use Prim.Native.Nat.{ℕ, zero, suc, _≤_}
-use native.Mathlib.Omega.{arith}
 use lib.Dec.{eqb}
 use lib.Ieee.{Float, binary32}
 use lib.Ieee.Fits.{add-fits}
@@ -14,18 +13,17 @@ use Rattle.prelude.specs.Lists.{allOf}
 use Rattle.prelude.proofs.ListLaws.{find-passes}
 use Rattle.prelude.proofs.EachLaws.{fold-keeps}
 use Rattle.geometry.specs.declared.Rect.{Rect}
-use Rattle.geometry.specs.Rect.{insideOf}
+use Rattle.geometry.specs.Rect.{shiftedOf, insideOf}
 use Rattle.layout.specs.declared.Label.{Label}
 use Rattle.layout.specs.declared.Layout.{Layout}
 use Rattle.layout.specs.Actions.{actionElementsOf}
 use Rattle.layout.specs.Layout.{anyRect, elementsOf}
 use Rattle.layout.specs.Labels.{Formed}
 use Rattle.layout.proofs.LabelLaws.{set-elements-formed}
-use Rattle.moves.specs.declared.Move.{Move}
 use Rattle.moves.specs.declared.Move.the-variants.{Stay, Go}
-use Rattle.moves.specs.Moves.{movedOf, clearOf, allClearOf, candidatesOf, orderedOf, searchOf}
+use Rattle.moves.specs.Moves.{clearOf, allClearOf, firstClearOf, candidatesOf, orderedOf, searchOf}
 use Rattle.cutouts.specs.Cutouts.{withAreaOf, membersOf, othersOf, hitsOf, shiftOf, settleOf, singlesOf, avoidOf, avoidCutoutsOf}
-use Rattle.cutouts.specs.Settled.{Settled, AllSettled, none, next}
+use Rattle.cutouts.specs.Settled.{Moved, Settled, AllSettled, none, next}
 
 module _ {w h : Float} where
   all-length : {xs ys : List Rect} → AllSettled w h xs ys → length ys ≡ length xs
@@ -54,44 +52,48 @@ module _ {w h : Float} where
 module _ (w h : Float) where
   module _ (holes others elements : List Rect) where
     -- a move that leaves the group clear
-    all-move : (dx dy : Float) (group : List ℕ) (es : List Rect) → AllSettled w h elements es → allClearOf w h holes others (membersOf elements group) (Go dx dy) ≡ true
-        → AllSettled w h elements (foldl (λ es i. set es i (movedOf (Go dx dy) (getD elements i anyRect))) es group)
+    all-move : (dx dy : Float) (group : List ℕ) (es : List Rect) → AllSettled w h elements es → allClearOf w h holes others (membersOf elements group) (dx, dy) ≡ true
+        → AllSettled w h elements (foldl (λ es i. set es i (shiftedOf (getD elements i anyRect) dx dy)) es group)
     unfolding allOf clearOf
     all-move dx dy [] es e a = e
     all-move dx dy (i ∷ group) es e a =
         let r = getD elements i anyRect in
-        let b = both (clearOf w h holes others (movedOf (Go dx dy) r)) (allClearOf w h holes others (membersOf elements group) (Go dx dy)) a in
-        let c = both (insideOf (movedOf (Go dx dy) r) w h) _ (b .0) in
-        all-move dx dy group (set es i (movedOf (Go dx dy) r)) (all-set i (movedOf (Go dx dy) r) e (inr (record { inside = c .0; fitsx = add-fits binary32 (r .x) dx; fitsy = add-fits binary32 (r .y) dy; width = refl; height = refl }))) (b .1)
+        let new = shiftedOf r dx dy in
+        let b = both (clearOf w h holes others new) (allClearOf w h holes others (membersOf elements group) (dx, dy)) a in
+        let c = both (insideOf new w h) _ (b .0) in
+        let m : Moved w h r new = record { inside = c .0; fitsx = add-fits binary32 (r .x) dx; fitsy = add-fits binary32 (r .y) dy; width = refl; height = refl } in
+        all-move dx dy group (set es i new) (all-set i new e (inr m)) (b .1)
 
-    all-shift : (group : List ℕ) (m : Move) → (m ≡ Stay) ⊎ (allClearOf w h holes others (membersOf elements group) m ≡ true) → AllSettled w h elements (shiftOf elements group m)
+    -- the move that is chosen
+    all-search : (group : List ℕ) (candidates : List (Float × Float)) → AllSettled w h elements (shiftOf elements group (firstClearOf w h holes others (membersOf elements group) candidates))
     unfolding shiftOf
-    all-shift group Stay q = all-same elements
-    all-shift group (Go dx dy) (inl e) = let z : _≡_ {A = ℕ} 0 1 = cc in absurd (let y : ⊥ = omega arith in y)
-    all-shift group (Go dx dy) (inr a) = all-move dx dy group elements (all-same elements) a
+    all-search group candidates =
+        find-passes (allClearOf w h holes others (membersOf elements group)) (λ m. AllSettled w h elements (shiftOf elements group m)) (λ (dx, dy). Go dx dy) Stay candidates (all-same elements)
+        (λ (dx, dy) a. all-move dx dy group elements (all-same elements) a)
 
   all-settle : (holes elements : List Rect) (group : List ℕ) → AllSettled w h elements (settleOf w h holes elements group)
   unfolding settleOf searchOf
   all-settle holes elements group =
       let members = membersOf elements group in
-      let others = othersOf elements group in
-      either (AllSettled w h elements) (hitsOf members holes) (all-shift holes others elements group _ (find-passes (allClearOf w h holes others members) Stay (orderedOf (candidatesOf members holes)))) (all-same elements)
+      either (AllSettled w h elements) (hitsOf members holes) (all-search holes (othersOf elements group) elements group (orderedOf (candidatesOf members holes))) (all-same elements)
 
   module _ (l : Layout) (cutouts : List Rect) where
     -- the elements after the pass
-    abbrev pub after : List Rect
-    after = avoidOf w h (withAreaOf cutouts) (actionElementsOf l) (elementsOf l)
+    abbrev pub elementsAfter : List Rect
+    elementsAfter = avoidOf w h (withAreaOf cutouts) (actionElementsOf l) (elementsOf l)
 
-    pub all-after : AllSettled w h (elementsOf l) after
+    pub all-after : AllSettled w h (elementsOf l) elementsAfter
     all-after =
-        fold-keeps (AllSettled w h (elementsOf l)) (settleOf w h (withAreaOf cutouts)) (λ es g e. all-then e (all-settle (withAreaOf cutouts) es g)) (actionElementsOf l ∷ singlesOf (actionElementsOf l) (length (elementsOf l)))
+        fold-keeps (AllSettled w h (elementsOf l)) (settleOf w h (withAreaOf cutouts)) (λ es g e. all-then e (all-settle (withAreaOf cutouts) es g))
+        (actionElementsOf l ∷ singlesOf (actionElementsOf l) (length (elementsOf l)))
         (elementsOf l) (all-same (elementsOf l))
 
-    pub length-after : length after ≡ length (elementsOf l)
+    pub length-after : length elementsAfter ≡ length (elementsOf l)
     length-after = all-length all-after
 
 -- the cutout pass keeps labels, counts and arrays
-pub avoid-formed : (labels : List Label) (sticks : ℕ) (w h : Float) (l : Layout) → l .count ≤ 12 → l .stickcount ≤ 2 → (cutouts : List Rect) → Formed labels sticks l → Formed labels sticks (avoidCutoutsOf l w h cutouts)
+pub avoid-formed : (labels : List Label) (sticks : ℕ) (w h : Float) (l : Layout) → l .count ≤ 12 → l .stickcount ≤ 2 → (cutouts : List Rect)
+    → Formed labels sticks l → Formed labels sticks (avoidCutoutsOf l w h cutouts)
 unfolding avoidCutoutsOf
 avoid-formed labels sticks w h l cs ss cutouts f =
     either (Formed labels sticks) (eqb (length (withAreaOf cutouts)) 0) f (set-elements-formed labels sticks l cs ss _ (length-after w h l cutouts) f)

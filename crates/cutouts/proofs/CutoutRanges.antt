@@ -28,12 +28,11 @@ use Rattle.numerics.proofs.Operations.{fits-whole, less}
 use Rattle.numerics.proofs.Bounds.{eps-pos, most-magnitude, magnitude-most, between-most, le-law, zero-most, zero-parts}
 use Rattle.numerics.proofs.Ranges.{add-in, most-in, moved-in, range-most, tested}
 use Rattle.numerics.proofs.Literals.{lit}
-use Rattle.search.specs.Bounded.{Bounded}
-use Rattle.search.proofs.Layouts.{elements-in}
-use Rattle.search.proofs.Changes.{set-elements-in}
+use Rattle.layout_ranges.specs.Bounded.{Bounded}
+use Rattle.layout_ranges.proofs.Changes.{set-elements-in, elements-in}
 use Rattle.cutouts.specs.Cutouts.{withAreaOf, avoidCutoutsOf}
 use Rattle.cutouts.specs.Settled.{Settled, AllSettled, none, next}
-use Rattle.cutouts.proofs.CutoutLaws.{after, all-after, length-after}
+use Rattle.cutouts.proofs.CutoutLaws.{elementsAfter, all-after, length-after}
 
 -- ---- a move may be of any length, so the tests alone bound where it ends
 -- a sum of 32768 at least and a side
@@ -41,7 +40,8 @@ far-sum : (t : Bool) (a b c : ℕ) → 0 < c → 32768 * c ≤ a → b ≤ 8593 
 unfolding sum
 far-sum false a b c C h k = round-mono binary32 16384 1 (a + b) c (omega arith) C (omega arith)
 far-sum true a b c C h k =
-    by-test (λ z. T (le (round binary32 false 16384 1) z)) (ltb a b) (λ t. let v = ltb→lt a b t in absurd (let y : ⊥ = omega arith in y)) (λ t. round-mono binary32 16384 1 (a - b) c (omega arith) C (omega arith))
+    by-test (λ z. T (le (round binary32 false 16384 1) z)) (ltb a b) (λ t. let v = ltb→lt a b t in absurd (let y : ⊥ = omega arith in y))
+    (λ t. round-mono binary32 16384 1 (a - b) c (omega arith) C (omega arith))
 
 -- fractions over c, by their units
 units-of : (k c : ℕ) → k * c * 2 ^ 149 ≡ eps * (256 * k) * c
@@ -79,7 +79,8 @@ far (fin false m e) (fin t n d) f R s = go (leb M (eps * (256 * 32768))) (leb→
     go true u v = inl (magnitude-most W (u tt))
     go false u v =
         let j = mul-le-mul-right (down d) (less (down e) (eps * (256 * 32768)) M (2 ^ 149) (32768 * down e) (m * up e) (sym (units-of 32768 (down e))) (sym W) (pow-pos 149) (le-of-lt (v tt))) in
-        let k = mul-le-mul-right (down e) (less (down d) (magnitude (fin t n d)) (eps * maxSide) (2 ^ 149) (n * up d) (8593 * down d) (sym (R .whole)) (sym (units-of 8593 (down d))) (pow-pos 149) (most-magnitude R)) in
+        let side = less (down d) (magnitude (fin t n d)) (eps * maxSide) (2 ^ 149) (n * up d) (8593 * down d) (sym (R .whole)) (sym (units-of 8593 (down d))) (pow-pos 149) (most-magnitude R) in
+        let k = mul-le-mul-right (down e) side in
         inr (far-sum t (m * up e * down d) (n * up d * down e) (down e * down d) (mul-pos (down-pos e) (down-pos d)) (omega (arith, j)) (omega (arith, k)))
 
 -- one side of an element that was moved
@@ -108,4 +109,4 @@ module _ {w h : Float} (W : In w (at 0) (at 8192)) (H : In h (at 0) (at 8192)) w
   unfolding avoidCutoutsOf
   avoid-bounded l cutouts cs ss L =
       let n = length-after w h l cutouts ∙ length-elements l cs ss in
-      either Bounded (isEmpty (withAreaOf cutouts)) L (set-elements-in (after w h l cutouts) (omega (arith, n)) L (all-settled-in (all-after w h l cutouts) (elements-in l L)))
+      either Bounded (isEmpty (withAreaOf cutouts)) L (set-elements-in (elementsAfter w h l cutouts) (omega (arith, n)) L (all-settled-in (all-after w h l cutouts) (elements-in l L)))

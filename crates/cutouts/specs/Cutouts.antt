@@ -9,14 +9,14 @@ use Rattle.prelude.specs.Lists.{range, anyOf, filterMap, retain, isEmpty}
 use Rattle.prelude.specs.Each.{Each}
 use Rattle.float.specs.Float.{k0}
 use Rattle.geometry.specs.declared.Rect.{Rect}
-use Rattle.geometry.specs.Rect.{overlapsOf}
+use Rattle.geometry.specs.Rect.{shiftedOf, overlapsOf}
 use Rattle.layout.specs.declared.Layout.{Layout}
 use Rattle.layout.specs.Actions.{actionElementsOf}
 use Rattle.layout.specs.Elements.{setElementsOf}
 use Rattle.layout.specs.Layout.{anyRect, elementsOf}
 use Rattle.moves.specs.declared.Move.{Move}
 use Rattle.moves.specs.declared.Move.the-variants.{Stay, Go}
-use Rattle.moves.specs.Moves.{movedOf, searchOf}
+use Rattle.moves.specs.Moves.{searchOf}
 use Rattle.cutouts.specs.declared.Group.{Group}
 
 unfoldable pub hasAreaOf : Rect → Bool
@@ -43,7 +43,7 @@ abbrev pub hitsOf : List Rect → List Rect → Bool
 hitsOf original holes = anyOf (λ r. anyOf (overlapsOf r) holes) original
 
 abbrev pub shiftByOf : List Rect → List ℕ → Float → Float → List Rect
-shiftByOf elements group dx dy = foldl (λ es i. set es i (movedOf (Go dx dy) (getD elements i anyRect))) elements group
+shiftByOf elements group dx dy = foldl (λ es i. set es i (shiftedOf (getD elements i anyRect) dx dy)) elements group
 
 -- the group moved as the search says
 unfoldable pub shiftOf : List Rect → List ℕ → Move → List Rect

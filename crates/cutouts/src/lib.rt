@@ -4,7 +4,7 @@ ghost use mathlib.Core.List.{[], _∷_};
 ghost use Prim.Native.Nat.{_≤_};
 ghost use lib.ListN.{length, take};
 ghost use Rattle.layout.specs.Actions.{actionElementsOf};
-ghost use Rattle.layout.specs.Layout.{cutoutList, elementCountOf, elementList};
+ghost use Rattle.layout.specs.Layout.{cutoutList, elementCountOf, elementList, Few};
 ghost use Rattle.cutouts.specs.Cutouts.{hasAreaOf, withAreaOf, inGroupOf, membersOf, othersOf, hitsOf, shiftByOf, shiftOf, settleOf, avoidOf, avoidCutoutsOf, groupList, BelowAll};
 use geometry::Rect;
 use layout::Cutouts;
@@ -112,7 +112,7 @@ fn shift_by(elements: Elements, group: Group, dx: f32, dy: f32) -> Elements
     let mut el = old;
     for k in 0..n {
         let i = at[k];
-        el[i] = moves::moved(old[i], dx, dy);
+        el[i] = old[i].shifted(dx, dy);
     }
     Elements {
         at: el,
@@ -195,7 +195,7 @@ fn faces(l: Layout) -> Group
 }
 
 pub fn avoid_cutouts(l: Layout, w: f32, h: f32, cutouts: Cutouts) -> Layout
-    requires { ⌜ ((l .count ≤ 12) × (l .stickcount ≤ 2)) × ((cutouts .count ≤ 16) × (length (actionElementsOf l) ≤ 4)) ⌝ }
+    requires { ⌜ Few l × ((cutouts .count ≤ 16) × (length (actionElementsOf l) ≤ 4)) ⌝ }
     ensures { λ r. ⌜ r ≡ avoidCutoutsOf l w h (cutoutList cutouts) ⌝ }
 {
     // Most screens have none: no array is filled for them.

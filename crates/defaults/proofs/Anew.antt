@@ -15,10 +15,10 @@ use Rattle.arranged.proofs.ControlLaws.{finished-anew}
 use Rattle.defaults.specs.declared.Size.{Size}
 use Rattle.defaults.specs.Controls.{analogControlsOf}
 use Rattle.defaults.proofs.ControlLaws.{added-bare, shrunk-bare}
-use Rattle.defaults.specs.Defaults.{clearOf, newLayoutOf, analogFullOf, shrunkOf}
+use Rattle.defaults.specs.Defaults.{clearGameOf, newLayoutOf, analogFullOf, shrunkOf}
 use Rattle.defaults.proofs.DefaultLabels.{default-formed}
 
-pub clear-anew : (l : Layout) (w h : Float) (picture : Rect) → clearOf (finishedOf l w h) picture ≡ clearOf (anchoredOf l w h) picture
+pub clear-anew : (l : Layout) (w h : Float) (picture : Rect) → clearGameOf (finishedOf l w h) picture ≡ clearGameOf (anchoredOf l w h) picture
 unfolding finishedOf placeGameInAspectOf elementsOf
 clear-anew l w h picture = refl
 

@@ -6,10 +6,10 @@ use Rattle.prelude.proofs.Booleans.{either}
 use Rattle.float.specs.Float.{_⊕_, _⊖_, _⊗_, _⊘_, k0·01, k1·35, k2, k8, k16, k160, k304}
 use Rattle.geometry.specs.declared.Rect.{Rect}
 use Rattle.layout.specs.declared.Layout.{Layout}
-use Rattle.arranged.proofs.Found.{Given, maybe-case}
+use Rattle.layout.proofs.Found.{Given, maybe-case}
 use Rattle.arranged.specs.Arranged.{arrangedOf, sideRailsOf}
 use Rattle.band.specs.Band.{controllerBandOf}
-use Rattle.defaults.specs.Defaults.{widerOf, widerIf, clearOf, tryDockOf, trySideOf, tryBandOf, defaultInOf}
+use Rattle.defaults.specs.Defaults.{widerOf, widerIf, clearGameOf, tryDockOf, trySideOf, tryBandOf, defaultInOf}
 
 module _ (C : Layout → Type 0) where
   wider-case : {l m : Layout} → C l → C m → C (widerOf l m)
@@ -21,10 +21,10 @@ module _ (C : Layout → Type 0) where
   band-case {l} w h analog picture p q = maybe-case (λ o. C (widerIf l o)) _ p (λ band e. wider-case p (q band e))
 
   module _ (w h : Float) (cutouts : List Rect) (picture : Rect) where
-    pub default-case : ((compact : Bool) → C (clearOf (arrangedOf w h compact) picture)) → C (clearOf (sideRailsOf w h (picture .h) cutouts) picture)
+    pub default-case : ((compact : Bool) → C (clearGameOf (arrangedOf w h compact) picture)) → C (clearGameOf (sideRailsOf w h (picture .h) cutouts) picture)
         → Given C (controllerBandOf w h false false picture) → C (defaultInOf w h cutouts picture)
     unfolding defaultInOf tryDockOf trySideOf
     default-case p q r =
-        let rails = clearOf (arrangedOf w h false) picture in
+        let rails = clearGameOf (arrangedOf w h false) picture in
         let docked = either C (le k160 (rails .dpad .w) && le (k2 ⊗ ((rails .dpad .w ⊖ k8) ⊘ k2) ⊕ k16) (w ⊖ k2 ⊗ (k16 ⊕ rails .dpad .w))) (wider-case (p false) (p true)) (p false) in
         band-case w h false picture (either C (lt (h ⊗ k1·35) w && le k304 h) (wider-case docked q) docked) r

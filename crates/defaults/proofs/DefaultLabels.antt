@@ -13,22 +13,24 @@ use Rattle.layout.specs.declared.Label.{Label}
 use Rattle.layout.specs.declared.Layout.{Layout}
 use Rattle.layout.specs.Layout.{elementsOf}
 use Rattle.layout.specs.Labels.{standardLabels, analogLabels, pspLabels, Formed}
-use Rattle.layout.proofs.LabelLaws.{set-elements-formed, mode-counts}
+use Rattle.layout.proofs.LabelLaws.{set-elements-formed, mode-counts, with-inputs-formed}
 use Rattle.search.specs.Search.{placeGameInAspectOf}
+use Rattle.places.proofs.PlaceLabels.{placed-formed}
 use Rattle.arranged.specs.Arranged.{arrangedOf, sideRailsOf}
-use Rattle.arranged.proofs.ArrangedLabels.{placed-formed, finished-formed, arranged-formed, side-rails-formed}
-use Rattle.band.proofs.BandLabels.{with-analog-formed, with-inputs-formed, band-formed}
+use Rattle.arranged.proofs.ArrangedLabels.{finished-formed, arranged-formed, side-rails-formed}
+use Rattle.band.proofs.BandLabels.{with-analog-formed, band-formed}
 use Rattle.defaults.specs.declared.Size.{Size}
-use Rattle.defaults.specs.Defaults.{clearOf, defaultInOf, newLayoutOf, analogFullOf, size, scaledRectOf, shrunkOf, analogDefaultOf, pspOf}
+use Rattle.defaults.specs.Defaults.{clearGameOf, defaultInOf, newLayoutOf, analogFullOf, size, scaledRectOf, shrunkOf, analogDefaultOf, pspOf}
 use Rattle.defaults.proofs.DefaultCases.{band-case, default-case}
 
 module _ (labels : List Label) (sticks : ℕ) (l : Layout) (f : Formed labels sticks l) where
   shrunk-formed : l .count ≤ 12 → l .stickcount ≤ 2 → (requested full : Size) → Formed labels sticks (shrunkOf l requested full)
   unfolding shrunkOf
   shrunk-formed cs ss requested full =
-      either (Formed labels sticks) (ne (requested .w) (full .w) || ne (requested .h) (full .h)) (set-elements-formed labels sticks l cs ss _ (length-map (elementsOf l) (scaledRectOf requested full)) f) f
+      let scaled = set-elements-formed labels sticks l cs ss _ (length-map (elementsOf l) (scaledRectOf requested full)) f in
+      either (Formed labels sticks) (ne (requested .w) (full .w) || ne (requested .h) (full .h)) scaled f
 
-  clear-formed : (picture : Rect) → Formed labels sticks (clearOf l picture)
+  clear-formed : (picture : Rect) → Formed labels sticks (clearGameOf l picture)
   unfolding placeGameInAspectOf
   clear-formed picture = f
 

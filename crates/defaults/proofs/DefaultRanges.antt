@@ -10,6 +10,7 @@ use Rattle.float.specs.Float.{_⊗_, _⊘_, k0, k1, k1·35, k3, k4, k360}
 use Rattle.float.specs.MinMax.{maxOf}
 use Rattle.geometry.specs.declared.Rect.{Rect}
 use Rattle.geometry.specs.Rect.{newOf}
+use Rattle.geometry.specs.Offset.{centred}
 use Rattle.layout.specs.declared.Layout.{Layout}
 use Rattle.layout.proofs.LabelLaws.{mode-holds}
 use Rattle.numerics.specs.Rects.{Element, maxArea, Area, OnScreen, Key, margin, shrunkMargin}
@@ -18,11 +19,10 @@ use Rattle.numerics.proofs.Bounds.{most-more, max-law, zero-most}
 use Rattle.numerics.proofs.Ranges.{in-more, add-in, sub-in, div-in, max-in, above-zero, clamp-in, cond-in, range-most, from-zero, placed-in}
 use Rattle.numerics.proofs.Literals.{lit, f2}
 use Rattle.numerics.proofs.Shrunk.{Shrinks, shrunk-placed, placed-shrunk}
-use Rattle.search.specs.Bounded.{Arranged, Shrunk}
+use Rattle.layout_ranges.specs.Bounded.{Arranged, Shrunk}
 use Rattle.search.proofs.Layouts.{place-bounded}
-use Rattle.search.proofs.Changes.{arranged-shrunk, anchored-shrunk, dpad-in, psp-in, map-elements-in}
-use Rattle.search.specs.Search.{centred}
-use Rattle.arranged.proofs.PlaceRanges.{Coordinate, coordinate, FacesIn, well-faces-in, PlacesIn, controls-placed}
+use Rattle.layout_ranges.proofs.Changes.{arranged-shrunk, anchored-shrunk, dpad-in, psp-in, map-elements-in}
+use Rattle.places.proofs.PlaceRanges.{Coordinate, coordinate, FacesIn, well-faces-in, PlacesIn, controls-placed}
 use Rattle.arranged.proofs.ArrangedRanges.{finished-in, arranged-in, side-rails-in}
 use Rattle.band.proofs.BandRanges.{with-analog-in, band-in}
 use Rattle.defaults.specs.declared.Size.{Size}
@@ -61,9 +61,12 @@ sizes-in {w} {h} W H =
     let bottom = in-more (at 24) (at 32) (cond-in landscape (clamp-in (sub-in H (lit 336) tt) (lit 24) (lit 32)) (lit 32)) tt tt in
     let half = div-in W f2 tt in
     let stick = in-more (at 104) (at 128) (cond-in landscape (lit 104) (clamp-in (sub-in half (lit 76) tt) (lit 104) (lit 128))) tt tt in
-    let face = in-more (at 122) (at 184) (cond-in landscape (clamp-in (sub-in (sub-in (sub-in (sub-in (sub-in H (lit 56) tt) (lit 48) tt) (lit 16) tt) stick tt) bottom tt) (lit 122) (lit 184)) (clamp-in (sub-in half (lit 20) tt) (lit 122) (lit 184))) tt tt in
+    let high = sub-in (sub-in (sub-in (sub-in (sub-in H (lit 56) tt) (lit 48) tt) (lit 16) tt) stick tt) bottom tt in
+    let wide = sub-in half (lit 20) tt in
+    let face = in-more (at 122) (at 184) (cond-in landscape (clamp-in high (lit 122) (lit 184)) (clamp-in wide (lit 122) (lit 184))) tt tt in
     let column = in-more (at 122) (at 192) (max-in face (add-in stick (lit 56) tt)) tt tt in
-    record { bottom = bottom; stick = stick; face = face; column = column; shoulder = in-more (at 48) (at 96) (cond-in (sizeHalvesOf w h .middle) (lit 88) (div-in (sub-in column (lit 8) tt) f2 tt)) tt tt }
+    let shoulder = in-more (at 48) (at 96) (cond-in (sizeHalvesOf w h .middle) (lit 88) (div-in (sub-in column (lit 8) tt) f2 tt)) tt tt in
+    record { bottom = bottom; stick = stick; face = face; column = column; shoulder = shoulder }
 
 record HalvesIn (b : Halves) : Type 0 where
   pub w : In (b .w) (at 360) (at 8192)
@@ -86,6 +89,8 @@ halves-in {s = s} W H S =
     let faceY = sub-in (sub-in mainY (lit 8) tt) (S .face) tt in
     let inner = add-in (add-in (lit 16) (S .column) tt) (lit 8) tt in
     let above = sub-in faceY (lit 56) tt in
+    let fx = coordinate (sub-in (sub-in W (lit 16) tt) (div-in (S .column) f2 tt) tt) tt in
+    let fy = coordinate (add-in faceY (div-in (S .face) f2 tt) tt) tt in
     record {
       w = W;
       stick = S .stick;
@@ -94,7 +99,7 @@ halves-in {s = s} W H S =
       digitalx = coordinate (add-in (lit 16) (div-in (sub-in (S .column) (S .face) tt) f2 tt) tt) tt;
       mainy = coordinate mainY tt;
       facey = coordinate faceY tt;
-      faces = well-faces-in (coordinate (sub-in (sub-in W (lit 16) tt) (div-in (S .column) f2 tt) tt) tt) (coordinate (add-in faceY (div-in (S .face) f2 tt) tt) tt) (in-more (at 122) (at 200) (S .face) tt tt);
+      faces = well-faces-in fx fy (in-more (at 122) (at 200) (S .face) tt tt);
       x1 = in-more (at 0) (at 256) (cond-in (s .middle) inner (add-in (lit 16) (lit 0) tt)) tt tt;
       x2 = in-more (at 0) (at 256) (cond-in (s .middle) inner (add-in (lit 16) (add-in (S .shoulder) (lit 8) tt) tt)) tt tt;
       y1 = coordinate (cond-in (s .middle) (add-in faceY (lit 56) tt) above) tt;
@@ -128,15 +133,19 @@ full-in W H =
     let high = in-more (at 1) (at 8192) H tt tt in
     let standard = default-in [] (from-zero wide) (from-zero high) tt (screen-area wide high) (from-zero high) in
     let digital = dpad-in (controls-placed (λ r P. P) standard places) (placed-in (B .digitalx) (B .facey) (B .face) (B .face) tt) in
-    with-analog-in digital (places .l3) (places .r3) (placed-in (lit 16) (B .mainy) (B .stick) (B .stick) tt) (placed-in (sub-in (sub-in (B .w) (lit 16) tt) (B .stick) tt) (B .mainy) (B .stick) (B .stick) tt)
+    let left = placed-in (lit 16) (B .mainy) (B .stick) (B .stick) tt in
+    let right = placed-in (sub-in (sub-in (B .w) (lit 16) tt) (B .stick) tt) (B .mainy) (B .stick) (B .stick) tt in
+    with-analog-in digital (places .l3) (places .r3) left right
 
 -- ---- `shrunk`
-shrunk-layout-in : (l : Layout) {requested full : Size} → Shrinks (requested .w) (full .w) → Shrinks (requested .h) (full .h) → l .count ≤ length (l .controls) → l .stickcount ≤ length (l .sticks) → Arranged l
-    → Shrunk (shrunkOf l requested full)
+shrunk-layout-in : (l : Layout) {requested full : Size} → Shrinks (requested .w) (full .w) → Shrinks (requested .h) (full .h)
+    → l .count ≤ length (l .controls) → l .stickcount ≤ length (l .sticks) → Arranged l → Shrunk (shrunkOf l requested full)
 unfolding shrunkOf
 shrunk-layout-in l {requested} {full} W H cs ss L =
+    let scaled = scaledRectOf requested full in
     either Shrunk (ne (requested .w) (full .w) || ne (requested .h) (full .h))
-    (map-elements-in (OnScreen margin) (Key margin) (OnScreen shrunkMargin) (Key shrunkMargin) (scaledRectOf requested full) (λ r P. shrunk-placed W H P tt) (λ r P. shrunk-placed W H P tt) (λ r P. placed-shrunk P tt) l cs ss L)
+    (map-elements-in (OnScreen margin) (Key margin) (OnScreen shrunkMargin) (Key shrunkMargin) scaled
+    (λ r P. shrunk-placed W H P tt) (λ r P. shrunk-placed W H P tt) (λ r P. placed-shrunk P tt) l cs ss L)
     (arranged-shrunk L)
 
 shrinks : {x : Float} → In x (at 1) (at 8192) → Shrinks x (maxOf x k360)
@@ -151,7 +160,9 @@ module _ {w h : Float} (W : In w (at 1) (at 8192)) (H : In h (at 1) (at 8192)) w
       let layout = analogFullOf (full .w) (full .h) in
       let k = mode-holds true false layout (full-formed (full .w) (full .h)) in
       let shrunk = shrunk-layout-in layout {requested = size w h} {full = full} (shrinks W) (shrinks H) (k .controls) (k .sticks) (full-in (shrinks W .full) (shrinks H .full)) in
-      band-case Shrunk w h true (newOf k0 k0 w h) (anchored-shrunk (finished-in (shrunkOf layout (size w h) full) (from-zero W) (from-zero H) shrunk)) (λ band e. arranged-shrunk (band-in true false (from-zero W) (from-zero H) (screen-area W H) band e))
+      let finished = anchored-shrunk (finished-in (shrunkOf layout (size w h) full) (from-zero W) (from-zero H) shrunk) in
+      let band = band-in true false (from-zero W) (from-zero H) (screen-area W H) in
+      band-case Shrunk w h true (newOf k0 k0 w h) finished (λ l e. arranged-shrunk (band l e))
 
   pub psp-default-in : Shrunk (pspOf w h)
   unfolding pspOf

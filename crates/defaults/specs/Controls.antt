@@ -2,16 +2,16 @@
 use lib.Ieee.{Float}
 use Rattle.geometry.specs.declared.Rect.{Rect}
 use Rattle.layout.specs.declared.Layout.{Layout}
+use Rattle.places.specs.Places.{analogControllerOf}
 use Rattle.arranged.specs.Arranged.{finishedOf}
-use Rattle.arranged.specs.Places.{analogOf}
-use Rattle.defaults.specs.Defaults.{clearOf, sizeHalvesOf, measureHalvesOf, halfPlacesOf, halfDpad, leftStick, rightStick}
+use Rattle.defaults.specs.Defaults.{clearGameOf, sizeHalvesOf, measureHalvesOf, halfPlacesOf, halfDpad, halfLeftStick, halfRightStick}
 
 -- controls with the toolbar at its place and the largest game in the picture's area
 abbrev pub finishedInOf : Layout → Float → Float → Rect → Layout
-finishedInOf controls w h picture = clearOf (finishedOf controls w h) picture
+finishedInOf controls w h picture = clearGameOf (finishedOf controls w h) picture
 
 -- the controls of `analogFullOf`, without toolbar and game (`full-bare` of proofs/Anew)
 unfoldable pub analogControlsOf : Float → Float → Layout
 analogControlsOf w h =
     let b = measureHalvesOf w h (sizeHalvesOf w h) in
-    analogOf (halfPlacesOf b) (halfDpad b) (leftStick b) (rightStick b)
+    analogControllerOf (halfPlacesOf b) (halfDpad b) (halfLeftStick b) (halfRightStick b)

@@ -7,13 +7,14 @@ use Rattle.float.specs.Float.{_⊕_, _⊖_, _⊗_, _⊘_, k0, k0·01, k1, k1·3
 use Rattle.float.specs.MinMax.{maxOf, clampOf}
 use Rattle.geometry.specs.declared.Rect.{Rect}
 use Rattle.geometry.specs.Rect.{newOf}
+use Rattle.geometry.specs.Offset.{centred}
 use Rattle.layout.specs.declared.Layout.{Layout}
 use Rattle.layout.specs.Layout.{withDpad, elementsOf}
 use Rattle.layout.specs.Elements.{setElementsOf}
 use Rattle.layout.specs.Psp.{pspInputsOf}
-use Rattle.search.specs.Search.{centred, placeGameInOf}
-use Rattle.arranged.specs.declared.Places.{Places}
-use Rattle.arranged.specs.Places.{wellFacesOf, placedOf}
+use Rattle.search.specs.Search.{placeGameInOf}
+use Rattle.places.specs.declared.Places.{Places}
+use Rattle.places.specs.Places.{wellFacesOf, placedOf}
 use Rattle.arranged.specs.Arranged.{finishedOf, arrangedOf, sideRailsOf}
 use Rattle.band.specs.Band.{withAnalogOf, controllerBandOf}
 use Rattle.defaults.specs.declared.Size.{Size}
@@ -27,8 +28,8 @@ unfoldable pub widerOf : Layout → Layout → Layout
 widerOf layout other = cond (lt (layout .game .w ⊕ k0·01) (other .game .w)) other layout
 
 -- the largest game that is clear of all elements
-abbrev pub clearOf : Layout → Rect → Layout
-clearOf layout picture = placeGameInOf layout picture false k1 centred
+abbrev pub clearGameOf : Layout → Rect → Layout
+clearGameOf layout picture = placeGameInOf layout picture false k1 centred
 
 -- A square screen has room for the shoulders and the system keys between the two thumb wells. The pictures are
 -- compared, since a wide or a narrow screen is better served without that dock.
@@ -37,11 +38,11 @@ tryDockOf rails w h picture =
     let cluster = rails .dpad .w in
     let shoulder = (cluster ⊖ k8) ⊘ k2 in
     let middle = w ⊖ k2 ⊗ (k16 ⊕ cluster) in
-    cond (le k160 cluster && le (k2 ⊗ shoulder ⊕ k16) middle) (widerOf rails (clearOf (arrangedOf w h true) picture)) rails
+    cond (le k160 cluster && le (k2 ⊗ shoulder ⊕ k16) middle) (widerOf rails (clearGameOf (arrangedOf w h true) picture)) rails
 
 unfoldable pub trySideOf : Layout → Float → Float → List Rect → Rect → Layout
 trySideOf rails w h cutouts picture =
-    cond (lt (h ⊗ k1·35) w && le k304 h) (widerOf rails (clearOf (sideRailsOf w h (picture .h) cutouts) picture)) rails
+    cond (lt (h ⊗ k1·35) w && le k304 h) (widerOf rails (clearGameOf (sideRailsOf w h (picture .h) cutouts) picture)) rails
 
 abbrev pub widerIf : Layout → Option Layout → Layout
 widerIf layout none = layout
@@ -52,7 +53,7 @@ tryBandOf layout w h analog picture = widerIf layout (controllerBandOf w h analo
 
 unfoldable pub defaultInOf : Float → Float → List Rect → Rect → Layout
 defaultInOf w h cutouts picture =
-    let rails = clearOf (arrangedOf w h false) picture in
+    let rails = clearGameOf (arrangedOf w h false) picture in
     let docked = tryDockOf rails w h picture in
     let sided = trySideOf docked w h cutouts picture in
     tryBandOf sided w h false picture
@@ -121,11 +122,11 @@ halfPlacesOf b =
 abbrev pub halfDpad : Halves → Rect
 halfDpad b = newOf (b .digitalx) (b .facey) (b .face) (b .face)
 
-abbrev pub leftStick : Halves → Rect
-leftStick b = newOf k16 (b .mainy) (b .stick) (b .stick)
+abbrev pub halfLeftStick : Halves → Rect
+halfLeftStick b = newOf k16 (b .mainy) (b .stick) (b .stick)
 
-abbrev pub rightStick : Halves → Rect
-rightStick b = newOf (b .w ⊖ k16 ⊖ b .stick) (b .mainy) (b .stick) (b .stick)
+abbrev pub halfRightStick : Halves → Rect
+halfRightStick b = newOf (b .w ⊖ k16 ⊖ b .stick) (b .mainy) (b .stick) (b .stick)
 
 -- for a screen of 360 by 360 at least. The Rust sets the toolbar's keys here too, in landscape; they are at most scaled
 -- with the other elements, and then anchored anew.
@@ -134,7 +135,7 @@ analogFullOf w h =
     let b = measureHalvesOf w h (sizeHalvesOf w h) in
     let places = halfPlacesOf b in
     let digital = withDpad (placedOf (newLayoutOf w h) places) (halfDpad b) in
-    withAnalogOf digital (places .l3) (places .r3) (leftStick b) (rightStick b)
+    withAnalogOf digital (places .l3) (places .r3) (halfLeftStick b) (halfRightStick b)
 
 abbrev pub size : Float → Float → Size
 size w h = record { w = w; h = h }

@@ -2,27 +2,27 @@
 ghost use mathlib.Core.Path.{_≡_};
 ghost use mathlib.Core.List.{map};
 ghost use Prim.Native.Nat.{_≤_};
-ghost use Rattle.layout.specs.Layout.{cutoutList, elementList};
+ghost use Rattle.layout.specs.Layout.{cutoutList, elementList, Few};
 ghost use Rattle.defaults.specs.Controls.{finishedInOf, analogControlsOf};
 ghost use Rattle.defaults.specs.Defaults.{widerOf, tryDockOf, trySideOf, tryBandOf, defaultInOf, defaultWithCutoutsOf, newLayoutOf, sizeHalvesOf, measureHalvesOf, halfPlacesOf, scaledRectOf, shrunkOf, analogDefaultOf, pspOf};
-use arranged::Faces;
-use arranged::Places;
 use arranged::anchored;
-use arranged::controller;
 use arranged::docked;
 use arranged::finished;
 use arranged::side_controls;
-use arranged::well_faces;
 use band::controller_band;
 use float::clamp;
 use float::max;
 use float::pick;
+use geometry::CENTRED;
 use geometry::Rect;
 use layout::Cutouts;
 use layout::Elements;
 use layout::Layout;
 use layout::NO_CUTOUTS;
-use search::CENTRED;
+use places::Faces;
+use places::Places;
+use places::controller;
+use places::well_faces;
 use search::place_game_in;
 
 // The other layout, if its game is wider by more than 0.01.
@@ -40,7 +40,7 @@ fn wider(layout: Layout, other: Layout) -> Layout
 // Controls with the toolbar at its place and the largest game in the picture's area that is clear of all elements. No game
 // is looked for on the whole screen, as `finished` does: this one takes its place.
 fn finished_in(controls: Layout, w: f32, h: f32, picture: Rect) -> Layout
-    requires { ⌜ (controls .count ≤ 12) × (controls .stickcount ≤ 2) ⌝ }
+    requires { ⌜ Few controls ⌝ }
     ensures { λ r. ⌜ r ≡ finishedInOf controls w h picture ⌝ }
 {
     place_game_in(anchored(controls, w, h), picture, false, 1.0, CENTRED)
@@ -247,7 +247,7 @@ fn scaled(elements: Elements, requested: Size, full: Size) -> Elements
 
 // For a moment a surface can be smaller than any layout that can be used; all elements are scaled to it then.
 fn shrunk(layout: Layout, requested: Size, full: Size) -> Layout
-    requires { ⌜ (layout .count ≤ 12) × (layout .stickcount ≤ 2) ⌝ }
+    requires { ⌜ Few layout ⌝ }
     ensures { λ r. ⌜ (r ≡ shrunkOf layout requested full) × (r .count ≡ layout .count) × (r .stickcount ≡ layout .stickcount) ⌝ }
 {
     if (requested.w != full.w) | (requested.h != full.h) {

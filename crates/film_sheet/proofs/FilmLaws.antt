@@ -5,9 +5,9 @@ use Prim.Native.Nat.{ℕ, _≤_}
 use native.Mathlib.Omega.{arith}
 use lib.ListN.{length, length-append}
 use Rattle.prelude.specs.Answer.{Answer, accepted, refused}
-use Rattle.search.specs.Bounded.{Bounded, BoundedGame}
+use Rattle.layout_ranges.specs.Bounded.{Bounded, BoundedGame}
 use Rattle.settings.specs.declared.Settings.{Settings}
-use Rattle.limits.proofs.SettingsRanges.{accepted-in-range}
+use Rattle.settings_ranges.proofs.SettingsRanges.{accepted-in-range}
 use Rattle.reader.proofs.Accepted.{accepted-order, refused-order, order-f32}
 use Rattle.reader.specs.Order.{readOrderOf}
 use Rattle.preset.specs.Preset.{settingsLayoutOf}
@@ -16,12 +16,13 @@ use Rattle.preset.proofs.PresetRanges.{settings-bounded}
 use Rattle.sheet.specs.Sheet.{refusedText}
 use Rattle.sheet.proofs.SheetLaws.{refused-fits, sheet-fits}
 use Rattle.film_sheet.specs.Film.{answerText, filmTextOf, filmSheetOf}
+use Rattle.film_sheet.specs.Promises.{FilmFits}
 
 -- what `layout_sheet` asks
 pub order-bounded : (order : List ℕ) {s : Settings} → readOrderOf order ≡ accepted s → Bounded (settingsLayoutOf s) × BoundedGame (settingsLayoutOf s .game)
 order-bounded order {s} e = settings-bounded s (accepted-in-range s (accepted-order order e) (order-f32 order e))
 
-pub film-fits : (order : List ℕ) → length (filmTextOf order) ≤ 788
+pub film-fits : FilmFits
 unfolding filmTextOf refusedText
 film-fits order = go (readOrderOf order) refl
   where
@@ -29,7 +30,7 @@ film-fits order = go (readOrderOf order) refl
     go (accepted s) e =
         let n = settings-few s in
         let b = order-bounded order e in
-        sheet-fits (settingsLayoutOf s) (n .count) (n .stickcount) (b .0) (b .1)
+        sheet-fits (settingsLayoutOf s) n (b .0) (b .1)
     go (refused n) e = let b = refused-order order e in omega (arith, refused-fits n (omega arith))
 
 pub film-within : (order : List ℕ) → filmSheetOf order .len ≤ length (filmSheetOf order .bytes)

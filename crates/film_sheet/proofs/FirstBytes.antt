@@ -2,7 +2,7 @@
 use mathlib.Core.Path.{_≡_, refl, sym, ap, _∙_}
 use mathlib.Core.Bool.{Bool, true, false, _||_}
 use mathlib.Core.List.{List, [], _∷_, _++_}
-use Prim.Native.Nat.{ℕ, zero, suc, _+_, _*_, _/_, _%_, _<_, _≤_}
+use Prim.Native.Nat.{ℕ, zero, suc, _+_, _*_, _/_, _%_, _≤_}
 use native.Mathlib.Omega.{arith}
 use borrow.Author.Tests.{eqb-true, leb-true, leb-false, le-leb}
 use lib.Dec.{eqb, leb, lit≤}
@@ -13,10 +13,12 @@ use Rattle.prelude.proofs.AnswerLaws.{must-met, then-same}
 use Rattle.prelude.specs.Each.{Each}
 use Rattle.prelude.proofs.EachLaws.{each-take, each-drop}
 use Rattle.settings.specs.declared.Settings.{Settings}
+use Rattle.wire.specs.Wire.{shortOf}
 use Rattle.reader.specs.declared.Tag.{Tag}
 use Rattle.reader.specs.declared.Tag.the-variants as Tag
-use Rattle.reader.specs.Order.{shortOf, readScreenOf, readPictureOf, readModeOf, readFitOf, readPlaceOf, readCutoutsOf, readSavedOf, fromByteOf, readFieldOf, fields, readOrderOf}
+use Rattle.reader.specs.Order.{readScreenOf, readPictureOf, readModeOf, readFitOf, readPlaceOf, readCutoutsOf, readSavedOf, fromByteOf, readFieldOf, fields, readOrderOf}
 use Rattle.film_sheet.specs.Film.{filmTextOf}
+use Rattle.film_sheet.specs.Promises.{Byte, FirstBytes}
 
 -- ---- an accepted value is short
 exact-short : (v : List ℕ) (n : ℕ) → n ≤ 16 → eqb (length v) n ≡ true → length v ≤ 512
@@ -39,9 +41,6 @@ short-value Tag.Cutouts v s e = let m = must-met _ _ _ e in items-short v 16 (li
 short-value Tag.Saved v s e = let m = must-met _ _ _ e in items-short v 32 (lit≤ tt) (m .0) (must-met _ _ _ (m .1) .0)
 
 -- ---- bytes after enough others change nothing
-abbrev pub Byte : ℕ → Type 0
-Byte b = b < 256
-
 fields-first : (turns last : ℕ) (screen : Bool) (s : Settings) (xs ys : List ℕ) → Each Byte xs → 65538 + 515 * turns ≤ length xs → fields turns last screen s (xs ++ ys) ≡ fields turns last screen s xs
 unfolding fields
 fields-first zero last screen s xs ys b h = refl
@@ -68,6 +67,6 @@ first-bytes order b n h = go (leb n (length order)) refl
     go false e = ap readOrderOf (take-all n order (omega (arith, leb-false n (length order) e)))
 
 -- for the reader, and for programs that read an order: no proof cites this law
-pub first-bytes-film : (order : List ℕ) → Each Byte order → (n : ℕ) → 69658 ≤ n → filmTextOf (take n order) ≡ filmTextOf order
+pub first-bytes-film : FirstBytes
 unfolding filmTextOf
 first-bytes-film order b n h = rw (first-bytes order b n h)

@@ -14,7 +14,7 @@ use Rattle.layout.specs.declared.Layout.{Layout}
 use Rattle.layout.specs.Label.{isFaceOf}
 use Rattle.layout.specs.Layout.{anyRect, anyControl, controlList, stickList, elementOf, elementCountOf}
 use Rattle.layout.specs.Elements.{controllerElementsOf}
-use Rattle.layout.proofs.ActionLaws.{element-control}
+use Rattle.layout.proofs.ElementLaws.{element-control, element-stick}
 use Rattle.fits.specs.declared.Input.{Input}
 use Rattle.fits.specs.Fits.{input, fromControl, fromStick, inputsOf}
 
@@ -43,15 +43,8 @@ module _ (l : Layout) (cs : l .count ≤ length (l .controls)) (ss : l .stickcou
       let e : 1 + k ≡ suc k = omega arith in
       ap at e
       ∙ ap₂ input
-      (sym (element-control l k (omega arith)) ∙ ap (λ (c : Control). c .bounds) (sym (getD-take (l .count) (l .controls) k anyControl (omega arith))))
+      (element-control l (suc k) k refl (omega arith) ∙ ap (λ (c : Control). c .bounds) (sym (getD-take (l .count) (l .controls) k anyControl (omega arith))))
       (rw (lt-ltb k (length (controlList l)) h))
-
-  stick-element : (i k : ℕ) → i ≡ l .count + 5 + k → elementOf l i ≡ getD (l .sticks) k anyRect
-  unfolding elementOf
-  stick-element i k e =
-      let n = l .count in
-      let q : i - n - 5 ≡ k = omega arith in
-      rw (le-ltb i 1 (omega arith), le-ltb i (n + 1) (omega arith), le-ltb i (n + 2) (omega arith), le-ltb i (n + 3) (omega arith), le-ltb i (n + 4) (omega arith), le-ltb i (n + 5) (omega arith), q)
 
   stick-input : (k : ℕ) → k < length (stickList l) → at (l .count + 5 + k) ≡ fromStick (getD (stickList l) k anyRect)
   stick-input k h =
@@ -59,7 +52,7 @@ module _ (l : Layout) (cs : l .count ≤ length (l .controls)) (ss : l .stickcou
       let e : l .count + 5 + k ≡ suc (l .count + 4 + k) = omega arith in
       ap at e
       ∙ ap₂ input
-      (stick-element (suc (l .count + 4 + k)) k (omega arith) ∙ sym (getD-take (l .stickcount) (l .sticks) k anyRect (omega arith)))
+      (element-stick l (suc (l .count + 4 + k)) k (omega arith) ∙ sym (getD-take (l .stickcount) (l .sticks) k anyRect (omega arith)))
       (rw (le-ltb (l .count + 4 + k) (length (controlList l)) (omega arith)))
 
   -- for the reader: no proof cites this law

@@ -33,7 +33,9 @@ separateOf i j =
     let a = i .bounds in
     let b = j .bounds in
     not (overlapsOf a b)
-    || (i .face && (j .face && le ((a .w ⊕ b .w) ⊘ k2 ⊕ k3·99) (hypotOf (a .x ⊕ a .w ⊘ k2 ⊖ b .x ⊖ b .w ⊘ k2) (a .y ⊕ a .h ⊘ k2 ⊖ b .y ⊖ b .h ⊘ k2))))
+    || (i .face
+    && (j .face
+    && le ((a .w ⊕ b .w) ⊘ k2 ⊕ k3·99) (hypotOf (a .x ⊕ a .w ⊘ k2 ⊖ b .x ⊖ b .w ⊘ k2) (a .y ⊕ a .h ⊘ k2 ⊖ b .y ⊖ b .h ⊘ k2))))
 
 module _ (w h : Float) (game : Rect) (holes : List Rect) where
   -- on the screen to 0.01, and clear of the picture and of the holes

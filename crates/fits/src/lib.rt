@@ -3,7 +3,7 @@ ghost use mathlib.Core.Path.{_≡_};
 ghost use Prim.Native.Nat.{_≤_, _<_, _+_};
 ghost use lib.ListN.{take, drop};
 ghost use Rattle.prelude.specs.Lists.{allOf};
-ghost use Rattle.layout.specs.Layout.{cutoutList};
+ghost use Rattle.layout.specs.Layout.{cutoutList, Few};
 ghost use Rattle.fits.specs.Fits.{inputsOf, separateOf, liesClearOf, fitsOf};
 use geometry::Rect;
 use hypot::hypot;
@@ -23,7 +23,7 @@ struct InputList {
 }
 
 fn inputs(l: Layout) -> InputList
-    requires { ⌜ (l .count ≤ 12) × (l .stickcount ≤ 2) ⌝ }
+    requires { ⌜ Few l ⌝ }
     ensures { λ r. ⌜ (take (r .count) (r .at) ≡ inputsOf l) × (r .count ≡ l .count + 1 + l .stickcount) ⌝ }
 {
     let n = l.count;
@@ -90,7 +90,7 @@ fn separate_after(a: Input, inputs: InputList, i: usize) -> bool
 
 // Whether the controller's elements lie on the screen, clear of the picture, of the holes and of each other.
 pub fn fits(l: Layout, w: f32, h: f32, game: Rect, holes: Cutouts) -> bool
-    requires { ⌜ (l .count ≤ 12) × (l .stickcount ≤ 2) × (holes .count ≤ 16) ⌝ }
+    requires { ⌜ Few l × (holes .count ≤ 16) ⌝ }
     ensures { λ r. ⌜ r ≡ fitsOf l w h game (cutoutList holes) ⌝ }
 {
     let inputs = inputs(l);

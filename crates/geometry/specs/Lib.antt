@@ -1,1 +1,2 @@
 pub mod Rect
+pub mod Offset

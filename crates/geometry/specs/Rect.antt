@@ -1,12 +1,16 @@
 -- `Rect` of input.rs.
 use mathlib.Core.Bool.{Bool, _&&_}
-use lib.Ieee.{Float, lt, le}
+use lib.Ieee.{Float, binary32, fits, lt, le}
 use Rattle.float.specs.Float.{_⊕_, _⊖_, _⊗_, _⊘_, k0, k0·01, k2}
 use Rattle.float.specs.MinMax.{minOf, absOf}
 use Rattle.geometry.specs.declared.Rect.{Rect}
 
 abbrev pub newOf : Float → Float → Float → Float → Rect
 newOf x y w h = record { x = x; y = y; w = w; h = h }
+
+-- moved by dx and dy
+abbrev pub shiftedOf : Rect → Float → Float → Rect
+shiftedOf r dx dy = newOf (r .x ⊕ dx) (r .y ⊕ dy) (r .w) (r .h)
 
 -- `Rect::default()`
 abbrev pub emptyRect : Rect
@@ -40,3 +44,7 @@ nearOf a b = lt (absOf (a ⊖ b)) k0·01
 
 unfoldable pub sameBoundsOf : Rect → Rect → Bool
 sameBoundsOf a b = nearOf (a .x) (b .x) && (nearOf (a .y) (b .y) && (nearOf (a .w) (b .w) && nearOf (a .h) (b .h)))
+
+-- its numbers are values of binary32, as the f32 of a program are
+unfoldable pub rectIsF32 : Rect → Bool
+rectIsF32 r = fits binary32 (r .x) && (fits binary32 (r .y) && (fits binary32 (r .w) && fits binary32 (r .h)))

@@ -1,6 +1,6 @@
 // Rectangles in layout units, as input.rs has them.
 ghost use mathlib.Core.Path.{_≡_};
-ghost use Rattle.geometry.specs.Rect.{newOf, containsOf, insideOf, fitOf, overlapsOf, nearOf, sameBoundsOf};
+ghost use Rattle.geometry.specs.Rect.{newOf, shiftedOf, containsOf, insideOf, fitOf, overlapsOf, nearOf, sameBoundsOf};
 
 pub struct Rect {
     pub x: f32,
@@ -17,11 +17,32 @@ pub const EMPTY: Rect = Rect {
     h: 0.0,
 };
 
+// Where the game lies in the room that a smaller size factor leaves, from 0 to 1 across and down.
+pub struct Offset {
+    pub x: f32,
+    pub y: f32,
+}
+
+// `[0.5; 2]`.
+pub const CENTRED: Offset = Offset { x: 0.5, y: 0.5 };
+
 impl Rect {
     pub fn new(x: f32, y: f32, w: f32, h: f32) -> Self
         ensures { λ r. ⌜ r ≡ newOf x y w h ⌝ }
     {
         Self { x, y, w, h }
+    }
+
+    // Moved by dx and dy.
+    pub fn shifted(self, dx: f32, dy: f32) -> Self
+        ensures { λ r. ⌜ r ≡ shiftedOf self dx dy ⌝ }
+    {
+        Self {
+            x: self.x + dx,
+            y: self.y + dy,
+            w: self.w,
+            h: self.h,
+        }
     }
 
     // Half-open: the left and upper edges belong to the rectangle, the right and lower ones do not.

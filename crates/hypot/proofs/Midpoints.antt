@@ -17,9 +17,9 @@ use lib.Ieee.Scale.{finite, round-same}
 use lib.Ieee.Positive.{positive-of-value, mul-at}
 use lib.Ieee.Bits.{is-false}
 use Rattle.hypot.specs.Hypot.{hypotOf}
-use Rattle.hypot.specs.Pattern.{patternOf, exponentOf, significandOf, value}
+use Rattle.hypot.specs.Pattern.{unsignedPatternOf, exponentOf, significandOf, patternValue}
 use Rattle.hypot.specs.Nearest.{mid}
-use Rattle.hypot.specs.Parts.{squareOf, sumOfSquaresOf, midpointOf, Settled}
+use Rattle.hypot.specs.Parts.{f64SquareOf, sumOfSquaresOf, midpointOf, SurelyNearest}
 use Rattle.hypot.proofs.Order.{lt-or-ge, square-lt}
 use Rattle.float.proofs.Order.{lt-le-trans, lt-irrefl}
 use Rattle.float.proofs.Patterns.{ofBits-is, fields-normal}
@@ -45,7 +45,7 @@ alike : (s : Bool) → unlike s s ≡ false
 alike true = refl
 alike false = refl
 
-square-is : (x : Float) (s : Bool) (v : ℕ) → HasValue x s v L → squareOf x ≡ round binary64 false (v * v) (L * L)
+square-is : (x : Float) (s : Bool) (v : ℕ) → HasValue x s v L → f64SquareOf x ≡ round binary64 false (v * v) (L * L)
 unfolding mul
 square-is nan s v h = absurd h
 square-is (inf t) s v h = absurd h
@@ -54,7 +54,7 @@ square-is (fin t m e) s v h =
     let d = down e in
     rw (alike t) (round-same binary64 false (n * n) (d * d) (v * v) (L * L) (mul-pos (down-pos e) (down-pos e)) (pow-pos 298) (squared n L v d (h .1)))
 
-square-exact : (p : ℕ) → p < 0x7f80_0000 → HasValue (round binary64 false (value p * value p) (L * L)) false (value p * value p) (L * L)
+square-exact : (p : ℕ) → p < 0x7f80_0000 → HasValue (round binary64 false (patternValue p * patternValue p) (L * L)) false (patternValue p * patternValue p) (L * L)
 square-exact p h =
     let c = significandOf p in
     let k = exponentOf p in
@@ -62,15 +62,15 @@ square-exact p h =
     let small : c * c < 2 ^ 48 = square-lt (significand-lt p) in
     let short : 48 ≤ 53 = omega arith in
     let place : 48 + j ≤ 2098 = omega arith in
-    round-exact binary64 false (value p * value p) (L * L) (c * c) j (pow-pos 298) (lt-of-lt-of-le small (pow-mono short))
+    round-exact binary64 false (patternValue p * patternValue p) (L * L) (c * c) j (pow-pos 298) (lt-of-lt-of-le small (pow-mono short))
     (lt-of-lt-of-le (shl-lt 48 j small) (pow-mono place))
     (rw (pow-add 2 776 (k + k), pow-add 2 k k) (spread c (2 ^ k) (2 ^ 776) (L * L)))
   where
     spread : (c K J W : ℕ) → c * K * (c * K) * (J * W) ≡ c * c * (J * (K * K)) * W
     spread c K J W = omega arith
 
-square-value : (x : Float) → T (fits binary32 x) → patternOf x < 0x7f80_0000 → HasValue (squareOf x) false (value (patternOf x) * value (patternOf x)) (L * L)
-square-value x held h = rw (square-is x _ _ (finite-value x held h)) (square-exact (patternOf x) h)
+square-value : (x : Float) → T (fits binary32 x) → unsignedPatternOf x < 0x7f80_0000 → HasValue (f64SquareOf x) false (patternValue (unsignedPatternOf x) * patternValue (unsignedPatternOf x)) (L * L)
+square-value x held h = rw (square-is x _ _ (finite-value x held h)) (square-exact (unsignedPatternOf x) h)
 
 added : (m n a b d e c : ℕ) → m * c ≡ a * d → n * c ≡ b * e → (m * e + n * d) * c ≡ (a + b) * (d * e)
 added m n a b d e c h k = omega (arith, ap (λ (z : ℕ). z * e) h, ap (λ (z : ℕ). z * d) k)
@@ -112,7 +112,7 @@ finite-sum (fin s m e) nan h = absurd h
 finite-sum (fin s m e) (inf t) h = absurd h
 finite-sum (fin s m e) (fin t n d) h = (tt, tt)
 
-finite-square : (x : Float) → T (finite (squareOf x)) → T (finite x)
+finite-square : (x : Float) → T (finite (f64SquareOf x)) → T (finite x)
 unfolding mul
 finite-square nan h = h
 finite-square (inf s) h = h
@@ -120,7 +120,7 @@ finite-square (fin s m e) h = tt
 
 -- ---- the midpoint of g and g + 1
 module _ (g : ℕ) (least : 0x80_0000 ≤ g) (most : g < 0x7f80_0000) where
-  midpoint-value : HasValue (midpointOf (0x1_c000_0000 + g)) false ((value (g + 1) + value g) * 2 ^ 924) (2 ^ 1074)
+  midpoint-value : HasValue (midpointOf (0x1_c000_0000 + g)) false ((patternValue (g + 1) + patternValue g) * 2 ^ 924) (2 ^ 1074)
   midpoint-value =
       let b = (2 * (0x1_c000_0000 + g) + 1) * 0x1000_0000 in
       let k = exponentOf g in
@@ -130,43 +130,44 @@ module _ (g : ℕ) (least : 0x80_0000 ≤ g) (most : g < 0x7f80_0000) where
       let x : b % 0x8000_0000_0000_0000 / 0x10_0000_0000_0000 ≡ suc (896 + k) = omega arith in
       let y : b % 0x10_0000_0000_0000 ≡ t = omega arith in
       let z : 0x10_0000_0000_0000 + t ≡ (2 * c + 1) * 0x1000_0000 = omega arith in
-      let n : (0x10_0000_0000_0000 + t) * 2 ^ (896 + k) ≡ (value (g + 1) + value g) * 2 ^ 924 =
+      let n : (0x10_0000_0000_0000 + t) * 2 ^ (896 + k) ≡ (patternValue (g + 1) + patternValue g) * 2 ^ 924 =
       rw (z, pow-add 2 896 k, regroup (2 * c + 1) 0x1000_0000 (2 ^ 896) (2 ^ k), mid-next k c (significand-lt g) (inr (omega arith)), parts g) in
       rw (ofBits-is binary64 b, s, x, y) (rw (← n) (fields-normal binary64 false (896 + k) t (omega arith)))
     where
       regroup : (m a b c : ℕ) → m * a * (b * c) ≡ m * c * (a * b)
       regroup m a b c = omega arith
 
-  midpoint-square : squareOf (midpointOf (0x1_c000_0000 + g))
-      ≡ round binary64 false ((value (g + 1) + value g) * 2 ^ 924 * ((value (g + 1) + value g) * 2 ^ 924)) (2 ^ 1074 * 2 ^ 1074)
+  midpoint-square : f64SquareOf (midpointOf (0x1_c000_0000 + g))
+      ≡ round binary64 false ((patternValue (g + 1) + patternValue g) * 2 ^ 924 * ((patternValue (g + 1) + patternValue g) * 2 ^ 924)) (2 ^ 1074 * 2 ^ 1074)
   midpoint-square =
       let m = midpointOf (0x1_c000_0000 + g) in
-      let a = (value (g + 1) + value g) * 2 ^ 924 in
-      let p = positive-of-value m a (2 ^ 1074) midpoint-value (mul-pos (lt-of-le-of-lt zero-le (lt-of-lt-of-le (value-lt (lt-add-one g)) (le-add-right (value (g + 1)) (value g)))) (pow-pos 924)) in
+      let a = (patternValue (g + 1) + patternValue g) * 2 ^ 924 in
+      let some = lt-of-le-of-lt zero-le (lt-of-lt-of-le (value-lt (lt-add-one g)) (le-add-right (patternValue (g + 1)) (patternValue g))) in
+      let p = positive-of-value m a (2 ^ 1074) midpoint-value (mul-pos some (pow-pos 924)) in
       mul-at binary64 m m a (2 ^ 1074) a (2 ^ 1074) p p (pow-pos 1074) (pow-pos 1074) midpoint-value midpoint-value
 
   -- the root is above the midpoint, or below it
-  over : (n : ℕ) → T (lt (squareOf (midpointOf (0x1_c000_0000 + g))) (round binary64 false n (L * L))) → mid (g + 1) g < 4 * n
-  over n h = cancel (value (g + 1) + value g) (2 ^ 924) L n (round-lt binary64 _ (2 ^ 1074 * 2 ^ 1074) n (L * L) (pow-pos 2148) (pow-pos 298) (rw midpoint-square at h))
+  over : (n : ℕ) → T (lt (f64SquareOf (midpointOf (0x1_c000_0000 + g))) (round binary64 false n (L * L))) → mid (g + 1) g < 4 * n
+  over n h = cancel (patternValue (g + 1) + patternValue g) (2 ^ 924) L n (round-lt binary64 _ (2 ^ 1074 * 2 ^ 1074) n (L * L) (pow-pos 2148) (pow-pos 298) (rw midpoint-square at h))
     where
       cancel : (h w l n : ℕ) → h * w * (h * w) * (l * l) < n * (w * (2 * l) * (w * (2 * l))) → h * h < 4 * n
       cancel h w l n k = lt-of-mul-lt-mul-right (w * w * (l * l)) (omega arith)
 
-  under : (n : ℕ) → T (lt (round binary64 false n (L * L)) (squareOf (midpointOf (0x1_c000_0000 + g)))) → 4 * n < mid (g + 1) g
-  under n h = cancel (value (g + 1) + value g) (2 ^ 924) L n (round-lt binary64 n (L * L) _ (2 ^ 1074 * 2 ^ 1074) (pow-pos 298) (pow-pos 2148) (rw midpoint-square at h))
+  under : (n : ℕ) → T (lt (round binary64 false n (L * L)) (f64SquareOf (midpointOf (0x1_c000_0000 + g)))) → 4 * n < mid (g + 1) g
+  under n h = cancel (patternValue (g + 1) + patternValue g) (2 ^ 924) L n (round-lt binary64 n (L * L) _ (2 ^ 1074 * 2 ^ 1074) (pow-pos 298) (pow-pos 2148) (rw midpoint-square at h))
     where
       cancel : (h w l n : ℕ) → n * (w * (2 * l) * (w * (2 * l))) < h * w * (h * w) * (l * l) → 4 * n < h * h
       cancel h w l n k = lt-of-mul-lt-mul-right (w * w * (l * l)) (omega arith)
 
-pub settled : (a b : Float) (p : ℕ) → T (fits binary32 a) → T (fits binary32 b) → Settled (sumOfSquaresOf a b) p → ofBits binary32 (p - 0x1_c000_0000) ≡ hypotOf a b
-settled a b p A B c =
-    let both = finite-sum (squareOf a) (squareOf b) (lies-between _ _ _ (c .low) (c .high)) in
+pub sure-is-nearest : (a b : Float) (p : ℕ) → T (fits binary32 a) → T (fits binary32 b) → SurelyNearest (sumOfSquaresOf a b) p → ofBits binary32 (p - 0x1_c000_0000) ≡ hypotOf a b
+sure-is-nearest a b p A B c =
+    let both = finite-sum (f64SquareOf a) (f64SquareOf b) (lies-between _ _ _ (c .low) (c .high)) in
     let P = finite-pattern a A (finite-square a (both .0)) in
     let Q = finite-pattern b B (finite-square b (both .1)) in
-    let v = value (patternOf a) in
-    let w = value (patternOf b) in
+    let v = patternValue (unsignedPatternOf a) in
+    let w = patternValue (unsignedPatternOf b) in
     let n = v * v + w * w in
-    let t = sum-is binary64 (squareOf a) (squareOf b) (v * v) (w * w) (L * L) (pow-pos 298) (square-value a A P) (square-value b B Q) in
+    let t = sum-is binary64 (f64SquareOf a) (f64SquareOf b) (v * v) (w * w) (L * L) (pow-pos 298) (square-value a A P) (square-value b B Q) in
     let g = p - 0x1_c000_0001 in
     let e : p - 1 ≡ 0x1_c000_0000 + g = omega (arith, c .least) in
     let d : p ≡ 0x1_c000_0000 + (g + 1) = omega (arith, c .least) in

@@ -8,7 +8,7 @@ use lib.Pow.{pow-pos, pow-add, pow-mono, pow-lt}
 use lib.Ieee.{binary32, nearest, ofBits}
 use Rattle.prelude.proofs.Compare.{Cmp, cmp}
 use Rattle.hypot.specs.Hypot.{nearestRoot}
-use Rattle.hypot.specs.Pattern.{exponentOf, significandOf, value, f32At}
+use Rattle.hypot.specs.Pattern.{exponentOf, significandOf, patternValue, f32At}
 use Rattle.hypot.specs.Nearest.{mid, Nearest}
 use Rattle.hypot.specs.Parts.{rootOf}
 use Rattle.hypot.proofs.Isqrt.{isqrt-from, isqrt-to, root-within, root-ge, root-cmp}
@@ -32,27 +32,28 @@ square-less c K J v lead far p small =
 under-mid : (c K v : ℕ) → v * v < c * (K * K) → 4 * (c * K * (c * K) + v * v) < (2 * c + 1) * K * ((2 * c + 1) * K)
 under-mid c K v h = omega (arith, h)
 
-pub far : (p q : ℕ) → p < 0x7f80_0000 → 12 < exponentOf p - exponentOf q → ofBits binary32 p ≡ nearestRoot (value p * value p + value q * value q)
+pub far : (p q : ℕ) → p < 0x7f80_0000 → 12 < exponentOf p - exponentOf q → ofBits binary32 p ≡ nearestRoot (patternValue p * patternValue p + patternValue q * patternValue q)
 far p q h g =
     let k = exponentOf p in
     let j = exponentOf q in
     let c = significandOf p in
-    let n = value p * value p + value q * value q in
+    let n = patternValue p * patternValue p + patternValue q * patternValue q in
     let top : 0x80_0000 ≤ c = omega arith in
     let scale : 8192 * 2 ^ j ≤ 2 ^ k = le-trans (le-of-eq (sym (pow-add 2 13 j))) (pow-mono (omega arith)) in
-    let less = square-less c (2 ^ k) (2 ^ j) (value q) top scale (mul-pos (pow-pos j) (pow-pos j)) (mul-lt-mul-of-pos-right (significand-lt q) (pow-pos j)) in
-    let near : 4 * n < mid (p + 1) p = rw (mid-next k c (significand-lt p) (inr top), parts p) at (under-mid c (2 ^ k) (value q) less) in
-    finite-nearest n p h (lower n p (le-add-right (value p * value p) (value q * value q)) near)
+    let less = square-less c (2 ^ k) (2 ^ j) (patternValue q) top scale (mul-pos (pow-pos j) (pow-pos j)) (mul-lt-mul-of-pos-right (significand-lt q) (pow-pos j)) in
+    let near : 4 * n < mid (p + 1) p = rw (mid-next k c (significand-lt p) (inr top), parts p) at (under-mid c (2 ^ k) (patternValue q) less) in
+    finite-nearest n p h (lower n p (le-add-right (patternValue p * patternValue p) (patternValue q * patternValue q)) near)
 
 -- ---- near: both sides counted in units of 2 ^ f, as the code has them
 module _ (p q e f a b s : ℕ) (ee : e ≡ exponentOf p) (ff : f ≡ exponentOf q) (aa : a ≡ significandOf p) (bb : b ≡ significandOf q) (ss : s ≡ a * 2 ^ (e - f)) (le : q ≤ p) where
-  larger-side : s * 2 ^ f ≡ value p
+  larger-side : s * 2 ^ f ≡ patternValue p
   larger-side = let back : e - f + f ≡ e = omega arith in rw (ss, mul-assoc a (2 ^ (e - f)) (2 ^ f), ← (pow-add 2 (e - f) f), back, ee, aa)
 
-  smaller-side : b * 2 ^ f ≡ value q
+  smaller-side : b * 2 ^ f ≡ patternValue q
   smaller-side = rw (ff, bb)
 
-  pub near : (4 * (value p * value p + value q * value q) ≡ (2 * s * (2 * s) + 2 * b * (2 * b)) * (2 ^ f * 2 ^ f)) × ((f ≡ 0) ⊎ (0x200_0000 ≤ rootOf (2 * s * (2 * s) + 2 * b * (2 * b))))
+  pub near : (4 * (patternValue p * patternValue p + patternValue q * patternValue q) ≡ (2 * s * (2 * s) + 2 * b * (2 * b)) * (2 ^ f * 2 ^ f))
+      × ((f ≡ 0) ⊎ (0x200_0000 ≤ rootOf (2 * s * (2 * s) + 2 * b * (2 * b))))
   near = (
     rw (← larger-side, ← smaller-side) (omega arith),
     elim (eq-zero-or-pos f) [
@@ -67,8 +68,8 @@ module _ (p q e f a b s : ℕ) (ee : e ≡ exponentOf p) (ff : f ≡ exponentOf 
 pub root-small : (s n : ℕ) → s < 0x20_0000_0000 → n < 0x200_0000 → rootOf (s * s + n * n) < 0x100_0000_0000
 root-small s n h k = omega (arith, root-within (s * s + n * n), isqrt-to s n)
 
-pub shifted-lt : (m d : ℕ) → m < 0x100_0000 → d ≤ 12 → m * 2 ^ d < 0x10_0000_0000
-shifted-lt m d h l = lt-of-lt-of-le (mul-lt-mul-of-pos-right h (pow-pos d)) (mul-le-mul-left 0x100_0000 (pow-mono l))
+pub times-power-lt : (m d : ℕ) → m < 0x100_0000 → d ≤ 12 → m * 2 ^ d < 0x10_0000_0000
+times-power-lt m d h l = lt-of-lt-of-le (mul-lt-mul-of-pos-right h (pow-pos d)) (mul-le-mul-left 0x100_0000 (pow-mono l))
 
 -- ---- how m compares with a square is how 4 n does, in units of 2 ^ f
 module _ (n m f u k : ℕ) (e : 4 * n ≡ m * (2 ^ f * 2 ^ f)) (scale : u * 2 ^ f ≡ 2 ^ k) where
@@ -87,7 +88,7 @@ module _ (n m f u k : ℕ) (e : 4 * n ≡ m * (2 ^ f * 2 ^ f)) (scale : u * 2 ^ 
   scaled-le x h = rw (e, ← (regroup x)) (mul-le-mul-right (2 ^ f * 2 ^ f) h)
 
 -- ---- the root rounded: c is what is left of w / 4 with k - f places dropped, and u is 2 ^ (k - f)
-pub record Kept (w f c u k : ℕ) : Type 0 where
+pub record LeadingDigits (w f c u k : ℕ) : Type 0 where
   pub lo : c * (4 * u) ≤ w
   pub hi : w < (c + 1) * (4 * u)
   pub scale : u * 2 ^ f ≡ 2 ^ k
@@ -95,7 +96,7 @@ pub record Kept (w f c u k : ℕ) : Type 0 where
   pub most : c ≤ w
   pub lead : (k ≡ 0) ⊎ (0x80_0000 ≤ c)
 
-pub rounds : (n m w f c u k : ℕ) → w ≡ rootOf m → 4 * n ≡ m * (2 ^ f * 2 ^ f) → Kept w f c u k → c < 0x100_0000
+pub rounds : (n m w f c u k : ℕ) → w ≡ rootOf m → 4 * n ≡ m * (2 ^ f * 2 ^ f) → LeadingDigits w f c u k → c < 0x100_0000
     → f32At (k * 0x80_0000 + nearest c (compare w ((2 * c + 1) * (2 * u)))) ≡ nearestRoot n
 rounds n m w f c u k r e i small =
     let o = compare w ((2 * c + 1) * (2 * u)) in
@@ -108,8 +109,8 @@ rounds n m w f c u k r e i small =
     (nearest-digits k c small (i .lead) n o (omega (arith, below)) (omega (arith, above))
     (scaled-cmp n m f u k e (i .scale) (2 * c + 1) o (root-cmp m ((2 * c + 1) * u) o side)))
 
-pub kept-start : (w f : ℕ) → (f ≡ 0) ⊎ (0x200_0000 ≤ w) → Kept w f (w / 4) 1 f
-kept-start w f l = record {
+pub leading-start : (w f : ℕ) → (f ≡ 0) ⊎ (0x200_0000 ≤ w) → LeadingDigits w f (w / 4) 1 f
+leading-start w f l = record {
   lo = omega arith;
   hi = omega arith;
   scale = one-mul (2 ^ f);
@@ -118,8 +119,8 @@ kept-start w f l = record {
   lead = elim l [ inl z ↦ inl z | inr g ↦ inr (omega arith) ];
 }
 
-pub kept-next : (w f c u k : ℕ) → Kept w f c u k → w < 0x100_0000_0000 → 0x100_0000 ≤ c → Kept w f (c / 2) (u * 2) (k + 1)
-kept-next w f c u k i small big =
+pub leading-next : (w f c u k : ℕ) → LeadingDigits w f c u k → w < 0x100_0000_0000 → 0x100_0000 ≤ c → LeadingDigits w f (c / 2) (u * 2) (k + 1)
+leading-next w f c u k i small big =
     let e = c / 2 in
     let down : e * 2 ≤ c = omega arith in
     let up : c + 1 ≤ (e + 1) * 2 = omega arith in
@@ -133,7 +134,7 @@ kept-next w f c u k i small big =
     }
 
 -- at most 15 places are dropped
-pub kept-places : (w f c u k : ℕ) → Kept w f c u k → k ≤ f + 15
-kept-places w f c u k i =
+pub leading-places : (w f c u k : ℕ) → LeadingDigits w f c u k → k ≤ f + 15
+leading-places w f c u k i =
     let p : 2 ^ k ≤ 2 ^ (f + 15) = le-trans (le-of-eq (sym (i .scale))) (le-trans (mul-le-mul-right (2 ^ f) (i .few)) (le-of-eq (mul-comm 32768 (2 ^ f) ∙ sym (pow-add 2 f 15)))) in
     le-of-suc-le-suc (lt-of-not-le (λ (g : suc (f + 15) ≤ k). lt-irrefl (2 ^ (f + 15)) (lt-of-lt-of-le (pow-lt g) p)))

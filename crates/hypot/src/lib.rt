@@ -8,12 +8,12 @@ ghost use Prim.Native.Nat.{ℕ, _+_, _*_, _^_, _≤_, _<_, compare, min, max};
 ghost use lib.Dec.{T, ltb};
 ghost use lib.Ieee.{nearest, isNan};
 ghost use Rattle.hypot.specs.Hypot.{isqrt, nearestRoot, hypotOf};
-ghost use Rattle.hypot.specs.Pattern.{patternOf, exponentOf, significandOf, value, f32At};
-ghost use Rattle.hypot.specs.Parts.{rootOf, sumOfSquaresOf, midpointOf, Settled};
+ghost use Rattle.hypot.specs.Pattern.{unsignedPatternOf, exponentOf, significandOf, patternValue, f32At};
+ghost use Rattle.hypot.specs.Parts.{rootOf, sumOfSquaresOf, midpointOf, SurelyNearest};
 
 // The bit pattern of x without its sign. A NaN's lies above the infinity's.
-fn pattern(x: f32) -> u32
-    ensures { λ r. ⌜ r ≡ patternOf x ⌝ }
+fn unsigned_pattern(x: f32) -> u32
+    ensures { λ r. ⌜ r ≡ unsignedPatternOf x ⌝ }
 {
     float::to_bits(x) % 0x8000_0000
 }
@@ -44,7 +44,7 @@ fn smaller(p: u32, q: u32) -> u32
     if p < q { p } else { q }
 }
 
-fn shifted(m: u64, d: u32) -> u64
+fn times_power(m: u64, d: u32) -> u64
     requires { ⌜ m < 0x100_0000 ⌝ }
     requires { ⌜ d ≤ 12 ⌝ }
     ensures { λ r. ⌜ r ≡ m * 2 ^ d ⌝ }
@@ -118,7 +118,7 @@ fn root(s: u64, n: u64) -> u64
 }
 
 // c, or the next number up, by how w compares with h; at a tie the even one.
-fn nearer(c: u64, w: u64, h: u64) -> u64
+fn nearest_whole(c: u64, w: u64, h: u64) -> u64
     requires { ⌜ c < 0x100_0000 ⌝ }
     ensures { λ r. ⌜ r ≡ nearest c (compare w h) ⌝ }
 {
@@ -158,7 +158,7 @@ fn rounded(w: u64, f: u32) -> f32
         k += 1;
     }
     let h = (2 * c + 1) * (2 * u);
-    packed(nearer(c, w, h), k)
+    packed(nearest_whole(c, w, h), k)
 }
 
 // `hypot` of two finite sides by their patterns, the larger first. If its exponent is 13 or more above the other's, the root exceeds it by less
@@ -166,14 +166,14 @@ fn rounded(w: u64, f: u32) -> f32
 fn finite(p: u32, q: u32) -> f32
     requires { ⌜ q ≤ p ⌝ }
     requires { ⌜ p < 0x7f80_0000 ⌝ }
-    ensures { λ r. ⌜ r ≡ nearestRoot (value p * value p + value q * value q) ⌝ }
+    ensures { λ r. ⌜ r ≡ nearestRoot (patternValue p * patternValue p + patternValue q * patternValue q) ⌝ }
 {
     let e = exponent(p);
     let f = exponent(q);
     if e - f > 12 {
         return f32::from_bits(p);
     }
-    let s = 2 * shifted(significand(p), e - f);
+    let s = 2 * times_power(significand(p), e - f);
     let n = 2 * significand(q);
     rounded(root(s, n), f)
 }
@@ -182,8 +182,8 @@ fn finite(p: u32, q: u32) -> f32
 fn exact(a: f32, b: f32) -> f32
     ensures { λ r. ⌜ r ≡ hypotOf a b ⌝ }
 {
-    let p = pattern(a);
-    let q = pattern(b);
+    let p = unsigned_pattern(a);
+    let q = unsigned_pattern(b);
     if p == 0x7f80_0000 {
         return f32::from_bits(0x7f80_0000);
     }
@@ -225,7 +225,7 @@ fn estimate(t: f64) -> f64 {
 }
 
 // The pattern of the f32 nearest r, as `midpoint` has it. Nothing is relied on here either.
-fn candidate(r: f64) -> u64 {
+fn likely_pattern(r: f64) -> u64 {
     if r != r {
         return 0;
     }
@@ -242,8 +242,8 @@ fn midpoint(p: u64) -> f64
 
 // Whether the f32 with the pattern p is surely the nearest to the root of the sum of squares that was rounded to t. A no leaves it open:
 // `hypot` then takes the exact way.
-fn settled(t: f64, p: u64) -> bool
-    ensures { λ r. ⌜ (T r → Settled t p) ⌝ }
+fn surely_nearest(t: f64, p: u64) -> bool
+    ensures { λ r. ⌜ (T r → SurelyNearest t p) ⌝ }
 {
     if p <= 0x1_c080_0000 {
         return false;
@@ -270,8 +270,8 @@ pub fn hypot(a: f32, b: f32) -> f32
         return exact(a, b);
     }
     let t = sum_of_squares(a, b);
-    let p = candidate(estimate(t));
-    if settled(t, p) {
+    let p = likely_pattern(estimate(t));
+    if surely_nearest(t, p) {
         return f32::from_bits((p - 0x1_c000_0000) as u32);
     }
     exact(a, b)

@@ -12,7 +12,8 @@ use Rattle.prelude.specs.Each.{Each}
 use Rattle.prelude.proofs.EachLaws.{each-take, each-at, each-set, fold-ind, each-filter, each-mapFirst}
 use Rattle.float.specs.Float.{k1, k104, k122}
 use Rattle.geometry.specs.declared.Rect.{Rect}
-use Rattle.geometry.specs.Rect.{emptyRect}
+use Rattle.geometry.specs.Rect.{emptyRect, shiftedOf}
+use Rattle.geometry.specs.Offset.{centred}
 use Rattle.layout.specs.declared.Control.{Control}
 use Rattle.layout.specs.declared.Label.{Label}
 use Rattle.layout.specs.declared.Label.the-variants.{Tri, O, X, Sq, L1, L2, R2, R1, Select, Start, L3, R3}
@@ -27,17 +28,14 @@ use Rattle.numerics.specs.Range.{In, at, minus}
 use Rattle.numerics.proofs.Bounds.{most-more}
 use Rattle.numerics.proofs.Ranges.{in-more, most-in, add-in, sub-in, sub-back, div-in, times-in, min-in, not-below, range-most, element-in, placed-element}
 use Rattle.numerics.proofs.Literals.{lit, i0·5, f2}
-use Rattle.search.specs.Bounded.{Every, Bounded, BoundedGame}
+use Rattle.layout_ranges.specs.Bounded.{Every, Bounded, BoundedGame}
 use Rattle.search.specs.Widest.{WidestGame}
-use Rattle.search.proofs.Changes.{every-imp, dpad-in, controls-in, sticks-in}
+use Rattle.layout_ranges.proofs.Changes.{every-imp, dpad-in, controls-in, sticks-in}
 use Rattle.search.proofs.Layouts.{place-bounded, place-game-in, place-widest}
 use Rattle.search.proofs.Shapes.{Shape}
-use Rattle.search.specs.Search.{centred}
 use Rattle.toolbar.specs.Toolbar.{toolbarHeight}
-use Rattle.moves.specs.declared.Move.the-variants.{Go}
-use Rattle.moves.specs.Moves.{movedOf}
-use Rattle.landscape.specs.declared.Row.{Row}
-use Rattle.landscape.specs.Landscape.{measureRowOf, tightOf, placeOf, inRow, rowSticksOf, rowedOf, rowOf, fitLandscapeControlsOf}
+use Rattle.landscape.specs.declared.KeyRow.{KeyRow}
+use Rattle.landscape.specs.Landscape.{measureKeyRowOf, tightOf, placeInRowOf, inRow, rowSticksOf, withKeyRowOf, keyRowOf, fitLandscapeControlsOf}
 use Rattle.landscape.proofs.LandscapeLaws.{landscape-case}
 
 -- an element of the layout
@@ -45,7 +43,7 @@ abbrev Old : Rect → Type 0
 Old e = OnScreen shrunkMargin e
 
 -- ---- the row, where it is not tight
-record RowIn (r : Row) : Type 0 where
+record RowIn (r : KeyRow) : Type 0 where
   pub w : In (r .w) (at 1) (at 8192)
   pub face : In (r .face) (at 122) (at 8200)
   pub stick : In (r .stick) (at 104) (at 8200)
@@ -56,10 +54,11 @@ record RowIn (r : Row) : Type 0 where
   pub shouldery : In (r .shouldery) (at 0) (at 8192)
 
 -- the shoulders lie below the toolbar, so the wells below them are on the screen too
-row-in : {w h face stick : Float} → In w (at 1) (at 8192) → In h (at 1) (at 8192) → AtMost face (maxArea + shrunkMargin) → AtMost stick (maxArea + shrunkMargin) → T (not (tightOf (measureRowOf w h face stick))) → RowIn (measureRowOf w h face stick)
-unfolding measureRowOf tightOf
+row-in : {w h face stick : Float} → In w (at 1) (at 8192) → In h (at 1) (at 8192) → AtMost face (maxArea + shrunkMargin) → AtMost stick (maxArea + shrunkMargin)
+    → T (not (tightOf (measureKeyRowOf w h face stick))) → RowIn (measureKeyRowOf w h face stick)
+unfolding measureKeyRowOf tightOf
 row-in {w} {h} {face} {stick} W H F S t =
-    let r = measureRowOf w h face stick in
+    let r = measureKeyRowOf w h face stick in
     let tight = lt (r .shouldery) toolbarHeight in
     let small = lt face k122 || lt stick k104 in
     let n = or-no tight small t .1 in
@@ -99,15 +98,16 @@ actions-in : (l : Layout) → l .count ≤ length (l .controls) → Each (λ c. 
 actions-in l cs e =
     rw (action-bounds l cs)
     (boxes-corner (filterMap (λ c. isFaceOf (c .label)) (λ c. c .bounds) (controlList l))
-    (each-filter (λ c. isFaceOf (c .label)) (λ c. c .bounds) (λ c. Old (c .bounds)) Corner (λ c P. record { x = P .x; y = P .y }) (controlList l) (each-take (λ c. Old (c .bounds)) (l .count) (l .controls) e)))
+    (each-filter (λ c. isFaceOf (c .label)) (λ c. c .bounds) (λ c. Old (c .bounds)) Corner (λ c P. record { x = P .x; y = P .y }) (controlList l)
+    (each-take (λ c. Old (c .bounds)) (l .count) (l .controls) e)))
 
 -- ---- the places
-module _ {r : Row} {dx dy : Float} (R : RowIn r) (DX : In dx (minus 17500) (at 9100)) (DY : In dy (minus 9300) (at 9300)) where
-  face-in : {bounds : Rect} → Old bounds → Element (movedOf (Go dx dy) bounds)
+module _ {r : KeyRow} {dx dy : Float} (R : RowIn r) (DX : In dx (minus 17500) (at 9100)) (DY : In dy (minus 9300) (at 9300)) where
+  face-in : {bounds : Rect} → Old bounds → Element (shiftedOf bounds dx dy)
   face-in B = record { x = range-most maxCorner (add-in (B .x) DX tt) tt; y = range-most maxCorner (add-in (B .y) DY tt) tt; w = most-more (B .w) maxSide tt; h = most-more (B .h) maxSide tt }
 
-  place-in : {bounds : Rect} → Old bounds → (label : Label) → Element (placeOf r dx dy bounds label)
-  unfolding placeOf
+  place-in : {bounds : Rect} → Old bounds → (label : Label) → Element (placeInRowOf r dx dy bounds label)
+  unfolding placeInRowOf
   place-in B Tri = face-in B
   place-in B O = face-in B
   place-in B X = face-in B
@@ -125,7 +125,7 @@ module _ {r : Row} {dx dy : Float} (R : RowIn r) (DX : In dx (minus 17500) (at 9
   row-controls-in : (n : ℕ) (cs : List Control) → Each (λ c. Old (c .bounds)) cs → Each (λ c. Element (c .bounds)) (mapFirst (inRow r dx dy) n cs)
   row-controls-in n cs e = each-mapFirst (λ c. Old (c .bounds)) (λ c. Element (c .bounds)) (inRow r dx dy) (λ c B. place-in B (c .label)) (λ c P. placed-element P tt) n cs e
 
-row-sticks-in : {r : Row} → RowIn r → (sticks : List Rect) (count : ℕ) → Each Element sticks → Each Element (rowSticksOf sticks count r)
+row-sticks-in : {r : KeyRow} → RowIn r → (sticks : List Rect) (count : ℕ) → Each Element sticks → Each Element (rowSticksOf sticks count r)
 unfolding rowSticksOf
 row-sticks-in R sticks count e =
     let left = each-set Element 0 sticks _ e (element-in (lit 16) (R .sticky) (R .stick) (R .stick) tt) in
@@ -136,9 +136,9 @@ module _ (l : Layout) (cs : l .count ≤ length (l .controls)) (ss : 0 < length 
   bounded : Bounded l
   bounded = every-imp (λ e P. placed-element P tt) (λ e P. P) L
 
-  rowed-in : {r : Row} → RowIn r → Bounded (rowedOf l r)
-  unfolding rowedOf
-  rowed-in R =
+  key-row-in : {r : KeyRow} → RowIn r → Bounded (withKeyRowOf l r)
+  unfolding withKeyRowOf
+  key-row-in R =
       let A = actions-in l cs (L .controls) in
       let dx = in-more (minus 17500) (at 9100) (sub-in (sub-in (sub-in (R .w) (lit 16) tt) (R .face) tt) (A .x) tt) tt tt in
       let dy = in-more (minus 9300) (at 9300) (sub-in (R .facey) (A .y) tt) tt tt in
@@ -149,8 +149,8 @@ module _ (l : Layout) (cs : l .count ≤ length (l .controls)) (ss : 0 < length 
   stick-in = each-at Old 0 (l .sticks) anyRect ss (L .sticks) .w
 
   module _ {w h : Float} (W : In w (at 1) (at 8192)) (H : In h (at 1) (at 8192)) where
-    row-bounded : T (not (tightOf (rowOf l w h))) → Bounded (rowedOf l (rowOf l w h))
-    row-bounded t = rowed-in (row-in W H (L .dpad .w) stick-in t)
+    row-bounded : T (not (tightOf (keyRowOf l w h))) → Bounded (withKeyRowOf l (keyRowOf l w h))
+    row-bounded t = key-row-in (row-in W H (L .dpad .w) stick-in t)
 
     pub landscape-bounded : (picture : Rect) (aspect : Float) → Bounded (fitLandscapeControlsOf l w h picture aspect)
     landscape-bounded picture aspect = landscape-case l w h picture aspect Bounded bounded (λ t. place-bounded (row-bounded t) picture false k1 centred aspect)
@@ -158,8 +158,9 @@ module _ (l : Layout) (cs : l .count ≤ length (l .controls)) (ss : 0 < length 
     module _ {aspect : Float} {p q : ℕ} (S : Shape aspect p q) {picture : Rect} (A : Area picture) where
       pub landscape-game-in : BoundedGame (l .game) → BoundedGame (fitLandscapeControlsOf l w h picture aspect .game)
       landscape-game-in g =
-          landscape-case l w h picture aspect (λ m. BoundedGame (m .game)) g (λ t. place-game-in S (rowedOf l (rowOf l w h)) (row-bounded t) A centred (i0·5 .whole) (i0·5 .whole) false k1 ((lit 1) .whole))
+          landscape-case l w h picture aspect (λ m. BoundedGame (m .game)) g
+          (λ t. place-game-in S (withKeyRowOf l (keyRowOf l w h)) (row-bounded t) A centred (i0·5 .whole) (i0·5 .whole) false k1 ((lit 1) .whole))
 
       pub landscape-widest : WidestGame p q picture aspect l → WidestGame p q picture aspect (fitLandscapeControlsOf l w h picture aspect)
       landscape-widest g =
-          landscape-case l w h picture aspect (WidestGame p q picture aspect) g (λ t. place-widest S (rowedOf l (rowOf l w h)) (row-bounded t) A centred (i0·5 .whole) (i0·5 .whole))
+          landscape-case l w h picture aspect (WidestGame p q picture aspect) g (λ t. place-widest S (withKeyRowOf l (keyRowOf l w h)) (row-bounded t) A centred (i0·5 .whole) (i0·5 .whole))

@@ -2,18 +2,18 @@
 ghost use mathlib.Core.Path.{_≡_};
 ghost use Prim.Native.Nat.{_≤_};
 ghost use Rattle.prelude.specs.Lists.{mapFirst};
-ghost use Rattle.landscape.specs.Landscape.{measureRowOf, tightOf, placeOf, inRow, rowSticksOf, rowedOf, fitLandscapeControlsOf};
+ghost use Rattle.layout.specs.Layout.{Few};
+ghost use Rattle.landscape.specs.Landscape.{measureKeyRowOf, tightOf, placeInRowOf, inRow, rowSticksOf, withKeyRowOf, fitLandscapeControlsOf};
+use geometry::CENTRED;
 use geometry::Rect;
 use layout::Control;
 use layout::Label;
 use layout::Layout;
-use moves::moved;
-use search::CENTRED;
 use search::place_game_in_aspect;
 use toolbar::TOOLBAR_HEIGHT;
 
 // The sizes of the digital wells, the sticks and the shoulders, and where they and the row lie.
-struct Row {
+struct KeyRow {
     w: f32,
     face: f32,
     stick: f32,
@@ -24,13 +24,13 @@ struct Row {
     shouldery: f32,
 }
 
-fn measure_row(w: f32, h: f32, face: f32, stick: f32) -> Row
-    ensures { λ r. ⌜ r ≡ measureRowOf w h face stick ⌝ }
+fn measure_key_row(w: f32, h: f32, face: f32, stick: f32) -> KeyRow
+    ensures { λ r. ⌜ r ≡ measureKeyRowOf w h face stick ⌝ }
 {
     let row_y = h - 4.0 - 48.0;
     let stick_y = row_y - 8.0 - stick;
     let face_y = stick_y - 8.0 - face;
-    Row {
+    KeyRow {
         w,
         face,
         stick,
@@ -43,24 +43,24 @@ fn measure_row(w: f32, h: f32, face: f32, stick: f32) -> Row
 }
 
 // The shoulders would reach into the toolbar, or a thumb's target is small already.
-fn tight(row: Row) -> bool
+fn tight(row: KeyRow) -> bool
     ensures { λ r. ⌜ r ≡ tightOf row ⌝ }
 {
     row.shouldery < TOOLBAR_HEIGHT || (row.face < 122.0 || row.stick < 104.0)
 }
 
 // The place of a control by its label: the faces go by dx and dy.
-fn place(row: Row, dx: f32, dy: f32, bounds: Rect, label: Label) -> Rect
-    ensures { λ r. ⌜ r ≡ placeOf row dx dy bounds label ⌝ }
+fn place_in_row(row: KeyRow, dx: f32, dy: f32, bounds: Rect, label: Label) -> Rect
+    ensures { λ r. ⌜ r ≡ placeInRowOf row dx dy bounds label ⌝ }
 {
     let w = row.w;
     let shoulder = row.shoulder;
     let y = row.shouldery;
     match label {
-        Label::Tri => moved(bounds, dx, dy),
-        Label::O => moved(bounds, dx, dy),
-        Label::X => moved(bounds, dx, dy),
-        Label::Sq => moved(bounds, dx, dy),
+        Label::Tri => bounds.shifted(dx, dy),
+        Label::O => bounds.shifted(dx, dy),
+        Label::X => bounds.shifted(dx, dy),
+        Label::Sq => bounds.shifted(dx, dy),
         Label::L1 => Rect::new(16.0, y, shoulder, 48.0),
         Label::L2 => Rect::new(24.0 + shoulder, y, shoulder, 48.0),
         Label::R2 => Rect::new(w - 24.0 - 2.0 * shoulder, y, shoulder, 48.0),
@@ -72,7 +72,13 @@ fn place(row: Row, dx: f32, dy: f32, bounds: Rect, label: Label) -> Rect
     }
 }
 
-fn row_controls(controls: [Control; 12], count: usize, row: Row, dx: f32, dy: f32) -> [Control; 12]
+fn row_controls(
+    controls: [Control; 12],
+    count: usize,
+    row: KeyRow,
+    dx: f32,
+    dy: f32,
+) -> [Control; 12]
     requires { ⌜ count ≤ 12 ⌝ }
     ensures { λ r. ⌜ r ≡ mapFirst (inRow row dx dy) count controls ⌝ }
 {
@@ -80,14 +86,13 @@ fn row_controls(controls: [Control; 12], count: usize, row: Row, dx: f32, dy: f3
     for i in 0..count {
         let c = out[i];
         let label = c.label;
-        let bounds = place(row, dx, dy, c.bounds, label);
-        out[i] = Control { bounds, label };
+        out[i] = c.with_bounds(place_in_row(row, dx, dy, c.bounds, label));
     }
     out
 }
 
 // The sticks above the row, the right one if there are two.
-fn row_sticks(sticks: [Rect; 2], count: usize, row: Row) -> [Rect; 2]
+fn row_sticks(sticks: [Rect; 2], count: usize, row: KeyRow) -> [Rect; 2]
     ensures { λ r. ⌜ r ≡ rowSticksOf sticks count row ⌝ }
 {
     let stick = row.stick;
@@ -100,9 +105,9 @@ fn row_sticks(sticks: [Rect; 2], count: usize, row: Row) -> [Rect; 2]
 }
 
 // The layout with the row.
-fn rowed(l: Layout, row: Row) -> Layout
+fn with_key_row(l: Layout, row: KeyRow) -> Layout
     requires { ⌜ l .count ≤ 12 ⌝ }
-    ensures { λ r. ⌜ (r ≡ rowedOf l row) × (r .count ≡ l .count) × (r .stickcount ≡ l .stickcount) ⌝ }
+    ensures { λ r. ⌜ (r ≡ withKeyRowOf l row) × (r .count ≡ l .count) × (r .stickcount ≡ l .stickcount) ⌝ }
 {
     let actions = l.action_bounds();
     let dx = row.w - 16.0 - row.face - actions.x;
@@ -120,7 +125,7 @@ fn rowed(l: Layout, row: Row) -> Layout
 
 // The row is kept only if it makes the game wider.
 pub fn fit_landscape_controls(l: Layout, w: f32, h: f32, picture: Rect, aspect: f32) -> Layout
-    requires { ⌜ (l .count ≤ 12) × (l .stickcount ≤ 2) ⌝ }
+    requires { ⌜ Few l ⌝ }
     ensures { λ r. ⌜ r ≡ fitLandscapeControlsOf l w h picture aspect ⌝ }
 {
     if (w <= h * 1.35) | (l.stickcount == 0) {
@@ -129,11 +134,11 @@ pub fn fit_landscape_controls(l: Layout, w: f32, h: f32, picture: Rect, aspect: 
     let dpad = l.dpad;
     let sticks = l.sticks;
     let stick = sticks[0];
-    let row = measure_row(w, h, dpad.w, stick.w);
+    let row = measure_key_row(w, h, dpad.w, stick.w);
     if tight(row) {
         return l;
     }
-    let fitted = place_game_in_aspect(rowed(l, row), picture, false, 1.0, CENTRED, aspect);
+    let fitted = place_game_in_aspect(with_key_row(l, row), picture, false, 1.0, CENTRED, aspect);
     let game = l.game;
     let rival = fitted.game;
     if rival.w <= game.w + 0.01 {

@@ -15,18 +15,10 @@ use Rattle.layout.specs.declared.Label.{Label}
 use Rattle.layout.specs.Label.{isFaceOf}
 use Rattle.layout.specs.Layout.{anyControl, controlList, elementOf}
 use Rattle.layout.specs.Labels.{labelsOf}
-use Rattle.layout.proofs.ElementLaws.{by-ltb}
+use Rattle.layout.proofs.ElementLaws.{element-control}
 use Rattle.layout.specs.Actions.{joinOf, actionElementsOf, actionBoundsOf}
 
 module _ (l : Layout) where
-  pub element-control : (k : ℕ) → k < l .count → getD (l .controls) k anyControl .bounds ≡ elementOf l (suc k)
-  unfolding elementOf
-  element-control k h =
-      by-ltb (suc k) 1 (λ p. absurd (let z : ⊥ = omega arith in z))
-      (λ a. by-ltb (suc k) (l .count + 1)
-      (λ p. let e : k ≡ suc k - 1 = omega arith in ap (λ (j : ℕ). getD (l .controls) j anyControl .bounds) e)
-      (λ b. absurd (let z : ⊥ = omega arith in z)))
-
   boxes-from : (cs : List Control) (j : ℕ) → ((k : ℕ) → k < length cs → elementOf l (suc (j + k)) ≡ getD cs k anyControl .bounds)
       → map (elementOf l) (filterMap (λ e. isFaceOf (e .1 .label)) (λ e. e .0) (enumerateFrom (suc j) cs)) ≡ filterMap (λ c. isFaceOf (c .label)) (λ c. c .bounds) cs
   boxes-from [] j h = refl
@@ -40,7 +32,8 @@ module _ (l : Layout) where
   unfolding actionElementsOf
   action-boxes h =
       let n : length (controlList l) ≡ l .count = length-take-le (l .count) (l .controls) h in
-      boxes-from (controlList l) 0 (λ k p. let q : suc (0 + k) ≡ suc k = omega arith in ap (elementOf l) q ∙ sym (element-control k (omega arith)) ∙ ap (λ (c : Control). c .bounds) (sym (getD-take (l .count) (l .controls) k anyControl (omega arith))))
+      boxes-from (controlList l) 0 (λ k p. element-control l (suc (0 + k)) k (omega arith) (omega arith)
+      ∙ ap (λ (c : Control). c .bounds) (sym (getD-take (l .count) (l .controls) k anyControl (omega arith))))
 
   pub action-bounds : l .count ≤ length (l .controls) → actionBoundsOf l ≡ reduce joinOf emptyRect (filterMap (λ c. isFaceOf (c .label)) (λ c. c .bounds) (controlList l))
   unfolding actionBoundsOf

@@ -1,10 +1,11 @@
 -- Laws of a layout's elements: the list of them is `element` at each index, the controller's are those but the toolbar's.
 use mathlib.Core.Path.{_≡_, refl, ap, ap₂, sym, _∙_}
-use mathlib.Core.Bool.{cond}
+use mathlib.Core.Bool.{Bool, true, false, cond}
 use mathlib.Core.List.{List, _∷_, _++_, map, map-append}
 use Prim.Native.Nat.{ℕ, zero, suc, _+_, _-_, _<_, _≤_}
 use native.Mathlib.Omega.{arith}
-use lib.Dec.{ltb, ltb→lt, nltb→le}
+use borrow.Author.Tests.{le-leb, lt-leb, eq-eqb, ne-eqb, eqb-true, eqb-false}
+use lib.Dec.{leb, eqb, leb→le, nleb→lt}
 use lib.ListN.{length, take, drop, getD, length-append, length-map, List·getD-append, List·getD-map}
 use lib.Seq.{drop-cons, getD-append-add, getD-take, length-take-le, take-at, take-all, drop-append-add}
 use Rattle.prelude.proofs.Booleans.{by-test}
@@ -12,13 +13,64 @@ use Rattle.prelude.specs.Lists.{countFrom, range}
 use Rattle.geometry.specs.declared.Rect.{Rect}
 use Rattle.layout.specs.declared.Control.{Control}
 use Rattle.layout.specs.declared.Layout.{Layout}
-use Rattle.layout.specs.Layout.{anyRect, anyControl, controlList, stickList, elementCountOf, elementOf, boundsOf, elementsOf}
+use Rattle.layout.specs.Layout.{anyRect, anyControl, Few, controlList, stickList, elementCountOf, elementOf, boundsOf, elementsOf}
 use Rattle.layout.specs.Elements.{controllerElementsOf}
 
-module _ {A : Type 0} where
-  -- a claim about a branch, by its two sides
-  pub by-ltb : (i k : ℕ) {x y z : A} → (i < k → z ≡ x) → (k ≤ i → z ≡ y) → z ≡ cond (ltb i k) x y
-  by-ltb i k {z = z} p q = by-test (λ w. z ≡ w) (ltb i k) (λ t. p (ltb→lt i k t)) (λ t. q (nltb→le i k t))
+-- ---- `element` at each kind of index
+module _ (l : Layout) (i : ℕ) where
+  pub element-dpad : i ≡ 0 → elementOf l i ≡ l .dpad
+  unfolding elementOf
+  element-dpad e = rw (eq-eqb i 0 e)
+
+  pub element-control : (k : ℕ) → i ≡ suc k → k < l .count → elementOf l i ≡ getD (l .controls) k anyControl .bounds
+  unfolding elementOf
+  element-control k e h = let q : i - 1 ≡ k = omega arith in rw (ne-eqb i 0 (omega arith), le-leb i (l .count) (omega arith), q)
+
+  pub element-pause : i ≡ l .count + 1 → elementOf l i ≡ l .pause
+  unfolding elementOf
+  element-pause e = rw (ne-eqb i 0 (omega arith), lt-leb i (l .count) (omega arith), eq-eqb i (l .count + 1) e)
+
+  pub element-playback : i ≡ l .count + 2 → elementOf l i ≡ l .playback
+  unfolding elementOf
+  element-playback e = rw (ne-eqb i 0 (omega arith), lt-leb i (l .count) (omega arith), ne-eqb i (l .count + 1) (omega arith), eq-eqb i (l .count + 2) e)
+
+  pub element-speed : i ≡ l .count + 3 → elementOf l i ≡ l .speed
+  unfolding elementOf
+  element-speed e =
+      rw (ne-eqb i 0 (omega arith), lt-leb i (l .count) (omega arith), ne-eqb i (l .count + 1) (omega arith), ne-eqb i (l .count + 2) (omega arith))
+      (rw (eq-eqb i (l .count + 3) e))
+
+  pub element-mute : i ≡ l .count + 4 → elementOf l i ≡ l .mute
+  unfolding elementOf
+  element-mute e =
+      rw (ne-eqb i 0 (omega arith), lt-leb i (l .count) (omega arith), ne-eqb i (l .count + 1) (omega arith), ne-eqb i (l .count + 2) (omega arith))
+      (rw (ne-eqb i (l .count + 3) (omega arith), eq-eqb i (l .count + 4) e))
+
+  pub element-stick : (k : ℕ) → i ≡ l .count + 5 + k → elementOf l i ≡ getD (l .sticks) k anyRect
+  unfolding elementOf
+  element-stick k e =
+      let q : i - l .count - 5 ≡ k = omega arith in
+      rw (ne-eqb i 0 (omega arith), lt-leb i (l .count) (omega arith), ne-eqb i (l .count + 1) (omega arith), ne-eqb i (l .count + 2) (omega arith))
+      (rw (ne-eqb i (l .count + 3) (omega arith), ne-eqb i (l .count + 4) (omega arith), q))
+
+-- which stick an index past the toolbar's names, of two at most
+pub stick-index : (n i : ℕ) → n + 5 ≤ i → i ≡ n + 5 + (i - n - 5)
+stick-index n i h = omega arith
+
+pub stick-below : (l : Layout) (i : ℕ) → Few l → i < elementCountOf l → i - l .count - 5 < 2
+stick-below l i few h = omega arith
+
+-- a claim about a branch, by its two sides
+module _ {A : Type 0} (i k : ℕ) {x y z : A} where
+  by-eqb : k ≤ i → (i ≡ k → z ≡ x) → (k < i → z ≡ y) → z ≡ cond (eqb i k) x y
+  by-eqb h p q = go (eqb i k) refl
+    where
+      go : (b : Bool) → eqb i k ≡ b → z ≡ cond b x y
+      go true e = p (eqb-true i k e)
+      go false e = let other : i ≡ k → ⊥ = eqb-false i k e in q (omega arith)
+
+  by-leb : (i ≤ k → z ≡ x) → (k < i → z ≡ y) → z ≡ cond (leb i k) x y
+  by-leb p q = by-test (λ w. z ≡ w) (leb i k) (λ t. p (leb→le i k t)) (λ t. q (nleb→lt i k t))
 
 -- the elements after the controls
 abbrev lastOf : Layout → List Rect
@@ -55,12 +107,12 @@ module _ (l : Layout) (cs : l .count ≤ length (l .controls)) (ss : l .stickcou
   unfolding elementOf elementsOf
   element-at i h =
       let n = l .count in
-      by-ltb i 1 (λ p. let e : i ≡ 0 = omega arith in ap (λ (j : ℕ). getD (elementsOf l) j anyRect) e)
-      (λ a. by-ltb i (n + 1) (λ p. let e : i ≡ suc (i - 1) = omega arith in ap (λ (j : ℕ). getD (elementsOf l) j anyRect) e ∙ control-at (i - 1) (omega arith))
-      (λ b. by-ltb i (n + 2) (λ p. last-at i 0 (omega arith))
-      (λ c. by-ltb i (n + 3) (λ p. last-at i 1 (omega arith))
-      (λ d. by-ltb i (n + 4) (λ p. last-at i 2 (omega arith))
-      (λ e. by-ltb i (n + 5) (λ p. last-at i 3 (omega arith))
+      by-eqb i 0 (omega arith) (λ p. ap (λ (j : ℕ). getD (elementsOf l) j anyRect) p)
+      (λ a. by-leb i n (λ p. let e : i ≡ suc (i - 1) = omega arith in ap (λ (j : ℕ). getD (elementsOf l) j anyRect) e ∙ control-at (i - 1) (omega arith))
+      (λ b. by-eqb i (n + 1) (omega arith) (λ p. last-at i 0 (omega arith))
+      (λ c. by-eqb i (n + 2) (omega arith) (λ p. last-at i 1 (omega arith))
+      (λ d. by-eqb i (n + 3) (omega arith) (λ p. last-at i 2 (omega arith))
+      (λ e. by-eqb i (n + 4) (omega arith) (λ p. last-at i 3 (omega arith))
       (λ f. last-at i (suc (suc (suc (suc (i - n - 5))))) (omega arith) ∙ getD-take (l .stickcount) (l .sticks) (i - n - 5) anyRect (omega arith)))))))
 
   -- `element` at each of k indices from a on

@@ -12,13 +12,15 @@ use Rattle.geometry.specs.declared.Rect.{Rect}
 use Rattle.layout.specs.declared.Control.{Control}
 use Rattle.layout.specs.declared.Label.{Label}
 use Rattle.layout.specs.declared.Layout.{Layout}
-use Rattle.layout.specs.Label.{isFaceOf, onPspOf}
-use Rattle.layout.specs.Layout.{withBounds, withControls, controlList, elementCountOf, elementsOf}
-use Rattle.layout.specs.Labels.{labelsOf, pspLabels, Inputs, Formed, Holds, modeLabels, modeSticks, OfMode}
+use Rattle.layout.specs.Label.{idOf, maskOf, isFaceOf, onPspOf}
+use Rattle.layout.specs.Layout.{Few, withBounds, withControls, controlList, elementCountOf, elementsOf}
+use Rattle.layout.specs.Labels.{labelsOf, standardLabels, analogLabels, pspLabels, Inputs, Formed, Holds, modeLabels, modeSticks, OfMode}
+use Rattle.layout.specs.Actions.{actionElementsOf}
 use Rattle.layout.specs.Elements.{setElementsOf}
+use Rattle.layout.proofs.ActionLaws.{face-count}
 use Rattle.layout.proofs.ElementLaws.{length-elements}
 use Rattle.layout.proofs.SetElementLaws.{set-elements-kept}
-use Rattle.layout.specs.Psp.{atMostOneOf, onPsp, pspInputsOf}
+use Rattle.layout.specs.Psp.{atMostOneOf, onPsp, pspInputsOf, withInputsOf}
 use Rattle.layout.proofs.PspLaws.{psp-controls, psp-labels}
 
 module _ (labels : List Label) (sticks : ℕ) (l : Layout) where
@@ -61,6 +63,12 @@ module _ (labels : List Label) (sticks : ℕ) (l : Layout) where
   pub with-counts : {r : Layout} → Formed labels sticks l → r ≡ l → (r ≡ l) × (r .count ≡ length labels) × (r .stickcount ≡ sticks)
   with-counts f e = (e, ap (λ (m : Layout). m .count) e ∙ f .0 .1, ap (λ (m : Layout). m .stickcount) e ∙ f .0 .2)
 
+pub with-inputs-formed : (analog psp : Bool) (l : Layout) → OfMode analog false l → OfMode analog psp (withInputsOf l psp)
+unfolding atMostOneOf onPspOf maskOf idOf
+with-inputs-formed analog false l f = f
+with-inputs-formed true true l f = psp-inputs-formed analogLabels 2 l refl f
+with-inputs-formed false true l f = psp-inputs-formed standardLabels 0 l refl f
+
 -- four faces in each mode
 pub mode-faces : (analog psp : Bool) → length (retain isFaceOf (modeLabels analog psp)) ≡ 4
 unfolding isFaceOf
@@ -73,6 +81,15 @@ mode-counts true true l i = let n = i .1 in let s = i .2 in (omega arith, omega 
 mode-counts true false l i = let n = i .1 in let s = i .2 in (omega arith, omega arith)
 mode-counts false true l i = let n = i .1 in let s = i .2 in (omega arith, omega arith)
 mode-counts false false l i = let n = i .1 in let s = i .2 in (omega arith, omega arith)
+
+-- what the steps ask of a layout of a mode
+pub few : (analog psp : Bool) (l : Layout) → OfMode analog psp l → Few l
+few analog psp l f = mode-counts analog psp l (f .0)
+
+pub few-faces : (analog psp : Bool) (l : Layout) → OfMode analog psp l → length (actionElementsOf l) ≤ 4
+few-faces analog psp l f =
+    let k : length (actionElementsOf l) ≡ 4 = face-count l _ (f .0 .0) ∙ mode-faces analog psp in
+    omega arith
 
 pub mode-holds : (analog psp : Bool) (l : Layout) → OfMode analog psp l → Holds l
 mode-holds analog psp l f =

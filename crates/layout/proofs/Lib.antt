@@ -3,4 +3,6 @@ pub mod SetElementLaws
 pub mod ActionLaws
 pub mod PspLaws
 pub mod LabelLaws
+pub mod ArrayLaws
 pub mod Names
+pub mod Found

@@ -4,7 +4,7 @@ use mathlib.Core.List.{List, [], _∷_, _++_, map, zipWith, foldl}
 use Prim.Native.Nat.{ℕ, zero, suc, _+_, _-_, _<_, _≤_}
 use native.Mathlib.Nat.{add-zero, add-suc, suc-add}
 use native.Mathlib.Omega.{arith}
-use borrow.Author.Tests.{lt-ltb, le-ltb}
+use borrow.Author.Tests.{le-leb, lt-leb, eq-eqb, ne-eqb}
 use lib.ListN.{length, take, drop, getD, set, length-set, length-drop, take-append-drop}
 use lib.Seq.{take-take, getD-take, drop-cons, drop-drop, take-all, length-take-le, drop-set-lt, sets, sets-eq}
 use Rattle.prelude.specs.Lists.{replaceFirst, enumerateFrom}
@@ -37,10 +37,12 @@ old-labels (suc n) (c ∷ cs) [] h k = absurd (let z : ⊥ = omega arith in z)
 old-labels (suc n) (c ∷ cs) (r ∷ rs) h k = ap (λ (t : List Label). c .label ∷ t) (old-labels n cs rs (omega arith) (omega arith))
 
 -- a list in the parts that a layout's fields take, with n controls
-in-parts : (n : ℕ) (rs : List Rect) → n + 5 ≤ length rs → rs ≡ getD rs 0 anyRect ∷ (take n (drop 1 rs) ++ (getD rs (n + 1) anyRect ∷ getD rs (n + 2) anyRect ∷ getD rs (n + 3) anyRect ∷ getD rs (n + 4) anyRect ∷ drop (n + 5) rs))
+in-parts : (n : ℕ) (rs : List Rect) → n + 5 ≤ length rs
+    → rs ≡ getD rs 0 anyRect ∷ (take n (drop 1 rs) ++ (getD rs (n + 1) anyRect ∷ getD rs (n + 2) anyRect ∷ getD rs (n + 3) anyRect ∷ getD rs (n + 4) anyRect ∷ drop (n + 5) rs))
 in-parts n rs h =
     let e : 1 + n ≡ n + 1 = omega arith in
-    let keys : drop (n + 1) rs ≡ getD rs (n + 1) anyRect ∷ getD rs (n + 2) anyRect ∷ getD rs (n + 3) anyRect ∷ getD rs (n + 4) anyRect ∷ drop (n + 5) rs = rw (drop-next rs n 1 anyRect (omega arith), drop-next rs n 2 anyRect (omega arith), drop-next rs n 3 anyRect (omega arith), drop-next rs n 4 anyRect (omega arith)) in
+    let keys : drop (n + 1) rs ≡ getD rs (n + 1) anyRect ∷ getD rs (n + 2) anyRect ∷ getD rs (n + 3) anyRect ∷ getD rs (n + 4) anyRect ∷ drop (n + 5) rs
+    = rw (drop-next rs n 1 anyRect (omega arith), drop-next rs n 2 anyRect (omega arith), drop-next rs n 3 anyRect (omega arith), drop-next rs n 4 anyRect (omega arith)) in
     drop-cons rs 0 anyRect (omega arith)
     ∙ ap (λ (t : List Rect). getD rs 0 anyRect ∷ t) (sym (take-append-drop n (drop 1 rs)) ∙ ap (λ (t : List Rect). take n (drop 1 rs) ++ t) (drop-drop n 1 rs ∙ ap (λ (i : ℕ). drop i rs) e ∙ keys))
 
@@ -77,7 +79,8 @@ module _ (l : Layout) (rs : List Rect) (cs : l .count ≤ length (l .controls)) 
       let a = length-drop 1 rs in
       let b = length-drop (n + 5) rs in
       let bounds : boundsOf (setElementsOf l rs) ≡ take n (drop 1 rs) = ap (map (λ (c : Control). c .bounds)) new-controls ∙ new-bounds n (l .controls) (drop 1 rs) cs (omega arith) in
-      let sticks : take (l .stickcount) (setElementsOf l rs .sticks) ≡ drop (n + 5) rs = take-replaceFirst (l .stickcount) (drop (n + 5) rs) (l .sticks) (omega arith) ∙ take-all (l .stickcount) (drop (n + 5) rs) (omega arith) in
+      let sticks : take (l .stickcount) (setElementsOf l rs .sticks) ≡ drop (n + 5) rs
+      = take-replaceFirst (l .stickcount) (drop (n + 5) rs) (l .sticks) (omega arith) ∙ take-all (l .stickcount) (drop (n + 5) rs) (omega arith) in
       ap₂ (λ (x y : List Rect). getD rs 0 anyRect ∷ (x ++ (getD rs (n + 1) anyRect ∷ getD rs (n + 2) anyRect ∷ getD rs (n + 3) anyRect ∷ getD rs (n + 4) anyRect ∷ y))) bounds sticks
       ∙ sym (in-parts n rs (omega arith))
 
@@ -90,10 +93,12 @@ set-elements-front l rs k e =
     let a : k ≡ 1 + (n + 4 + m) = omega arith in
     let b : k ≡ (n + 5) + m = omega arith in
     let controls : take n (zipWith withBounds (l .controls) (drop 1 (take k rs))) ≡ take n (zipWith withBounds (l .controls) (drop 1 rs))
-    = ap (λ (t : List Rect). take n (zipWith withBounds (l .controls) t)) (ap (λ (i : ℕ). drop 1 (take i rs)) a ∙ drop-take 1 (n + 4 + m) rs) ∙ rw (take-zipWith, take-zipWith, take-take n (n + 4 + m) (drop 1 rs) (omega arith)) in
+    = ap (λ (t : List Rect). take n (zipWith withBounds (l .controls) t)) (ap (λ (i : ℕ). drop 1 (take i rs)) a ∙ drop-take 1 (n + 4 + m) rs)
+    ∙ rw (take-zipWith, take-zipWith, take-take n (n + 4 + m) (drop 1 rs) (omega arith)) in
     let sticks : take m (drop (n + 5) (take k rs)) ≡ take m (drop (n + 5) rs)
     = ap (take m) (ap (λ (i : ℕ). drop (n + 5) (take i rs)) b ∙ drop-take (n + 5) m rs) ∙ take-take m m (drop (n + 5) rs) (omega arith) in
-    rw (controls, sticks, getD-take k rs 0 anyRect (omega arith), getD-take k rs (n + 1) anyRect (omega arith), getD-take k rs (n + 2) anyRect (omega arith), getD-take k rs (n + 3) anyRect (omega arith), getD-take k rs (n + 4) anyRect (omega arith))
+    rw (controls, sticks, getD-take k rs 0 anyRect (omega arith))
+    (rw (getD-take k rs (n + 1) anyRect (omega arith), getD-take k rs (n + 2) anyRect (omega arith), getD-take k rs (n + 3) anyRect (omega arith), getD-take k rs (n + 4) anyRect (omega arith)))
 
 -- ---- the elements set one after the other
 -- `set_element` with each rectangle of a list, the first at index i
@@ -104,32 +109,42 @@ turn-append : (xs ys : List Rect) (i : ℕ) (l : Layout) → inTurn i (xs ++ ys)
 turn-append [] ys i l = rw add-zero
 turn-append (x ∷ xs) ys i l = rw (add-suc, ← suc-add) (turn-append xs ys (suc i) (setElementOf l i x))
 
+-- `set_element` at each kind of index
 module _ (l : Layout) (r : Rect) (i : ℕ) where
-  set-control : (j : ℕ) → i ≡ suc j → j < l .count → setElementOf l i r ≡ withControls l (set (l .controls) j (withBounds (getD (l .controls) j anyControl) r))
+  pub set-dpad : i ≡ 0 → setElementOf l i r ≡ withDpad l r
   unfolding setElementOf
-  set-control j e h = let q : i - 1 ≡ j = omega arith in rw (le-ltb i 1 (omega arith), lt-ltb i (l .count + 1) (omega arith), q)
+  set-dpad e = rw (eq-eqb i 0 e)
 
-  set-pause : i ≡ l .count + 1 → setElementOf l i r ≡ withPause l r
+  pub set-control : (j : ℕ) → i ≡ suc j → j < l .count → setElementOf l i r ≡ withControls l (set (l .controls) j (withBounds (getD (l .controls) j anyControl) r))
   unfolding setElementOf
-  set-pause e = rw (le-ltb i 1 (omega arith), le-ltb i (l .count + 1) (omega arith), lt-ltb i (l .count + 2) (omega arith))
+  set-control j e h = let q : i - 1 ≡ j = omega arith in rw (ne-eqb i 0 (omega arith), le-leb i (l .count) (omega arith), q)
 
-  set-playback : i ≡ l .count + 2 → setElementOf l i r ≡ withPlayback l r
+  pub set-pause : i ≡ l .count + 1 → setElementOf l i r ≡ withPause l r
   unfolding setElementOf
-  set-playback e = rw (le-ltb i 1 (omega arith), le-ltb i (l .count + 1) (omega arith), le-ltb i (l .count + 2) (omega arith), lt-ltb i (l .count + 3) (omega arith))
+  set-pause e = rw (ne-eqb i 0 (omega arith), lt-leb i (l .count) (omega arith), eq-eqb i (l .count + 1) e)
 
-  set-speed : i ≡ l .count + 3 → setElementOf l i r ≡ withSpeed l r
+  pub set-playback : i ≡ l .count + 2 → setElementOf l i r ≡ withPlayback l r
   unfolding setElementOf
-  set-speed e = rw (le-ltb i 1 (omega arith), le-ltb i (l .count + 1) (omega arith), le-ltb i (l .count + 2) (omega arith), le-ltb i (l .count + 3) (omega arith), lt-ltb i (l .count + 4) (omega arith))
+  set-playback e = rw (ne-eqb i 0 (omega arith), lt-leb i (l .count) (omega arith), ne-eqb i (l .count + 1) (omega arith), eq-eqb i (l .count + 2) e)
 
-  set-mute : i ≡ l .count + 4 → setElementOf l i r ≡ withMute l r
+  pub set-speed : i ≡ l .count + 3 → setElementOf l i r ≡ withSpeed l r
   unfolding setElementOf
-  set-mute e = rw (le-ltb i 1 (omega arith), le-ltb i (l .count + 1) (omega arith), le-ltb i (l .count + 2) (omega arith), le-ltb i (l .count + 3) (omega arith), le-ltb i (l .count + 4) (omega arith), lt-ltb i (l .count + 5) (omega arith))
+  set-speed e =
+      rw (ne-eqb i 0 (omega arith), lt-leb i (l .count) (omega arith), ne-eqb i (l .count + 1) (omega arith), ne-eqb i (l .count + 2) (omega arith))
+      (rw (eq-eqb i (l .count + 3) e))
 
-  set-stick : (j : ℕ) → i ≡ l .count + 5 + j → setElementOf l i r ≡ withSticks l (set (l .sticks) j r)
+  pub set-mute : i ≡ l .count + 4 → setElementOf l i r ≡ withMute l r
+  unfolding setElementOf
+  set-mute e =
+      rw (ne-eqb i 0 (omega arith), lt-leb i (l .count) (omega arith), ne-eqb i (l .count + 1) (omega arith), ne-eqb i (l .count + 2) (omega arith))
+      (rw (ne-eqb i (l .count + 3) (omega arith), eq-eqb i (l .count + 4) e))
+
+  pub set-stick : (j : ℕ) → i ≡ l .count + 5 + j → setElementOf l i r ≡ withSticks l (set (l .sticks) j r)
   unfolding setElementOf
   set-stick j e =
       let q : i - l .count - 5 ≡ j = omega arith in
-      rw (le-ltb i 1 (omega arith), le-ltb i (l .count + 1) (omega arith), le-ltb i (l .count + 2) (omega arith), le-ltb i (l .count + 3) (omega arith), le-ltb i (l .count + 4) (omega arith), le-ltb i (l .count + 5) (omega arith), q)
+      rw (ne-eqb i 0 (omega arith), lt-leb i (l .count) (omega arith), ne-eqb i (l .count + 1) (omega arith), ne-eqb i (l .count + 2) (omega arith))
+      (rw (ne-eqb i (l .count + 3) (omega arith), ne-eqb i (l .count + 4) (omega arith), q))
 
 no-zip : (cs : List Control) → zipWith withBounds cs [] ≡ []
 unfolding zipWith
@@ -143,7 +158,8 @@ zip-take (suc n) [] rs = refl
 zip-take (suc n) (c ∷ cs) [] = refl
 zip-take (suc n) (c ∷ cs) (r ∷ rs) = ap (λ (t : List Control). withBounds c r ∷ t) (zip-take n cs rs)
 
-control-turns : (rs : List Rect) (j : ℕ) (l : Layout) → j + length rs ≤ l .count → l .count ≤ length (l .controls) → inTurn (suc j) rs l ≡ withControls l (sets (l .controls) j (zipWith withBounds (drop j (l .controls)) rs))
+control-turns : (rs : List Rect) (j : ℕ) (l : Layout) → j + length rs ≤ l .count → l .count ≤ length (l .controls)
+    → inTurn (suc j) rs l ≡ withControls l (sets (l .controls) j (zipWith withBounds (drop j (l .controls)) rs))
 unfolding zipWith
 control-turns [] j l h c = ap (λ (t : List Control). withControls l (sets (l .controls) j t)) (sym (no-zip (drop j (l .controls))))
 control-turns (r ∷ rs) j l h c =
@@ -159,7 +175,8 @@ stick-turns : (rs : List Rect) (i j : ℕ) (l : Layout) → i ≡ l .count + 5 +
 stick-turns [] i j l e = refl
 stick-turns (r ∷ rs) i j l e = ap (inTurn (suc i) rs) (set-stick l r i j e) ∙ stick-turns rs (suc i) (suc j) (withSticks l (set (l .sticks) j r)) (omega arith)
 
-key-turns : (p b s m : Rect) (ss : List Rect) (i : ℕ) (l : Layout) → i ≡ l .count + 1 → inTurn i (p ∷ b ∷ s ∷ m ∷ ss) l ≡ withSticks (withMute (withSpeed (withPlayback (withPause l p) b) s) m) (sets (l .sticks) 0 ss)
+key-turns : (p b s m : Rect) (ss : List Rect) (i : ℕ) (l : Layout) → i ≡ l .count + 1
+    → inTurn i (p ∷ b ∷ s ∷ m ∷ ss) l ≡ withSticks (withMute (withSpeed (withPlayback (withPause l p) b) s) m) (sets (l .sticks) 0 ss)
 key-turns p b s m ss i l e =
     ap (inTurn (suc i) (b ∷ s ∷ m ∷ ss)) (set-pause l p i e)
     ∙ ap (inTurn (suc (suc i)) (s ∷ m ∷ ss)) (set-playback (withPause l p) b (suc i) (omega arith))
@@ -186,8 +203,10 @@ set-elements-in-turn l rs cs ss k =
     let last = length-drop (n + 5) rs in
     let bounds : length (take n (drop 1 rs)) ≡ n = length-take-le n (drop 1 rs) (omega arith) in
     let most : n ≤ length new = length-zipWith withBounds n (l .controls) (drop 1 rs) cs (omega arith) in
-    let controls : sets (l .controls) 0 (zipWith withBounds (l .controls) (take n (drop 1 rs))) ≡ replaceFirst n new (l .controls) = ap (sets (l .controls) 0) (zip-take n (l .controls) (drop 1 rs)) ∙ front-sets n (take n new) (l .controls) (length-take-le n new most) cs in
-    let sticks : sets (l .sticks) 0 (drop (n + 5) rs) ≡ replaceFirst (l .stickcount) (drop (n + 5) rs) (l .sticks) = front-sets (l .stickcount) (drop (n + 5) rs) (l .sticks) (omega arith) ss ∙ rw (take-all (l .stickcount) (drop (n + 5) rs) (omega arith)) in
+    let controls : sets (l .controls) 0 (zipWith withBounds (l .controls) (take n (drop 1 rs))) ≡ replaceFirst n new (l .controls)
+    = ap (sets (l .controls) 0) (zip-take n (l .controls) (drop 1 rs)) ∙ front-sets n (take n new) (l .controls) (length-take-le n new most) cs in
+    let sticks : sets (l .sticks) 0 (drop (n + 5) rs) ≡ replaceFirst (l .stickcount) (drop (n + 5) rs) (l .sticks)
+    = front-sets (l .stickcount) (drop (n + 5) rs) (l .sticks) (omega arith) ss ∙ rw (take-all (l .stickcount) (drop (n + 5) rs) (omega arith)) in
     ap (λ (t : List Rect). inTurn 0 t l) (in-parts n rs (omega arith))
     ∙ turn-append (take n (drop 1 rs)) (p ∷ b ∷ s ∷ m ∷ drop (n + 5) rs) 1 (withDpad l d)
     ∙ ap (inTurn (1 + length (take n (drop 1 rs))) (p ∷ b ∷ s ∷ m ∷ drop (n + 5) rs)) (control-turns (take n (drop 1 rs)) 0 (withDpad l d) (omega arith) cs)

@@ -5,7 +5,7 @@ use lib.ListN.{drop, getD}
 use Rattle.prelude.specs.Lists.{replaceFirst, range}
 use Rattle.geometry.specs.declared.Rect.{Rect}
 use Rattle.layout.specs.declared.Layout.{Layout}
-use Rattle.layout.specs.Layout.{anyRect, withBounds, elementCountOf}
+use Rattle.layout.specs.Layout.{anyRect, withBounds, withToolbar, withController, elementCountOf}
 
 -- the indices of all elements but the toolbar's
 unfoldable pub controllerElementsOf : Layout → List ℕ
@@ -15,15 +15,10 @@ controllerElementsOf l = let n = l .count in range 0 (n + 1) ++ range (n + 5) (e
 unfoldable pub setElementsOf : Layout → List Rect → Layout
 setElementsOf l rs =
     let n = l .count in
-    record {
-      game = l .game;
-      dpad = getD rs 0 anyRect;
-      controls = replaceFirst n (zipWith withBounds (l .controls) (drop 1 rs)) (l .controls);
-      count = n;
-      pause = getD rs (n + 1) anyRect;
-      playback = getD rs (n + 2) anyRect;
-      speed = getD rs (n + 3) anyRect;
-      mute = getD rs (n + 4) anyRect;
-      sticks = replaceFirst (l .stickcount) (drop (n + 5) rs) (l .sticks);
-      stickcount = l .stickcount;
-    }
+    let controls = replaceFirst n (zipWith withBounds (l .controls) (drop 1 rs)) (l .controls) in
+    let sticks = replaceFirst (l .stickcount) (drop (n + 5) rs) (l .sticks) in
+    let pause = getD rs (n + 1) anyRect in
+    let playback = getD rs (n + 2) anyRect in
+    let speed = getD rs (n + 3) anyRect in
+    let mute = getD rs (n + 4) anyRect in
+    withToolbar (withController l (getD rs 0 anyRect) controls n sticks (l .stickcount)) playback speed mute pause

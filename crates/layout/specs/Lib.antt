@@ -4,3 +4,4 @@ pub mod Elements
 pub mod Labels
 pub mod Actions
 pub mod Psp
+pub mod Maybe

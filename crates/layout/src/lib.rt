@@ -1,15 +1,17 @@
 // The layout record of input.rs: a game, a d-pad, controls, the toolbar's four keys, sticks.
 ghost use mathlib.Core.Path.{_≡_};
 ghost use mathlib.Core.Bool.{cond};
+ghost use mathlib.Core.Option.{none};
 ghost use Prim.Native.Nat.{_+_, _≤_, _<_};
 ghost use Rattle.layout.specs.Label.{maskOf, isFaceOf, onPspOf, paddedNameOf};
 ghost use Rattle.layout.specs.Actions.{joinOf, actionBoundsOf};
-ghost use Rattle.layout.specs.Psp.{atMostOneOf, pspInputsOf};
+ghost use Rattle.layout.specs.Psp.{atMostOneOf, pspInputsOf, withInputsOf};
+ghost use Rattle.layout.specs.Maybe.{maybe};
 ghost use mathlib.Core.List.{map, zipWith};
 ghost use lib.ListN.{drop};
 ghost use Rattle.prelude.specs.Lists.{anyOf, replaceFirst};
 ghost use Rattle.geometry.specs.Rect.{overlapsOf};
-ghost use Rattle.layout.specs.Layout.{elementCountOf, elementOf, setElementOf, elementsOf, elementList, cutoutList, withBounds};
+ghost use Rattle.layout.specs.Layout.{elementCountOf, elementOf, setElementOf, elementsOf, elementList, cutoutList, control, withBounds, Few};
 ghost use Rattle.layout.specs.Elements.{controllerElementsOf, setElementsOf};
 use geometry::EMPTY;
 use geometry::Rect;
@@ -75,6 +77,48 @@ pub const NO_CUTOUTS: Cutouts = Cutouts {
     at: [EMPTY; 16],
     count: 0,
 };
+
+const NO_CONTROL: Control = Control {
+    bounds: EMPTY,
+    label: Label::Tri,
+};
+
+// All rectangles are empty; no controls and no sticks.
+pub const EMPTY_LAYOUT: Layout = Layout {
+    game: EMPTY,
+    dpad: EMPTY,
+    controls: [NO_CONTROL; 12],
+    count: 0,
+    pause: EMPTY,
+    playback: EMPTY,
+    speed: EMPTY,
+    mute: EMPTY,
+    sticks: [EMPTY; 2],
+    stickcount: 0,
+};
+
+// A layout, where there is one.
+pub struct MaybeLayout {
+    pub some: bool,
+    pub layout: Layout,
+}
+
+impl Control {
+    pub fn new(bounds: Rect, label: Label) -> Self
+        ensures { λ r. ⌜ r ≡ control bounds label ⌝ }
+    {
+        Self { bounds, label }
+    }
+
+    // The control at another place.
+    pub fn with_bounds(self, bounds: Rect) -> Self
+        ensures { λ r. ⌜ r ≡ withBounds self bounds ⌝ }
+    {
+        let mut c = self;
+        c.bounds = bounds;
+        c
+    }
+}
 
 impl Label {
     // The label's bit in a button mask.
@@ -184,80 +228,79 @@ impl Cutouts {
 
 impl Layout {
     pub fn element_count(self) -> usize
-        requires { ⌜ (self .count ≤ 12) × (self .stickcount ≤ 2) ⌝ }
+        requires { ⌜ Few self ⌝ }
         ensures { λ r. ⌜ r ≡ elementCountOf self ⌝ }
     {
         self.count + 5 + self.stickcount
     }
 
     // The elements by index: the d-pad, the controls, the four keys of the toolbar, the sticks.
-    pub fn element(self, i: usize) -> Rect
-        requires { ⌜ (self .count ≤ 12) × (self .stickcount ≤ 2) × (i < elementCountOf self) ⌝ }
-        ensures { λ r. ⌜ r ≡ elementOf self i ⌝ }
+    pub fn element(self, index: usize) -> Rect
+        requires { ⌜ Few self × (index < elementCountOf self) ⌝ }
+        ensures { λ r. ⌜ r ≡ elementOf self index ⌝ }
     {
         let n = self.count;
-        if i < 1 {
+        if index == 0 {
             return self.dpad;
         }
-        if i < n + 1 {
-            let c = self.controls[i - 1];
+        if index <= n {
+            let c = self.controls[index - 1];
             return c.bounds;
         }
-        if i < n + 2 {
+        if index == n + 1 {
             return self.pause;
         }
-        if i < n + 3 {
+        if index == n + 2 {
             return self.playback;
         }
-        if i < n + 4 {
+        if index == n + 3 {
             return self.speed;
         }
-        if i < n + 5 {
+        if index == n + 4 {
             return self.mute;
         }
-        self.sticks[i - n - 5]
+        self.sticks[index - n - 5]
     }
 
-    pub fn set_element(self, i: usize, r: Rect) -> Layout
-        requires { ⌜ (self .count ≤ 12) × (self .stickcount ≤ 2) × (i < elementCountOf self) ⌝ }
-        ensures { λ q. ⌜ q ≡ setElementOf self i r ⌝ }
+    pub fn set_element(self, index: usize, rect: Rect) -> Layout
+        requires { ⌜ Few self × (index < elementCountOf self) ⌝ }
+        ensures { λ r. ⌜ r ≡ setElementOf self index rect ⌝ }
     {
         let n = self.count;
         let mut l = self;
-        if i < 1 {
-            l.dpad = r;
+        if index == 0 {
+            l.dpad = rect;
             return l;
         }
-        if i < n + 1 {
-            let c = l.controls[i - 1];
-            let label = c.label;
-            l.controls[i - 1] = Control { bounds: r, label };
+        if index <= n {
+            let c = l.controls[index - 1];
+            l.controls[index - 1] = c.with_bounds(rect);
             return l;
         }
-        if i < n + 2 {
-            l.pause = r;
+        if index == n + 1 {
+            l.pause = rect;
             return l;
         }
-        if i < n + 3 {
-            l.playback = r;
+        if index == n + 2 {
+            l.playback = rect;
             return l;
         }
-        if i < n + 4 {
-            l.speed = r;
+        if index == n + 3 {
+            l.speed = rect;
             return l;
         }
-        if i < n + 5 {
-            l.mute = r;
+        if index == n + 4 {
+            l.mute = rect;
             return l;
         }
-        l.sticks[i - n - 5] = r;
+        l.sticks[index - n - 5] = rect;
         l
     }
 
     // All elements, in the order of their indices.
     // The places of the array past the count are left open.
     pub fn elements(self) -> Elements
-        requires { ⌜ (self .count ≤ 12) × (self .stickcount ≤ 2) ⌝ }
+        requires { ⌜ Few self ⌝ }
         ensures { λ r. ⌜ (elementList r ≡ elementsOf self) × (r .count ≡ elementCountOf self) ⌝ }
     {
         let n = self.count;
@@ -289,7 +332,7 @@ impl Layout {
     // The elements but for the toolbar's.
     // The places of the array past the count are left open.
     pub fn controller_elements(self) -> Elements
-        requires { ⌜ (self .count ≤ 12) × (self .stickcount ≤ 2) ⌝ }
+        requires { ⌜ Few self ⌝ }
         ensures { λ r. ⌜ (elementList r ≡ map (elementOf self) (controllerElementsOf self)) × (r .count ≡ self .count + 1 + self .stickcount) ⌝ }
     {
         let n = self.count;
@@ -306,7 +349,7 @@ impl Layout {
 
     // `set_element` at each index in turn.
     pub fn set_elements(self, rects: Elements) -> Layout
-        requires { ⌜ (self .count ≤ 12) × (self .stickcount ≤ 2) × (rects .count ≡ elementCountOf self) ⌝ }
+        requires { ⌜ Few self × (rects .count ≡ elementCountOf self) ⌝ }
         ensures { λ r. ⌜ r ≡ setElementsOf self (elementList rects) ⌝ }
     {
         let n = self.count;
@@ -317,19 +360,15 @@ impl Layout {
         for i in 0..self.stickcount {
             sticks[i] = at[n + 5 + i];
         }
-        let game = self.game;
-        Layout {
-            game,
-            dpad: at[0],
-            controls,
-            count: n,
-            pause: at[n + 1],
-            playback: at[n + 2],
-            speed: at[n + 3],
-            mute: at[n + 4],
-            sticks,
-            stickcount: self.stickcount,
-        }
+        let mut l = self;
+        l.dpad = at[0];
+        l.controls = controls;
+        l.pause = at[n + 1];
+        l.playback = at[n + 2];
+        l.speed = at[n + 3];
+        l.mute = at[n + 4];
+        l.sticks = sticks;
+        l
     }
 
     // The box around the face controls, empty if there is none.
@@ -413,9 +452,29 @@ fn set_bounds(controls: [Control; 12], n: usize, at: [Rect; 19]) -> [Control; 12
     let mut out = controls;
     for i in 0..n {
         let c = controls[i];
-        let label = c.label;
-        let bounds = at[i + 1];
-        out[i] = Control { bounds, label };
+        out[i] = c.with_bounds(at[i + 1]);
     }
     out
+}
+
+// A psp has some of the inputs only.
+pub fn with_inputs(l: Layout, psp: bool) -> Layout
+    requires { ⌜ Few l ⌝ }
+    ensures { λ r. ⌜ (r ≡ withInputsOf l psp) × (r .count ≤ 12) × (r .stickcount ≤ 2) ⌝ }
+{
+    if psp {
+        return l.psp_inputs();
+    }
+    l
+}
+
+// Rust's `None`.
+// The layout beside `some: false` is left open, but for its counts.
+pub fn no_layout() -> MaybeLayout
+    ensures { λ r. ⌜ (maybe r ≡ none) × (r .layout .count ≡ 0) × (r .layout .stickcount ≡ 0) ⌝ }
+{
+    MaybeLayout {
+        some: false,
+        layout: EMPTY_LAYOUT,
+    }
 }

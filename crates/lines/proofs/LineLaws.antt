@@ -16,7 +16,7 @@ use Rattle.prelude.proofs.Booleans.{by-test}
 use Rattle.geometry.specs.declared.Rect.{Rect}
 use Rattle.numerics.proofs.Bounds.{eps-pos, most-magnitude}
 use Rattle.numerics.specs.Value.{magnitude, sign, Whole, eps, AtMost}
-use Rattle.lines.specs.Line.{tenthsOf, tenthsSizeOf, lineOf, digitsIn, digitsOf, numberText, fieldText, lineText, headText, most, mostTenths, Printable}
+use Rattle.lines.specs.Line.{Line, tenthsOf, tenthsSizeOf, lineOf, digitsIn, digitsOf, numberText, fieldText, lineText, headText, most, mostTenths, Printable}
 
 -- ---- digits
 -- the steps left over change nothing
@@ -116,11 +116,12 @@ pub length-head : (word : List ℕ) (n : ℕ) → length (headText word n) ≡ l
 unfolding headText
 length-head word n = simp length-append
 
-pub length-parts : (name : List ℕ) (r : Rect)
-    → length (lineText (lineOf name r)) ≡ length name + (length (fieldText (tenthsOf (r .x))) + (length (fieldText (tenthsOf (r .y))) + (length (fieldText (tenthsOf (r .w))) + (length (fieldText (tenthsOf (r .h))) + 1))))
-unfolding lineText lineOf
-length-parts name r = simp length-append
+pub length-parts : (l : Line)
+    → length (lineText l) ≡ length (l .name) + (length (fieldText (l .x)) + (length (fieldText (l .y)) + (length (fieldText (l .w)) + (length (fieldText (l .h)) + 1))))
+unfolding lineText
+length-parts l = simp length-append
 
 pub length-line : (name : List ℕ) (r : Rect) → Printable r → length (lineText (lineOf name r)) ≤ length name + 33
+unfolding lineOf
 length-line name r p =
-    rw (length-parts name r) (omega (arith, length-field (r .x) (p .x), length-field (r .y) (p .y), length-field (r .w) (p .w), length-field (r .h) (p .h)))
+    rw (length-parts (lineOf name r)) (omega (arith, length-field (r .x) (p .x), length-field (r .y) (p .y), length-field (r .w) (p .w), length-field (r .h) (p .h)))

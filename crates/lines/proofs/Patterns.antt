@@ -33,8 +33,8 @@ scaled a k j less h l = sym (shr-shr (a * 2 ^ k - less) k j) ∙ ap (λ (x : ℕ
 pub power : (e : ℕ) → 110 ≤ e → 1 * 2 ^ (150 - e) % 2 ^ 64 ≡ 2 ^ (150 - e)
 power e h = shl-exact {a = 1} 1 (150 - e) 64 (lit< tt) (omega arith) ∙ one-mul (2 ^ (150 - e))
 
-pub room : (q e : ℕ) → q < 0x100_0000 → 110 ≤ e → 20 * q + 1 * 2 ^ (150 - e) % 2 ^ 64 < 2 ^ 64
-room q e h k = let b : 2 ^ (150 - e) ≤ 2 ^ 40 = pow-mono {i = 150 - e} {j = 40} (omega arith) in rw (power e k) (omega arith)
+pub sum-fits : (q e : ℕ) → q < 0x100_0000 → 110 ≤ e → 20 * q + 1 * 2 ^ (150 - e) % 2 ^ 64 < 2 ^ 64
+sum-fits q e h k = let b : 2 ^ (150 - e) ≤ 2 ^ 40 = pow-mono {i = 150 - e} {j = 40} (omega arith) in rw (power e k) (omega arith)
 
 -- q * 2 ^ x units, rounded; the code shifts by j
 shifted : (q x j less : ℕ) → x + j ≡ 149 → less ≤ 1 → (20 * (q * 2 ^ x) + 2 ^ 149 - less) / 2 ^ 150 ≡ (20 * q + 2 ^ j - less) / 2 ^ (j + 1)
@@ -132,17 +132,17 @@ module _ (x : Float) (held : T (fits binary32 x)) (a : AtMost x most) where
   abbrev n : ℕ
   n = toBits binary32 x
 
-  back : ofBits binary32 n ≡ x
-  back = ofBits-toBits binary32 x held
+  pattern-back : ofBits binary32 n ≡ x
+  pattern-back = ofBits-toBits binary32 x held
 
   pub exponent : n % 0x8000_0000 / 0x80_0000 < 150
-  exponent = exponent-small n (rw back a)
+  exponent = exponent-small n (rw pattern-back a)
 
   pub size-is : {r : ℕ} → r ≡ tenthsSizeOf (ofBits binary32 n) → (r ≡ tenthsSizeOf x) × (r < 0x8000_0000)
-  size-is p = let e = p ∙ ap tenthsSizeOf back in (e, omega (arith, size-most x a))
+  size-is p = let e = p ∙ ap tenthsSizeOf pattern-back in (e, omega (arith, size-most x a))
 
   sign-is-bit : sign x ≡ leb 0x8000_0000 n
-  sign-is-bit = ap sign (sym back ∙ ofBits-is binary32 n) ∙ sign-fields (leb 0x8000_0000 n) (n % 0x8000_0000 / 0x80_0000) (n % 0x80_0000) exponent
+  sign-is-bit = ap sign (sym pattern-back ∙ ofBits-is binary32 n) ∙ sign-fields (leb 0x8000_0000 n) (n % 0x8000_0000 / 0x80_0000) (n % 0x80_0000) exponent
 
   pub tenths-plus : n < 0x8000_0000 → tenthsOf x ≡ pos (tenthsSizeOf x)
   tenths-plus h = tenths-is x (a .whole) ∙ rw (sign-is-bit, lt-leb 0x8000_0000 n h)

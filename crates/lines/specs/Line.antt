@@ -1,16 +1,18 @@
 -- A line of the film sheet of document 01, and its text.
 use mathlib.Core.Bool.{cond}
 use mathlib.Core.List.{List, [], _∷_, _++_}
-use Prim.Native.Nat.{ℕ, zero, suc, _+_, _-_, _*_, _/_, _%_, _^_}
+use Prim.Native.Nat.{ℕ, zero, suc, _+_, _-_, _*_, _/_, _%_, _^_, _≤_, _<_}
 use lib.Dec.{ltb}
 use lib.Ieee.{Float}
 use lib.IntN.{ℤ, pos, negsuc, _+ℤ_, _*ℤ_}
-use lib.ListN.{length}
-use lib.Signed.{shrZ}
+use lib.ListN.{length, take}
+use lib.Signed.{shrZ, mag}
+use Rattle.prelude.specs.Lists.{stored}
 use Rattle.geometry.specs.declared.Rect.{Rect}
+use Rattle.layout.specs.declared.Name.{Name}
 use Rattle.numerics.specs.Value.{value, magnitude, sign, AtMost}
 use Rattle.numerics.specs.Rects.{maxGameCorner}
-use Rattle.writer.specs.Bytes.{stored}
+use Rattle.lines.specs.declared.SheetLine.{SheetLine}
 
 -- a name in ASCII, and ten times x, y, w and h in whole numbers
 pub record Line : Type 0 where
@@ -30,6 +32,13 @@ tenthsSizeOf v = (20 * magnitude v + 2 ^ 149 - cond (sign v) 1 0) / 2 ^ 150
 
 unfoldable pub lineOf : List ℕ → Rect → Line
 lineOf name r = record { name = name; x = tenthsOf (r .x); y = tenthsOf (r .y); w = tenthsOf (r .w); h = tenthsOf (r .h) }
+
+-- a name without the zeros after it, and the line that the code holds
+abbrev pub nameText : Name → List ℕ
+nameText n = take (n .length) (n .bytes)
+
+abbrev pub lineIn : SheetLine → Line
+lineIn l = record { name = nameText (l .name); x = l .x; y = l .y; w = l .w; h = l .h }
 
 -- ---- text, in ASCII
 
@@ -74,6 +83,13 @@ pub record Printable (r : Rect) : Type 0 where
   pub y : AtMost (r .y) most
   pub w : AtMost (r .w) most
   pub h : AtMost (r .h) most
+
+pub record PrintableLine (l : SheetLine) : Type 0 where
+  pub name : l .name .length ≤ 6
+  pub x : mag (l .x) < mostTenths
+  pub y : mag (l .y) < mostTenths
+  pub w : mag (l .w) < mostTenths
+  pub h : mag (l .h) < mostTenths
 
 -- the output with a text stored from `at` on, and where the text ends
 unfoldable pub putOf : List ℕ → ℕ → List ℕ → List ℕ × ℕ

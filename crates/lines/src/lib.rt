@@ -1,12 +1,22 @@
-// The lines of document 01's film sheet as text: a name or a word, and whole numbers.
+// The lines of document 01's film sheet, as data and as text: a name or a word, and whole numbers.
 ghost use mathlib.Core.Path.{_≡_};
 ghost use Prim.Native.Nat.{_+_, _≤_, _<_, _/_, _%_, _^_};
 ghost use lib.Ieee.{binary32, ofBits};
 ghost use lib.ListN.{length};
 ghost use lib.Signed.{mag};
 ghost use Rattle.numerics.specs.Value.{AtMost};
-ghost use Rattle.lines.specs.Line.{tenthsOf, tenthsSizeOf, lineOf, digitsOf, numberText, fieldText, lineText, headText, most, mostTenths, Printable, putOf};
+ghost use Rattle.lines.specs.Line.{tenthsOf, tenthsSizeOf, nameText, lineOf, lineIn, digitsOf, numberText, fieldText, lineText, headText, most, mostTenths, Printable, PrintableLine, putOf};
 use geometry::Rect;
+use layout::Name;
+
+// A line as data: a name, and ten times x, y, w and h in whole numbers.
+pub struct SheetLine {
+    pub name: Name,
+    pub x: i32,
+    pub y: i32,
+    pub w: i32,
+    pub h: i32,
+}
 
 // The size of ten times an f32 in whole numbers, by its bit pattern: the mantissa's last bit is worth 2^(exponent - 150), so that 2^j of it are 1.
 // A half is added, a bit less below zero so that halves go upward, and what is less than 1 is shifted out. Below 2^-17 nothing is left.
@@ -32,6 +42,19 @@ fn tenths(x: f32) -> i32
     let n = f32::to_bits(x);
     let size = tenths_size(n) as i32;
     if n < 0x8000_0000 { size } else { -size }
+}
+
+pub fn sheet_line(name: Name, r: Rect) -> SheetLine
+    requires { ⌜ (name .length ≤ 6) × Printable r ⌝ }
+    ensures { λ l. ⌜ (lineIn l ≡ lineOf (nameText name) r) × PrintableLine l ⌝ }
+{
+    SheetLine {
+        name,
+        x: tenths(r.x),
+        y: tenths(r.y),
+        w: tenths(r.w),
+        h: tenths(r.h),
+    }
 }
 
 fn put_text(out: &mut [u8], at: usize, text: &[u8]) -> usize
@@ -69,25 +92,28 @@ fn put_number(out: &mut [u8], at: usize, n: i32) -> usize
     put_digits(out, at, n as u32)
 }
 
-// A blank, and ten times x.
-fn put_field(out: &mut [u8], at: usize, x: f32) -> usize
-    requires { ⌜ AtMost x most × (at + length (fieldText (tenthsOf x)) ≤ length (now out)) ⌝ }
-    ensures { λ r. ⌜ (now (out .exit), r) ≡ putOf (now (out .entry)) at (fieldText (tenthsOf x)) ⌝ }
+// A blank, and a number.
+fn put_field(out: &mut [u8], at: usize, n: i32) -> usize
+    requires { ⌜ (mag n < mostTenths) × (at + length (fieldText n) ≤ length (now out)) ⌝ }
+    ensures { λ r. ⌜ (now (out .exit), r) ≡ putOf (now (out .entry)) at (fieldText n) ⌝ }
 {
     out[at] = b' ';
-    put_number(out, at + 1, tenths(x))
+    put_number(out, at + 1, n)
 }
 
 // A local says where the field begins that it is named after.
-pub fn put_line(out: &mut [u8], at: usize, name: &[u8], r: Rect) -> usize
-    requires { ⌜ Printable r × (at + length (lineText (lineOf (now name) r)) ≤ length (now out)) ⌝ }
-    ensures { λ q. ⌜ (now (out .exit), q) ≡ putOf (now (out .entry)) at (lineText (lineOf (now (name .entry)) r)) ⌝ }
+pub fn put_line(out: &mut [u8], at: usize, l: SheetLine) -> usize
+    requires { ⌜ PrintableLine l × (at + length (lineText (lineIn l)) ≤ length (now out)) ⌝ }
+    ensures { λ r. ⌜ (now (out .exit), r) ≡ putOf (now (out .entry)) at (lineText (lineIn l)) ⌝ }
 {
-    let x = put_text(out, at, name);
-    let y = put_field(out, x, r.x);
-    let w = put_field(out, y, r.y);
-    let h = put_field(out, w, r.w);
-    let feed = put_field(out, h, r.h);
+    let name = l.name;
+    let bytes = name.bytes;
+    let length = name.length;
+    let x = put_text(out, at, &bytes[..length]);
+    let y = put_field(out, x, l.x);
+    let w = put_field(out, y, l.y);
+    let h = put_field(out, w, l.w);
+    let feed = put_field(out, h, l.h);
     out[feed] = b'\n';
     feed + 1
 }

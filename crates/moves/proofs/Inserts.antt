@@ -1,7 +1,7 @@
 -- A move inserted into arrays: its place, each array opened there, the moves that the arrays then hold.
 use mathlib.Core.Path.{_≡_, refl, ap, sym, _∙_}
 use mathlib.Core.Bool.{Bool, true, false, cond}
-use mathlib.Core.List.{List, [], _∷_, map, zipWith}
+use mathlib.Core.List.{List, [], _∷_, map, zip, zipWith}
 use Prim.Native.Nat.{ℕ, zero, suc, _+_, _<_, _≤_}
 use native.Mathlib.Numerals.{add-one}
 use native.Mathlib.Omega.{arith}
@@ -10,9 +10,7 @@ use lib.ListN.{length, take, drop, getD, set}
 use lib.Seq.{drop-cons, drop-at, getD-take, length-take-le, set-split, take-set-le, take-set-lt, take-take}
 use Rattle.prelude.proofs.ListLaws.{take-zipWith}
 use Rattle.prelude.proofs.Loops.{none-left}
-use Rattle.moves.specs.declared.Move.{Move}
-use Rattle.moves.specs.declared.Move.the-variants.{Go}
-use Rattle.moves.specs.Moves.{Holds, lengthOf, shorterOf, placeOf, insertAtOf, insertOf, movesIn}
+use Rattle.moves.specs.Moves.{HoldMoves, lengthOf, shorterOf, slotOf, insertAtOf, insertOf, movesIn}
 
 drop-set : {A : Type 0} (l : List A) (i : ℕ) (v : A) → i < length l → drop i (set l i v) ≡ v ∷ drop (i + 1) l
 drop-set l i v h =
@@ -47,63 +45,63 @@ module _ {A : Type 0} (old : List A) (n : ℕ) where
       let a : drop (suc at) (take (n + 1) new) ≡ drop at (take n old) = rw (add-one at) at (o .after) in
       rw (take-set-lt (n + 1) new at v (omega arith), set-split (take (n + 1) new) at v (omega arith), a, take-take at (n + 1) new (omega arith), o .before, take-take at n old h)
 
--- ---- an insertion at the place is the insertion in front of the first longer move
-insert-place : (l : List Move) (m : Move) → insertOf l m ≡ insertAtOf l (placeOf (map lengthOf l) (lengthOf m)) m
-unfolding insertOf placeOf
-insert-place [] m = refl
-insert-place (y ∷ ys) m = go (shorterOf (lengthOf m) (lengthOf y)) (placeOf (map lengthOf ys) (lengthOf m)) (insert-place ys m)
+-- ---- an insertion at the slot is the insertion in front of the first longer move
+insert-slot : (l : List (Float × Float)) (m : Float × Float) → insertOf l m ≡ insertAtOf l (slotOf (map lengthOf l) (lengthOf m)) m
+unfolding insertOf slotOf
+insert-slot [] m = refl
+insert-slot (y ∷ ys) m = go (shorterOf (lengthOf m) (lengthOf y)) (slotOf (map lengthOf ys) (lengthOf m)) (insert-slot ys m)
   where
     go : (b : Bool) (p : ℕ) → insertOf ys m ≡ insertAtOf ys p m → cond b (m ∷ y ∷ ys) (y ∷ insertOf ys m) ≡ insertAtOf (y ∷ ys) (cond b 0 (suc p)) m
     go true p e = refl
-    go false p e = ap (λ (l : List Move). y ∷ l) e
+    go false p e = ap (λ (l : List (Float × Float)). y ∷ l) e
 
 map-insert : {A B : Type 0} (f : A → B) (l : List A) (p : ℕ) (v : A) → map f (insertAtOf l p v) ≡ insertAtOf (map f l) p (f v)
 map-insert f l zero v = refl
 map-insert f [] (suc p) v = refl
 map-insert f (x ∷ l) (suc p) v = ap (λ t. f x ∷ t) (map-insert f l p v)
 
-zip-insert : {A B C : Type 0} (f : A → B → C) (xs : List A) (ys : List B) (p : ℕ) (x : A) (y : B) → length xs ≡ length ys
-    → zipWith f (insertAtOf xs p x) (insertAtOf ys p y) ≡ insertAtOf (zipWith f xs ys) p (f x y)
-unfolding zipWith
-zip-insert f xs ys zero x y e = refl
-zip-insert f [] [] (suc p) x y e = refl
-zip-insert f [] (b ∷ ys) (suc p) x y e = absurd (let z : ⊥ = omega arith in z)
-zip-insert f (a ∷ xs) [] (suc p) x y e = absurd (let z : ⊥ = omega arith in z)
-zip-insert f (a ∷ xs) (b ∷ ys) (suc p) x y e = ap (λ t. f a b ∷ t) (zip-insert f xs ys p x y (omega arith))
+zip-insert : {A B : Type 0} (xs : List A) (ys : List B) (p : ℕ) (x : A) (y : B) → length xs ≡ length ys
+    → zip (insertAtOf xs p x) (insertAtOf ys p y) ≡ insertAtOf (zip xs ys) p (x, y)
+unfolding zip zipWith
+zip-insert xs ys zero x y e = refl
+zip-insert [] [] (suc p) x y e = refl
+zip-insert [] (b ∷ ys) (suc p) x y e = absurd (let z : ⊥ = omega arith in z)
+zip-insert (a ∷ xs) [] (suc p) x y e = absurd (let z : ⊥ = omega arith in z)
+zip-insert (a ∷ xs) (b ∷ ys) (suc p) x y e = ap (λ t. (a, b) ∷ t) (zip-insert xs ys p x y (omega arith))
 
--- the three arrays, each opened at the place of the new length
-pub insert-holds : (dxs dys lens dxs' dys' lens' : List Float) (n p : ℕ) (dx dy : Float) → n ≤ 256 → Holds dxs dys lens n (movesIn dxs dys n)
-    → p ≡ placeOf (take n lens) (lengthOf (Go dx dy)) → (take (n + 1) dxs' ≡ insertAtOf (take n dxs) p dx) × (length dxs' ≡ 256)
-    → (take (n + 1) dys' ≡ insertAtOf (take n dys) p dy) × (length dys' ≡ 256) → (take (n + 1) lens' ≡ insertAtOf (take n lens) p (lengthOf (Go dx dy))) × (length lens' ≡ 256)
-    → Holds dxs' dys' lens' (n + 1) (insertOf (movesIn dxs dys n) (Go dx dy))
-unfolding movesIn
+-- the three arrays, each opened at the slot of the new length
+pub insert-holds : (dxs dys lens dxs' dys' lens' : List Float) (n p : ℕ) (dx dy : Float) → n ≤ 256 → HoldMoves dxs dys lens n (movesIn dxs dys n)
+    → p ≡ slotOf (take n lens) (lengthOf (dx, dy)) → (take (n + 1) dxs' ≡ insertAtOf (take n dxs) p dx) × (length dxs' ≡ 256)
+    → (take (n + 1) dys' ≡ insertAtOf (take n dys) p dy) × (length dys' ≡ 256) → (take (n + 1) lens' ≡ insertAtOf (take n lens) p (lengthOf (dx, dy))) × (length lens' ≡ 256)
+    → HoldMoves dxs' dys' lens' (n + 1) (insertOf (movesIn dxs dys n) (dx, dy))
+unfolding movesIn zip
 insert-holds dxs dys lens dxs' dys' lens' n p dx dy hn o e ex ey el =
-    let m : Move = Go dx dy in
-    let ms : List Move = movesIn dxs dys n in
-    let q : insertOf ms m ≡ insertAtOf ms p m = insert-place ms m ∙ rw (← o .lengths, e) in
+    let m : Float × Float = (dx, dy) in
+    let ms : List (Float × Float) = movesIn dxs dys n in
+    let q : insertOf ms m ≡ insertAtOf ms p m = insert-slot ms m ∙ rw (← o .lengths, e) in
     let lx : length (take n dxs) ≡ n = length-take-le n dxs (omega arith) in
     let ly : length (take n dys) ≡ n = length-take-le n dys (omega arith) in
     record {
       dxsize = ex .1;
       dysize = ey .1;
       lensize = el .1;
-      offsets = rw (take-zipWith, ex .0, ey .0, take-zipWith) (zip-insert Go (take n dxs) (take n dys) p dx dy (omega arith)) ∙ sym q;
+      offsets = rw (take-zipWith, ex .0, ey .0, take-zipWith) (zip-insert (take n dxs) (take n dys) p dx dy (omega arith)) ∙ sym q;
       lengths = el .0 ∙ rw (o .lengths) (sym (map-insert lengthOf ms p m)) ∙ ap (map lengthOf) (sym q);
     }
 
 -- no move yet
-pub holds-none : (dxs dys lens : List Float) → length dxs ≡ 256 → length dys ≡ 256 → length lens ≡ 256 → Holds dxs dys lens 0 (movesIn dxs dys 0)
+pub holds-none : (dxs dys lens : List Float) → length dxs ≡ 256 → length dys ≡ 256 → length lens ≡ 256 → HoldMoves dxs dys lens 0 (movesIn dxs dys 0)
 unfolding movesIn
 holds-none dxs dys lens x y k = record { dxsize = x; dysize = y; lensize = k; offsets = refl; lengths = refl }
 
 -- what arrays hold, read off them
-pub held : {dxs dys lens : List Float} {n : ℕ} {moves : List Move} → Holds dxs dys lens n moves → Holds dxs dys lens n (movesIn dxs dys n)
+pub held : {dxs dys lens : List Float} {n : ℕ} {moves : List (Float × Float)} → HoldMoves dxs dys lens n moves → HoldMoves dxs dys lens n (movesIn dxs dys n)
 held o = record { dxsize = o .dxsize; dysize = o .dysize; lensize = o .lensize; offsets = refl; lengths = o .lengths ∙ ap (map lengthOf) (sym (o .offsets)) }
 
 -- one more
-pub holds-next : {dxs dys lens dxs' dys' lens' : List Float} {n k : ℕ} {moves : List Move} (m : Move) → Holds dxs dys lens n moves
-    → Holds dxs' dys' lens' k (insertOf (movesIn dxs dys n) m) → Holds dxs' dys' lens' k (insertOf moves m)
+pub holds-next : {dxs dys lens dxs' dys' lens' : List Float} {n k : ℕ} {moves : List (Float × Float)} (m : Float × Float) → HoldMoves dxs dys lens n moves
+    → HoldMoves dxs' dys' lens' k (insertOf (movesIn dxs dys n) m) → HoldMoves dxs' dys' lens' k (insertOf moves m)
 holds-next m o q = rw (o .offsets) at q
 
-pub recount : {dxs dys lens : List Float} {n : ℕ} (k : ℕ) {moves : List Move} → n ≡ k → Holds dxs dys lens n moves → Holds dxs dys lens k moves
+pub recount : {dxs dys lens : List Float} {n : ℕ} (k : ℕ) {moves : List (Float × Float)} → n ≡ k → HoldMoves dxs dys lens n moves → HoldMoves dxs dys lens k moves
 recount k e o = rw e at o

@@ -4,7 +4,7 @@ ghost use mathlib.Core.List.{foldl, flatMap};
 ghost use Prim.Native.Nat.{_+_, _<_, _≤_};
 ghost use lib.ListN.{length, take};
 ghost use Rattle.layout.specs.Layout.{cutoutList, elementList};
-ghost use Rattle.moves.specs.Moves.{Holds, awayOf, rankOf, shorterOf, placeOf, insertAtOf, insertOf, movesOff, movesIn, movedOf, clearOf, allClearOf, firstClearOf, searchOf};
+ghost use Rattle.moves.specs.Moves.{HoldMoves, awayOf, rankOf, shorterOf, slotOf, insertAtOf, insertOf, movesOff, movesIn, clearOf, allClearOf, firstClearOf, searchOf};
 use geometry::Rect;
 use layout::Cutouts;
 use layout::Elements;
@@ -34,9 +34,9 @@ fn shorter(a: f32, b: f32) -> bool
 }
 
 // Where a length belongs among the first n: in front of the first longer one.
-fn place(lens: &[f32; 256], n: usize, len: f32) -> usize
+fn slot(lens: &[f32; 256], n: usize, len: f32) -> usize
     requires { ⌜ (n ≤ 256) × (length (now lens) ≡ 256) ⌝ }
-    ensures { λ r. ⌜ (r ≡ placeOf (take n (now (lens .entry))) len) × (r ≤ n) ⌝ }
+    ensures { λ r. ⌜ (r ≡ slotOf (take n (now (lens .entry))) len) × (r ≤ n) ⌝ }
 {
     for i in 0..n {
         if shorter(len, lens[i]) {
@@ -68,11 +68,11 @@ fn insert(
     dx: f32,
     dy: f32,
 )
-    requires { ⌜ (n < 256) × Holds (now dxs) (now dys) (now lens) n (movesIn (now dxs) (now dys) n) ⌝ }
-    ensures { λ r. ⌜ Holds (now (dxs .exit)) (now (dys .exit)) (now (lens .exit)) (n + 1) (insertOf (movesIn (now (dxs .entry)) (now (dys .entry)) n) (Move.Go dx dy)) ⌝ }
+    requires { ⌜ (n < 256) × HoldMoves (now dxs) (now dys) (now lens) n (movesIn (now dxs) (now dys) n) ⌝ }
+    ensures { λ r. ⌜ HoldMoves (now (dxs .exit)) (now (dys .exit)) (now (lens .exit)) (n + 1) (insertOf (movesIn (now (dxs .entry)) (now (dys .entry)) n) (dx, dy)) ⌝ }
 {
     let len = dx * dx + dy * dy;
-    let at = place(lens, n, len);
+    let at = slot(lens, n, len);
     insert_at(dxs, n, at, dx);
     insert_at(dys, n, at, dy);
     insert_at(lens, n, at, len);
@@ -87,8 +87,8 @@ fn insert_away(
     r: Rect,
     c: Rect,
 )
-    requires { ⌜ (n + 4 ≤ 256) × Holds (now dxs) (now dys) (now lens) n (movesIn (now dxs) (now dys) n) ⌝ }
-    ensures { λ q. ⌜ Holds (now (dxs .exit)) (now (dys .exit)) (now (lens .exit)) (n + 4) (foldl insertOf (movesIn (now (dxs .entry)) (now (dys .entry)) n) (awayOf r c)) ⌝ }
+    requires { ⌜ (n + 4 ≤ 256) × HoldMoves (now dxs) (now dys) (now lens) n (movesIn (now dxs) (now dys) n) ⌝ }
+    ensures { λ q. ⌜ HoldMoves (now (dxs .exit)) (now (dys .exit)) (now (lens .exit)) (n + 4) (foldl insertOf (movesIn (now (dxs .entry)) (now (dys .entry)) n) (awayOf r c)) ⌝ }
 {
     insert(dxs, dys, lens, n, c.x - r.w - 8.0 - r.x, 0.0);
     insert(dxs, dys, lens, n + 1, c.x + c.w + 8.0 - r.x, 0.0);
@@ -105,8 +105,9 @@ fn insert_off(
     r: Rect,
     holes: Cutouts,
 ) -> usize
-    requires { ⌜ (n + 64 ≤ 256) × (holes .count ≤ 16) × Holds (now dxs) (now dys) (now lens) n (movesIn (now dxs) (now dys) n) ⌝ }
-    ensures { λ q. ⌜ (q ≤ n + 64) × Holds (now (dxs .exit)) (now (dys .exit)) (now (lens .exit)) q (foldl insertOf (movesIn (now (dxs .entry)) (now (dys .entry)) n) (flatMap (movesOff r) (cutoutList holes))) ⌝ }
+    requires { ⌜ (n + 64 ≤ 256) × (holes .count ≤ 16) × HoldMoves (now dxs) (now dys) (now lens) n (movesIn (now dxs) (now dys) n) ⌝ }
+    ensures { λ q. ⌜ (q ≤ n + 64)
+        × HoldMoves (now (dxs .exit)) (now (dys .exit)) (now (lens .exit)) q (foldl insertOf (movesIn (now (dxs .entry)) (now (dys .entry)) n) (flatMap (movesOff r) (cutoutList holes))) ⌝ }
 {
     let holecount = holes.count;
     let mut count = n;
@@ -119,17 +120,6 @@ fn insert_off(
         count = count + 4;
     }
     count
-}
-
-pub fn moved(r: Rect, dx: f32, dy: f32) -> Rect
-    ensures { λ q. ⌜ q ≡ movedOf (Move.Go dx dy) r ⌝ }
-{
-    Rect {
-        x: r.x + dx,
-        y: r.y + dy,
-        w: r.w,
-        h: r.h,
-    }
 }
 
 // On the screen, off the cutouts and off the other elements.
@@ -152,10 +142,10 @@ fn all_clear(
     others: Elements,
 ) -> bool
     requires { ⌜ (m ≤ 4) × ((holes .count ≤ 16) × (others .count ≤ 19)) ⌝ }
-    ensures { λ q. ⌜ q ≡ allClearOf w h (cutoutList holes) (elementList others) (take m original) (Move.Go dx dy) ⌝ }
+    ensures { λ q. ⌜ q ≡ allClearOf w h (cutoutList holes) (elementList others) (take m original) (dx, dy) ⌝ }
 {
     for j in 0..m {
-        if !clear(moved(original[j], dx, dy), w, h, holes, others) {
+        if !clear(original[j].shifted(dx, dy), w, h, holes, others) {
             return false;
         }
     }

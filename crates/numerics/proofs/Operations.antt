@@ -109,15 +109,15 @@ strip g n c e W Z C q h =
     let y : Z * c ≤ (g * W + e * W) * c = omega arith in
     (le-of-mul-le-mul-right x C, le-of-mul-le-mul-right y C)
 
-inside : (n c t W Z : ℕ) → 0 < c → n * W ≡ Z * c → Z < t * W → n < t * c
-inside n c t W Z C q h = let k = mul-lt-mul-of-pos-right h C in let x : n * W < t * c * W = omega arith in lt-of-mul-lt-mul-right W x
+units-below : (n c t W Z : ℕ) → 0 < c → n * W ≡ Z * c → Z < t * W → n < t * c
+units-below n c t W Z C q h = let k = mul-lt-mul-of-pos-right h C in let x : n * W < t * c * W = omega arith in lt-of-mul-lt-mul-right W x
 
 -- below 2 ^ (k + 25) units it is off by 2 ^ k at most
 pub round-within : (k : ℕ) {r : Float} {s : Bool} {Z W : ℕ} → Rounded r s Z W → Z < 2 ^ (k + 25) * W → 2 ^ (k + 25) + 2 ^ k < overflow binary32 → Near r (posIf s Z) (negIf s Z) W (2 ^ k)
 round-within k {s = s} {Z = Z} {W = W} r h l =
     let a = r .a in
     let c = r .c in
-    let i = inside (a * 2 ^ 149) c (2 ^ (k + 25)) W Z (r .divisor) (r .units) h in
+    let i = units-below (a * 2 ^ 149) c (2 ^ (k + 25)) W Z (r .divisor) (r .units) h in
     let f = strip (grid binary32 a c) (a * 2 ^ 149) c (2 ^ k) W Z (r .divisor) (r .units) (grid-close binary32 k a c (r .divisor) i) in
     rw (r .is) (of-value (round binary32 s a c) s (grid binary32 a c) Z W (2 ^ k) (round-value binary32 k a c (r .divisor) i s l) (f .0) (f .1))
 

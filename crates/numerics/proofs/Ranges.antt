@@ -268,17 +268,17 @@ element-in {a = a} {b = b} {a' = a'} {b' = b'} {c = c} {d = d} {c' = c'} {d' = d
     let s = all-four (small maxCorner a b) (small maxCorner a' b') (small maxSide c d) (small maxSide c' d') t in
     record { x = range-most maxCorner i (s .0); y = range-most maxCorner j (s .1); w = range-most maxSide k (s .2); h = range-most maxSide l (s .3) }
 
-abbrev pub inside : ℕ → ℕ → ℕ → ℕ → Bool
-inside a' b' a b = leb a' a && leb b b'
+abbrev pub encloses : ℕ → ℕ → ℕ → ℕ → Bool
+encloses a' b' a b = leb a' a && leb b b'
 
-pub in-wide : {x : Float} {a b a' b' : ℕ} → In x a b → T (inside a' b' a b) → In x a' b'
+pub in-wide : {x : Float} {a b a' b' : ℕ} → In x a b → T (encloses a' b' a b) → In x a' b'
 in-wide {a = a} {b = b} {a' = a'} {b' = b'} i t = in-more a' b' i (and-l (leb a' a) (leb b b') t) (and-r (leb a' a) (leb b b') t)
 
 -- the same for an element of an arrangement
 pub placed-in : {above m : ℕ} {x y w h : Float} {a b a' b' c d c' d' : ℕ} → In x a b → In y a' b' → In w c d → In h c' d'
-    → T (inside (minus m) (at (8192 + m)) a b && (inside (minus (above + m)) (at (8192 + m)) a' b' && (small (maxArea + m) c d && small (maxArea + m) c' d'))) → Placed above m (newOf x y w h)
+    → T (encloses (minus m) (at (8192 + m)) a b && (encloses (minus (above + m)) (at (8192 + m)) a' b' && (small (maxArea + m) c d && small (maxArea + m) c' d'))) → Placed above m (newOf x y w h)
 placed-in {above} {m} {a = a} {b = b} {a' = a'} {b' = b'} {c = c} {d = d} {c' = c'} {d' = d'} i j k l t =
-    let s = all-four (inside (minus m) (at (8192 + m)) a b) (inside (minus (above + m)) (at (8192 + m)) a' b') (small (maxArea + m) c d) (small (maxArea + m) c' d') t in
+    let s = all-four (encloses (minus m) (at (8192 + m)) a b) (encloses (minus (above + m)) (at (8192 + m)) a' b') (small (maxArea + m) c d) (small (maxArea + m) c' d') t in
     record { x = in-wide i (s .0); y = in-wide j (s .1); w = range-most (maxArea + m) k (s .2); h = range-most (maxArea + m) l (s .3) }
 
 pub placed-element : {above m : ℕ} {e : Rect} → Placed above m e → T (small maxCorner (minus m) (at (8192 + m)) && (small maxCorner (minus (above + m)) (at (8192 + m)) && leb (maxArea + m) maxSide)) → Element e

@@ -16,17 +16,18 @@ use Rattle.numerics.specs.Value.{magnitude}
 use Rattle.search.specs.Search.{placeGameInAspectOf}
 use Rattle.search.specs.Widest.{sixteenth}
 use Rattle.toolbar.specs.Toolbar.{pass, pairOf, avoidedOf, anchorToolbarOf}
-use Rattle.arranged.specs.Places.{placeFacesOf, wellFacesOf, atOf, controllerOf, placedOf}
 use Rattle.arranged.specs.Arranged.{finishedOf, dockedOf, arrangedOf}
 use Rattle.band.specs.Band.{findRoomOf, measureBandOf, plainPlacesOf, bandedOf, controllerBandOf}
 use Rattle.cutouts.specs.Cutouts.{avoidCutoutsOf}
 use Rattle.saved.specs.Saved.{withSavedOf}
 use Rattle.settings.specs.declared.Settings.{Settings}
-use Rattle.settings.specs.Settings.{defaultOf, pictureFitOf, inLimitsOf, screenInLimitsOf}
-use Rattle.reader.specs.Order.{numberAtOf, fitMarkOf, readScreenOf, readFitOf, fromByteOf, readFieldOf, fields, blankOf, readOrderOf, rectAtOf, rects}
-use Rattle.writer.specs.Bytes.{shortBytes, patternOf, numberBytes, rectBytes, headBytes, layoutBytes}
-use Rattle.written.specs.Written.{fieldValue, writtenGame, writtenElements}
-use Rattle.chosen.specs.Chosen.{arrangementOf, bandOrRailsOf, areaOf}
+use Rattle.places.specs.Places.{placeFacesOf, wellFacesOf, atOf, controllerOf, placedOf}
+use Rattle.settings.specs.Settings.{defaultOf, absentOf, pictureFitOf, inLimitsOf, screenInLimitsOf}
+use Rattle.wire.specs.Wire.{numberAtOf, rectAtOf, rects, fieldValue, shortBytes, writtenBitsOf, numberBytes, rectBytes, headBytes}
+use Rattle.reader.specs.Order.{fitMarkOf, readScreenOf, readFitOf, fromByteOf, readFieldOf, fields, readOrderOf}
+use Rattle.writer.specs.Bytes.{layoutBytes}
+use Rattle.written_layout.specs.Written.{writtenGame, writtenElements}
+use Rattle.arrangement_choice.specs.Choice.{arrangementOf, bandOrRailsOf, areaOf}
 use Rattle.preset.specs.Preset.{settledOf, rowAllowedOf, laidOutOf, layoutInOf, settingsLayoutOf}
 use Rattle.order.specs.Demands.{WidestWritten}
 
@@ -37,7 +38,7 @@ order = 1 ∷ 0 ∷ 8 ∷ 0x44 ∷ 0x7A ∷ 0 ∷ 0 ∷ 0x44 ∷ 0x7A ∷ 0 ∷ 
 -- the settings that an accepted order gives
 abbrev settingsIn : Answer Settings → Settings
 settingsIn (accepted s) = s
-settingsIn (refused n) = blankOf
+settingsIn (refused n) = absentOf
 
 abbrev given : Settings
 given = settingsIn (readOrderOf order)
@@ -52,8 +53,8 @@ written = layoutBytes (withGame (settingsLayoutOf given) emptyRect)
 
 -- for the reader: no proof cites this law. The rival is 400 by 300, in the middle of the area across, and 200 from its top.
 pub empty-refused : (n : ℕ) (rest : List ℕ) → WidestWritten order (accepted n) (written ++ rest) → ⊥
-unfolding readOrderOf fields must readFieldOf fromByteOf readScreenOf readFitOf numberAtOf fitMarkOf blankOf defaultOf inLimitsOf screenInLimitsOf settingsLayoutOf layoutInOf laidOutOf settledOf rowAllowedOf pictureFitOf areaOf arrangementOf bandOrRailsOf controllerBandOf findRoomOf measureBandOf plainPlacesOf bandedOf arrangedOf finishedOf dockedOf controllerOf placedOf atOf placeFacesOf wellFacesOf withSavedOf avoidCutoutsOf anchorToolbarOf avoidedOf pairOf pass placeGameInAspectOf elementsOf mapFirst minOf maxOf ofBits toBits add sub mul div le ne layoutBytes headBytes shortBytes rectBytes numberBytes patternOf flatMap fieldValue writtenGame writtenElements rects rectAtOf magnitude sixteenth
+unfolding readOrderOf fields must readFieldOf fromByteOf readScreenOf readFitOf numberAtOf fitMarkOf absentOf defaultOf inLimitsOf screenInLimitsOf settingsLayoutOf layoutInOf laidOutOf settledOf rowAllowedOf pictureFitOf areaOf arrangementOf bandOrRailsOf controllerBandOf findRoomOf measureBandOf plainPlacesOf bandedOf arrangedOf finishedOf dockedOf controllerOf placedOf atOf placeFacesOf wellFacesOf withSavedOf avoidCutoutsOf anchorToolbarOf avoidedOf pairOf pass placeGameInAspectOf elementsOf mapFirst minOf maxOf ofBits toBits add sub mul div le ne layoutBytes headBytes shortBytes rectBytes numberBytes writtenBitsOf flatMap fieldValue writtenGame writtenElements rects rectAtOf magnitude sixteenth
 empty-refused n rest k =
     k given n order-accepted refl (record { fit = refl; apart = refl; whole = refl })
     .widest 1 (zero-lt-suc 0) (record { x = pos (300 * 2 ^ 149); y = pos (200 * 2 ^ 149); w = pos (400 * 2 ^ 149); h = pos (300 * 2 ^ 149) })
-    (record { wide = tt; high = tt; shape = refl; within = tt; clear = tt & tt & tt & tt & tt & tt & tt & tt & tt & tt & tt & tt & tt & tt & tt & tt; centred = inl refl })
+    (record { wide = tt; high = tt; shape = refl; within = tt; clear = tt & tt & tt & tt & tt & tt & tt & tt & tt & tt & tt & tt & tt & tt & tt & tt; position = inl refl })

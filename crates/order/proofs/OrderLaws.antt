@@ -12,7 +12,8 @@ use Rattle.prelude.proofs.AnswerLaws.{never, refused-then}
 use Rattle.prelude.proofs.Booleans.{either}
 use Rattle.layout.specs.declared.Layout.{Layout}
 use Rattle.layout.specs.Labels.{modeLabels, modeSticks, OfMode}
-use Rattle.limits.proofs.SettingsRanges.{accepted-in-range}
+use Rattle.layout.proofs.LabelLaws.{few}
+use Rattle.settings_ranges.proofs.SettingsRanges.{accepted-in-range}
 use Rattle.settings.specs.declared.Preset.{Preset}
 use Rattle.settings.specs.declared.Settings.{Settings}
 use Rattle.settings.specs.Settings.{topsInLimitsOf}
@@ -20,42 +21,38 @@ use Rattle.reader.proofs.Accepted.{accepted-order, refused-order, order-f32}
 use Rattle.reader.specs.Order.{readOrderOf}
 use Rattle.writer.specs.Bytes.{layoutBytes, roomFor, writeLayoutOf, outputOf}
 use Rattle.writer.proofs.Length.{lengthFor, length-layout}
-use Rattle.written.specs.Written.{LayoutIsF32}
-use Rattle.written.proofs.WidestWritten.{widest-written}
-use Rattle.chosen.proofs.ChosenLabels.{few}
-use Rattle.preset.specs.Preset.{hasSticks, settingsLayoutOf}
+use Rattle.written_layout.specs.Written.{LayoutIsF32}
+use Rattle.written_layout.proofs.WidestWritten.{widest-written}
+use Rattle.preset.specs.Preset.{analogOf, settingsLayoutOf}
 use Rattle.preset.proofs.PresetLabels.{settings-mode, settings-viewport-mode}
 use Rattle.preset.proofs.PresetWidest.{settings-widest}
-use Rattle.order.specs.Orders.{orderLayout, writtenAnswer, writtenOutput, layoutOf, layoutOutputOf, touchOf, orderViewport, viewportLayoutOf, viewportOutputOf}
+use Rattle.order.specs.Orders.{orderLayout, writtenAnswer, writtenOutput, layoutOf, layoutOutputOf, touchOf, orderViewport, viewportOf, viewportOutputOf}
 use Rattle.order.specs.Demands.{WidestWritten}
+use Rattle.order.specs.Promises.{bytesFor, LayoutBytes, ViewportBytes}
 
--- ---- "It takes 285 bytes standard, 353 analog, 265 psp."
-abbrev pub bytesFor : Bool → Bool → ℕ
-bytesFor analog psp = cond psp 265 (cond analog 353 285)
-
-mode-bytes : (analog psp : Bool) → lengthFor (length (modeLabels (analog || psp) psp)) (modeSticks (analog || psp) psp) ≡ bytesFor analog psp
+-- ---- so many bytes for each mode
+mode-bytes : (marked psp : Bool) → lengthFor (length (modeLabels (marked || psp) psp)) (modeSticks (marked || psp) psp) ≡ cond psp 265 (cond marked 353 285)
 mode-bytes true true = refl
 mode-bytes false true = refl
 mode-bytes true false = refl
 mode-bytes false false = refl
 
-mode-length : (analog psp : Bool) (l : Layout) → OfMode (analog || psp) psp l → length (layoutBytes l) ≡ bytesFor analog psp
-mode-length analog psp l f =
-    let n = few (analog || psp) psp l f in
-    length-layout l (omega (arith, f .1 .0)) (omega (arith, f .1 .1)) ∙ rw (f .0 .1, f .0 .2) (mode-bytes analog psp)
+mode-length : (p : Preset) (l : Layout) → OfMode (analogOf p) (p .psp) l → length (layoutBytes l) ≡ bytesFor p
+mode-length p l f =
+    let n = few (analogOf p) (p .psp) l f in
+    length-layout l (omega (arith, f .1 .0)) (omega (arith, f .1 .1)) ∙ rw (f .0 .1, f .0 .2) (mode-bytes (p .analog) (p .psp))
 
-mode-answer : (p : Preset) (l : Layout) → OfMode (hasSticks p) (p .psp) l → (out : List ℕ) → writeLayoutOf l out ≡ roomFor (bytesFor (p .analog) (p .psp)) out
+mode-answer : (p : Preset) (l : Layout) → OfMode (analogOf p) (p .psp) l → (out : List ℕ) → writeLayoutOf l out ≡ roomFor (bytesFor p) out
 unfolding writeLayoutOf
-mode-answer p l f out = rw (mode-length (p .analog) (p .psp) l f)
+mode-answer p l f out = rw (mode-length p l f)
 
-module _ (order : List ℕ) {s : Settings} (e : readOrderOf order ≡ accepted s) (out : List ℕ) where
-  pub layout-answer : layoutOf order out ≡ roomFor (bytesFor (s .preset .analog) (s .preset .psp)) out
-  unfolding layoutOf orderLayout
-  layout-answer = rw e (mode-answer (s .preset) _ (settings-mode s) out)
+pub layout-bytes : LayoutBytes
+unfolding layoutOf orderLayout
+layout-bytes order s e out = rw e (mode-answer (s .preset) _ (settings-mode s) out)
 
-  pub viewport-answer : (reusable covered : Float) → topsInLimitsOf reusable covered ≡ true → viewportLayoutOf order reusable covered out ≡ roomFor (bytesFor (s .preset .analog) (s .preset .psp)) out
-  unfolding viewportLayoutOf orderViewport must
-  viewport-answer reusable covered t = rw (e, t) (mode-answer (s .preset) _ (settings-viewport-mode s reusable covered) out)
+pub viewport-bytes : ViewportBytes
+unfolding viewportOf orderViewport must
+viewport-bytes order s e out reusable covered t = rw (e, t) (mode-answer (s .preset) _ (settings-viewport-mode s reusable covered) out)
 
 -- ---- the bytes that are written, or none
 module _ (l : Layout) (out : List ℕ) where
@@ -94,8 +91,8 @@ pub layout-refused : (order out : List ℕ) {n : ℕ} → layoutOf order out ≡
 unfolding layoutOf layoutOutputOf orderLayout
 layout-refused order out e = written-refused _ (refused-then _ _ (read-number order) (λ s r. absurd (never r))) out e
 
-pub viewport-refused : (order : List ℕ) (reusable covered : Float) (out : List ℕ) {n : ℕ} → viewportLayoutOf order reusable covered out ≡ refused n → Number n × (viewportOutputOf order reusable covered out ≡ out)
-unfolding viewportLayoutOf viewportOutputOf orderViewport must
+pub viewport-refused : (order : List ℕ) (reusable covered : Float) (out : List ℕ) {n : ℕ} → viewportOf order reusable covered out ≡ refused n → Number n × (viewportOutputOf order reusable covered out ≡ out)
+unfolding viewportOf viewportOutputOf orderViewport must
 viewport-refused order reusable covered out {n} e =
     written-refused _ (refused-then _ _ (read-number order) (λ s. either (λ a. a ≡ refused n → Number n) (topsInLimitsOf reusable covered) (λ r. absurd (never r)) (λ r. let six : n ≡ 6 = cc in (omega arith, omega arith)))) out e
 

@@ -5,10 +5,10 @@ use Prim.Native.Nat.{ℕ}
 use Rattle.prelude.specs.Answer.{Answer, accepted}
 use Rattle.layout.specs.Layout.{elementsOf}
 use Rattle.search.specs.Widest.{centredWidth, Widest}
+use Rattle.search.specs.Search.{aspectOf}
 use Rattle.settings.specs.declared.Settings.{Settings}
-use Rattle.band.specs.Band.{aspectOf}
 use Rattle.reader.specs.Order.{readOrderOf}
-use Rattle.written.specs.Written.{writtenGame, writtenElements}
+use Rattle.written_layout.specs.Written.{writtenGame, writtenElements}
 use Rattle.preset.specs.Demand.{KeptClear, shapeWidth, shapeHeight}
 use Rattle.preset.specs.Preset.{settingsLayoutOf}
 

@@ -53,8 +53,8 @@ unfoldable pub orderViewport : List ℕ → Float → Float → Answer Layout
 orderViewport order reusable covered =
     andThen (readOrderOf order) (λ s. must (topsInLimitsOf reusable covered) 6 (accepted (settingsViewportOf s reusable covered)))
 
-unfoldable pub viewportLayoutOf : List ℕ → Float → Float → List ℕ → Answer ℕ
-viewportLayoutOf order reusable covered out = writtenAnswer (orderViewport order reusable covered) out
+unfoldable pub viewportOf : List ℕ → Float → Float → List ℕ → Answer ℕ
+viewportOf order reusable covered out = writtenAnswer (orderViewport order reusable covered) out
 
 unfoldable pub viewportOutputOf : List ℕ → Float → Float → List ℕ → List ℕ
 viewportOutputOf order reusable covered out = writtenOutput (orderViewport order reusable covered) out

@@ -1,8 +1,8 @@
 // The functions that hosts call with an order: its layout in bytes, the mask of a touch, and `PlayerViewport::layout`.
 ghost use mathlib.Core.Path.{_≡_};
-ghost use Prim.Native.Nat.{_≤_};
+ghost use Rattle.layout.specs.Layout.{Few};
 ghost use Rattle.writer.specs.Bytes.{writeLayoutOf, outputOf};
-ghost use Rattle.order.specs.Orders.{layoutAnswer, touchAnswer, layoutOf, layoutOutputOf, touchOf, viewportLayoutOf, viewportOutputOf};
+ghost use Rattle.order.specs.Orders.{layoutAnswer, touchAnswer, layoutOf, layoutOutputOf, touchOf, viewportOf, viewportOutputOf};
 ghost use Rattle.order.specs.Demands.{WidestWritten};
 use layout::Layout;
 use preset::settings_layout;
@@ -26,7 +26,7 @@ pub enum TouchAnswer {
 }
 
 fn write(l: Layout, out: &mut [u8]) -> LayoutAnswer
-    requires { ⌜ (l .count ≤ 12) × (l .stickcount ≤ 2) ⌝ }
+    requires { ⌜ Few l ⌝ }
     ensures answer { λ r. ⌜ layoutAnswer r ≡ writeLayoutOf l (now (out .entry)) ⌝ }
     ensures output { λ _. ⌜ now (out .exit) ≡ outputOf l (now (out .entry)) ⌝ }
 {
@@ -66,7 +66,7 @@ pub fn viewport_layout(
     covered_top: f32,
     out: &mut [u8],
 ) -> LayoutAnswer
-    ensures answer { λ r. ⌜ layoutAnswer r ≡ viewportLayoutOf (now (order .entry)) «reusable_top» «covered_top» (now (out .entry)) ⌝ }
+    ensures answer { λ r. ⌜ layoutAnswer r ≡ viewportOf (now (order .entry)) «reusable_top» «covered_top» (now (out .entry)) ⌝ }
     ensures output { λ _. ⌜ now (out .exit) ≡ viewportOutputOf (now (order .entry)) «reusable_top» «covered_top» (now (out .entry)) ⌝ }
 {
     let reading = read_order(order);

@@ -7,12 +7,12 @@ use lib.Ieee.{Float, lt}
 use mir.Facts.{or-no}
 use Rattle.prelude.proofs.Booleans.{either}
 use Rattle.prelude.specs.Each.{Each}
+use Rattle.prelude.specs.Lists.{find}
 use Rattle.float.specs.Float.{_⊖_, k96, k124}
 use Rattle.geometry.specs.declared.Rect.{Rect}
 use Rattle.layout.specs.declared.Layout.{Layout}
-use Rattle.arranged.proofs.Found.{Given, nothing, given, guard}
-use Rattle.fits.specs.Fits.{fitsOf}
-use Rattle.picture.specs.Picture.{minWell, measureStackOf, crampedOf, stackedOf, verticalOf, measureRowOf, rowedOf, horizontalOf, firstFit}
+use Rattle.layout.proofs.Found.{Given, nothing, given, guard}
+use Rattle.picture.specs.Picture.{minWell, measureStackOf, crampedOf, stackedOf, verticalOf, measureRowOf, rowedOf, horizontalOf, flatten}
 
 module _ (C : Layout → Type 0) where
   module _ (base : Layout) where
@@ -34,9 +34,9 @@ module _ (C : Layout → Type 0) where
         let narrow = lt (row .middleright ⊖ row .middleleft) (row .required) in
         guard C (lt (row .well) minWell || narrow) (λ t. given C (f (or-no (lt (row .well) minWell) narrow t .0)))
 
-  module _ (w h : Float) (game : Rect) (holes : List Rect) where
-    pub first-case : (candidates : List (Option Layout)) → Each (Given C) candidates → Given C (firstFit w h game holes candidates)
-    unfolding firstFit
+  module _ (fit : Layout → Bool) where
+    pub first-case : (candidates : List (Option Layout)) → Each (Given C) candidates → Given C (find fit some none (flatten candidates))
+    unfolding flatten
     first-case [] e = nothing C
     first-case (none ∷ candidates) e = first-case candidates (e .1)
-    first-case (some l ∷ candidates) e = either (Given C) (fitsOf l w h game holes) (e .0) (first-case candidates (e .1))
+    first-case (some l ∷ candidates) e = either (Given C) (fit l) (e .0) (first-case candidates (e .1))

@@ -10,11 +10,12 @@ use Rattle.geometry.specs.declared.Rect.{Rect}
 use Rattle.layout.specs.declared.Label.{Label}
 use Rattle.layout.specs.declared.Layout.{Layout}
 use Rattle.layout.specs.Labels.{Formed, OfMode}
-use Rattle.arranged.specs.declared.Places.{Places}
-use Rattle.arranged.proofs.Found.{Given}
-use Rattle.arranged.proofs.ArrangedLabels.{placed-formed, arranged-formed}
+use Rattle.layout.proofs.Found.{Given}
+use Rattle.places.specs.declared.Places.{Places}
+use Rattle.places.proofs.PlaceLabels.{placed-formed}
+use Rattle.arranged.proofs.ArrangedLabels.{arranged-formed}
 use Rattle.defaults.proofs.DefaultLabels.{analog-formed, psp-formed}
-use Rattle.picture.specs.Picture.{arrangeOf, stackedOf, verticalOf, rowedOf, horizontalOf, fittedOf, baseOf, controlsOf}
+use Rattle.picture.specs.Picture.{arrangeOf, stackedOf, verticalOf, rowedOf, horizontalOf, baseOf, controlsOf}
 use Rattle.picture.proofs.PictureCases.{vertical-case, horizontal-case, first-case}
 
 module _ (labels : List Label) (sticks : ℕ) (base : Layout) (f : Formed labels sticks base) where
@@ -30,11 +31,6 @@ module _ (labels : List Label) (sticks : ℕ) (base : Layout) (f : Formed labels
   unfolding rowedOf
   horizontal-formed w band analog psp = horizontal-case (Formed labels sticks) base w band analog psp (λ t. arrange-formed _ _ _ _)
 
-  fitted-formed : (w h : Float) (game : Rect) (analog psp : Bool) (holes : List Rect) → Given (Formed labels sticks) (fittedOf base w h game analog psp holes)
-  unfolding fittedOf
-  fitted-formed w h game analog psp holes =
-      first-case (Formed labels sticks) w h game holes _ (horizontal-formed w _ analog psp & vertical-formed _ _ analog & vertical-formed _ _ analog & tt)
-
 module _ (w h : Float) where
   -- a psp has a stick
   base-formed : (analog psp : Bool) → (T psp → T analog) → OfMode analog psp (baseOf w h analog psp)
@@ -45,4 +41,8 @@ module _ (w h : Float) where
   base-formed false false k = arranged-formed w h false
 
   pub controls-formed : (game : Rect) (analog psp : Bool) (holes : List Rect) → (T psp → T analog) → Given (OfMode analog psp) (controlsOf w h game analog psp holes)
-  controls-formed game analog psp holes k = fitted-formed _ _ (baseOf w h analog psp) (base-formed analog psp k) w h game analog psp holes
+  unfolding controlsOf
+  controls-formed game analog psp holes k =
+      let base = baseOf w h analog psp in
+      let f = base-formed analog psp k in
+      first-case (OfMode analog psp) _ _ (horizontal-formed _ _ base f w _ analog psp & vertical-formed _ _ base f _ _ analog & vertical-formed _ _ base f _ _ analog & tt)

@@ -18,17 +18,17 @@ use Rattle.numerics.specs.Range.{In, at, minus}
 use Rattle.numerics.proofs.Bounds.{add-most}
 use Rattle.numerics.proofs.Ranges.{in-more, add-in, sub-in, times-in, div-in, min-in, max-in, clamp-in, clamp-whole-in, cond-in, neg-in, not-below, range-most, from-zero, element-in}
 use Rattle.numerics.proofs.Literals.{lit, i4√2, f1√2, f2, f3, f4}
-use Rattle.search.specs.Bounded.{Bounded, BoundedGame}
-use Rattle.search.proofs.Changes.{shrunk-bounded, arranged-bounded, dpad-in, sticks-in}
-use Rattle.arranged.specs.declared.Places.{Places}
-use Rattle.arranged.specs.Places.{capOf, atOf}
-use Rattle.arranged.proofs.Found.{Given}
-use Rattle.arranged.proofs.PlaceRanges.{every-placed}
+use Rattle.layout.proofs.Found.{Given}
+use Rattle.layout_ranges.specs.Bounded.{Bounded, BoundedGame}
+use Rattle.layout_ranges.proofs.Changes.{shrunk-bounded, arranged-bounded, dpad-in, sticks-in}
+use Rattle.places.specs.declared.Places.{Places}
+use Rattle.places.specs.Places.{capOf, atOf}
+use Rattle.places.proofs.PlaceRanges.{every-placed}
 use Rattle.arranged.proofs.ArrangedRanges.{arranged-in}
 use Rattle.defaults.proofs.DefaultRanges.{analog-in, psp-default-in}
 use Rattle.picture.specs.declared.Row.{Row}
 use Rattle.picture.specs.declared.Stack.{Stack}
-use Rattle.picture.specs.Picture.{gap, key, minWell, diamondOf, auxiliaryOf, arrangeOf, squareOf, measureStackOf, stackedOf, verticalOf, measureRowOf, withX, centerKeysOf, rowPlacesOf, rowedOf, horizontalOf, fittedOf, baseOf, controlsOf}
+use Rattle.picture.specs.Picture.{gap, key, minWell, diamondOf, auxiliaryOf, arrangeOf, squareOf, measureStackOf, stackedOf, verticalOf, measureRowOf, withX, centerKeysOf, rowPlacesOf, rowedOf, horizontalOf, baseOf, controlsOf}
 use Rattle.picture.proofs.PictureCases.{vertical-case, horizontal-case, first-case}
 
 -- a length of the screen, of either sign
@@ -222,22 +222,6 @@ clamped-in : {x e : Float} {n : ℕ} → AtMost x n → In e (at 1) (at 8192) �
 clamped-in {x} f i = clamp-whole-in x (f .whole) (lit 0) i
 
 module _ {w h : Float} (W : In w (at 1) (at 8192)) (H : In h (at 1) (at 8192)) where
-  fitted-in : {base : Layout} {game : Rect} (analog psp : Bool) (holes : List Rect) → Bounded base → BoundedGame game → Given Bounded (fittedOf base w h game analog psp holes)
-  unfolding fittedOf
-  fitted-in {game = game} analog psp holes B G =
-      let zero = span (lit 0) tt tt in
-      let high = span H tt tt in
-      let half = span (div-in W f2 tt) tt tt in
-      let bottom = clamped-in (add-most (G .y) (G .h) tt) H in
-      let low = span bottom tt tt in
-      let rest = span (sub-in H bottom tt) tt tt in
-      let x = clamped-in (add-most (G .x) (G .w) tt) W in
-      first-case Bounded w h game holes _
-      (horizontal-in analog psp B W (column-in zero low (span W tt tt) rest)
-      & vertical-in analog B (column-in zero low half rest) (column-in half low half rest)
-      & vertical-in analog B (column-in zero zero (span (clamped-in (G .x) W) tt tt) high) (column-in (span x tt tt) zero (span (sub-in W x tt) tt tt) high)
-      & tt)
-
   base-in : (analog psp : Bool) → Bounded (baseOf w h analog psp)
   unfolding baseOf
   base-in analog true = shrunk-bounded (psp-default-in W H)
@@ -245,4 +229,20 @@ module _ {w h : Float} (W : In w (at 1) (at 8192)) (H : In h (at 1) (at 8192)) w
   base-in false false = arranged-bounded (arranged-in false (from-zero W) (from-zero H))
 
   pub controls-in : {game : Rect} (analog psp : Bool) (holes : List Rect) → BoundedGame game → Given Bounded (controlsOf w h game analog psp holes)
-  controls-in analog psp holes G = fitted-in analog psp holes (base-in analog psp) G
+  unfolding controlsOf
+  controls-in analog psp holes G =
+      let B = base-in analog psp in
+      let zero = span (lit 0) tt tt in
+      let high = span H tt tt in
+      let half = span (div-in W f2 tt) tt tt in
+      let bottom = clamped-in (add-most (G .y) (G .h) tt) H in
+      let low = span bottom tt tt in
+      let rest = span (sub-in H bottom tt) tt tt in
+      let left = column-in zero zero (span (clamped-in (G .x) W) tt tt) high in
+      let x = clamped-in (add-most (G .x) (G .w) tt) W in
+      let right = column-in (span x tt tt) zero (span (sub-in W x tt) tt tt) high in
+      first-case Bounded _ _
+      (horizontal-in analog psp B W (column-in zero low (span W tt tt) rest)
+      & vertical-in analog B (column-in zero low half rest) (column-in half low half rest)
+      & vertical-in analog B left right
+      & tt)

@@ -3,15 +3,16 @@ use mathlib.Core.Bool.{Bool, false, not, _&&_, _||_, cond}
 use mathlib.Core.List.{List, [], _∷_}
 use mathlib.Core.Option.{Option, some, none}
 use lib.Ieee.{Float, lt, neg}
+use Rattle.prelude.specs.Lists.{find}
 use Rattle.float.specs.Float.{_⊕_, _⊖_, _⊗_, _⊘_, k0, k2, k3, k4, k6, k8, k12, k14, k24, k44, k50, k64, k68, k70, k76, k96, k112, k120, k124, k128, k136, k164, k240}
 use Rattle.float.specs.MinMax.{minOf, maxOf, clampOf}
 use Rattle.geometry.specs.declared.Rect.{Rect}
 use Rattle.geometry.specs.Rect.{newOf}
 use Rattle.layout.specs.declared.Layout.{Layout}
 use Rattle.layout.specs.Layout.{withDpad, withSticks}
-use Rattle.arranged.specs.declared.Faces.{Faces}
-use Rattle.arranged.specs.declared.Places.{Places}
-use Rattle.arranged.specs.Places.{capOf, placedOf}
+use Rattle.places.specs.declared.Faces.{Faces}
+use Rattle.places.specs.declared.Places.{Places}
+use Rattle.places.specs.Places.{capOf, placedOf}
 use Rattle.arranged.specs.Arranged.{arrangedOf}
 use Rattle.defaults.specs.Defaults.{analogDefaultOf, pspOf}
 use Rattle.fits.specs.Fits.{fitsOf}
@@ -169,17 +170,21 @@ horizontalOf base w band analog psp =
 
 -- ---- `controls`
 
--- the first candidate that fits
-unfoldable pub firstFit : Float → Float → Rect → List Rect → List (Option Layout) → Option Layout
-firstFit w h game holes [] = none
-firstFit w h game holes (none ∷ candidates) = firstFit w h game holes candidates
-firstFit w h game holes (some l ∷ candidates) = cond (fitsOf l w h game holes) (some l) (firstFit w h game holes candidates)
+-- the layout whose controls are moved
+unfoldable pub baseOf : Float → Float → Bool → Bool → Layout
+baseOf w h analog psp = cond psp (pspOf w h) (cond analog (analogDefaultOf w h) (arrangedOf w h false))
+
+-- Rust's `flatten` of options
+unfoldable pub flatten : List (Option Layout) → List Layout
+flatten [] = []
+flatten (none ∷ candidates) = flatten candidates
+flatten (some layout ∷ candidates) = layout ∷ flatten candidates
 
 -- A row below the picture keeps the main thumb areas level; the stacks below it and beside it serve narrow surfaces. No
--- smaller picture, hidden control or tiny cap stands in: where nothing fits there is none. `base` is the default layout
--- of the kind asked for.
-unfoldable pub fittedOf : Layout → Float → Float → Rect → Bool → Bool → List Rect → Option Layout
-fittedOf base w h game analog psp holes =
+-- smaller picture, hidden control or tiny cap stands in: where nothing fits there is none.
+unfoldable pub controlsOf : Float → Float → Rect → Bool → Bool → List Rect → Option Layout
+controlsOf w h game analog psp holes =
+    let base = baseOf w h analog psp in
     let bottom = clampOf (game .y ⊕ game .h) k0 h in
     let band = newOf k0 bottom w (h ⊖ bottom) in
     let left = newOf k0 k0 (clampOf (game .x) k0 w) h in
@@ -188,11 +193,5 @@ fittedOf base w h game analog psp holes =
     let row = horizontalOf base w band analog psp in
     let below = verticalOf base (newOf k0 bottom (w ⊘ k2) (band .h)) (newOf (w ⊘ k2) bottom (w ⊘ k2) (band .h)) analog in
     let beside = verticalOf base left right analog in
-    firstFit w h game holes (row ∷ below ∷ beside ∷ [])
-
--- the layout whose controls are moved
-unfoldable pub baseOf : Float → Float → Bool → Bool → Layout
-baseOf w h analog psp = cond psp (pspOf w h) (cond analog (analogDefaultOf w h) (arrangedOf w h false))
-
-abbrev pub controlsOf : Float → Float → Rect → Bool → Bool → List Rect → Option Layout
-controlsOf w h game analog psp holes = fittedOf (baseOf w h analog psp) w h game analog psp holes
+    let candidates = row ∷ below ∷ beside ∷ [] in
+    find (λ layout. fitsOf layout w h game holes) some none (flatten candidates)

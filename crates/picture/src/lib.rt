@@ -5,15 +5,10 @@ ghost use mathlib.Core.Bool.{_&&_};
 ghost use lib.Dec.{T};
 ghost use lib.Ieee.{le};
 ghost use Rattle.float.specs.Float.{k0};
-ghost use Rattle.arranged.specs.Places.{maybe};
 ghost use Rattle.fits.specs.Fits.{fitsOf};
-ghost use Rattle.layout.specs.Layout.{cutoutList};
-ghost use Rattle.picture.specs.Picture.{diamondOf, auxiliaryOf, arrangeOf, squareOf, measureStackOf, crampedOf, stackedOf, measureRowOf, centerKeysOf, rowPlacesOf, rowedOf, verticalOf, horizontalOf, fittedOf, baseOf, controlsOf};
-use arranged::Faces;
-use arranged::MaybeLayout;
-use arranged::Places;
-use arranged::no_layout;
-use arranged::placed;
+ghost use Rattle.layout.specs.Layout.{cutoutList, Few};
+ghost use Rattle.layout.specs.Maybe.{maybe};
+ghost use Rattle.picture.specs.Picture.{diamondOf, auxiliaryOf, arrangeOf, squareOf, measureStackOf, crampedOf, stackedOf, measureRowOf, centerKeysOf, rowPlacesOf, rowedOf, verticalOf, horizontalOf, baseOf, controlsOf};
 use fits::fits;
 use float::clamp;
 use float::max;
@@ -22,6 +17,11 @@ use float::pick;
 use geometry::Rect;
 use layout::Cutouts;
 use layout::Layout;
+use layout::MaybeLayout;
+use layout::no_layout;
+use places::Faces;
+use places::Places;
+use places::placed;
 
 const GAP: f32 = 8.0;
 
@@ -33,7 +33,7 @@ const MIN_WELL: f32 = 112.0; // Four separate caps of 44 points with gaps betwee
 pub fn diamond(rect: Rect) -> Faces
     ensures { λ r. ⌜ r ≡ diamondOf rect ⌝ }
 {
-    let cap = arranged::cap(rect.w);
+    let cap = places::cap(rect.w);
     let step = (rect.w - cap) / 2.0;
     let x = rect.x + (rect.w - cap) / 2.0;
     let y = rect.y + (rect.h - cap) / 2.0;
@@ -139,8 +139,8 @@ fn stacked(l: Layout, left: Rect, right: Rect, analog: bool, s: Stack) -> Layout
 // A stack of controls in each of two columns, where there is room.
 // The layout beside `some: false` is left open, but for its counts.
 pub fn vertical(base: Layout, left: Rect, right: Rect, analog: bool) -> MaybeLayout
-    requires { ⌜ (base .count ≤ 12) × (base .stickcount ≤ 2) ⌝ }
-    ensures { λ r. ⌜ (maybe r ≡ verticalOf base left right analog) × (r .layout .count ≤ 12) × (r .layout .stickcount ≤ 2) ⌝ }
+    requires { ⌜ Few base ⌝ }
+    ensures { λ r. ⌜ (maybe r ≡ verticalOf base left right analog) × Few (r .layout) ⌝ }
 {
     let s = measure_stack(left, right, analog);
     if cramped(s, analog) {
@@ -237,8 +237,8 @@ fn rowed(l: Layout, w: f32, row: Row) -> Layout
 // Sticks and wells side by side in a band, where there is room.
 // The layout beside `some: false` is left open, but for its counts.
 pub fn horizontal(base: Layout, w: f32, band: Rect, analog: bool, psp: bool) -> MaybeLayout
-    requires { ⌜ (base .count ≤ 12) × (base .stickcount ≤ 2) ⌝ }
-    ensures { λ r. ⌜ (maybe r ≡ horizontalOf base w band analog psp) × (r .layout .count ≤ 12) × (r .layout .stickcount ≤ 2) ⌝ }
+    requires { ⌜ Few base ⌝ }
+    ensures { λ r. ⌜ (maybe r ≡ horizontalOf base w band analog psp) × Few (r .layout) ⌝ }
 {
     let row = measure_row(w, band, analog, psp);
     if (row.well < MIN_WELL) | (row.middleright - row.middleleft < row.required) {
@@ -249,7 +249,7 @@ pub fn horizontal(base: Layout, w: f32, band: Rect, analog: bool, psp: bool) -> 
 }
 
 fn fitting(m: MaybeLayout, w: f32, h: f32, game: Rect, holes: Cutouts) -> bool
-    requires { ⌜ (m .layout .count ≤ 12) × (m .layout .stickcount ≤ 2) × (holes .count ≤ 16) ⌝ }
+    requires { ⌜ Few (m .layout) × (holes .count ≤ 16) ⌝ }
     ensures { λ r. ⌜ r ≡ m .some && fitsOf (m .layout) w h game (cutoutList holes) ⌝ }
 {
     if m.some {
@@ -259,44 +259,9 @@ fn fitting(m: MaybeLayout, w: f32, h: f32, game: Rect, holes: Cutouts) -> bool
     false
 }
 
-// A row below the picture, else stacks below it, else stacks beside it: the first that fits. The picture keeps its
-// size, and where nothing fits there is no layout. `base` is the default layout of the kind asked for.
-fn fitted(
-    base: Layout,
-    w: f32,
-    h: f32,
-    game: Rect,
-    analog: bool,
-    psp: bool,
-    holes: Cutouts,
-) -> MaybeLayout
-    requires { ⌜ (base .count ≤ 12) × (base .stickcount ≤ 2) × (holes .count ≤ 16) × T (le k0 w) × T (le k0 h) ⌝ }
-    ensures { λ r. ⌜ (maybe r ≡ fittedOf base w h game analog psp (cutoutList holes)) × (r .layout .count ≤ 12) × (r .layout .stickcount ≤ 2) ⌝ }
-{
-    let bottom = clamp(game.y + game.h, 0.0, h);
-    let band = Rect::new(0.0, bottom, w, h - bottom);
-    let row = horizontal(base, w, band, analog, psp);
-    if fitting(row, w, h, game, holes) {
-        return row;
-    }
-    let left = Rect::new(0.0, bottom, w / 2.0, h - bottom);
-    let right = Rect::new(w / 2.0, bottom, w / 2.0, h - bottom);
-    let below = vertical(base, left, right, analog);
-    if fitting(below, w, h, game, holes) {
-        return below;
-    }
-    let right_x = clamp(game.x + game.w, 0.0, w);
-    let left = Rect::new(0.0, 0.0, clamp(game.x, 0.0, w), h);
-    let right = Rect::new(right_x, 0.0, w - right_x, h);
-    let beside = vertical(base, left, right, analog);
-    if fitting(beside, w, h, game, holes) {
-        return beside;
-    }
-    no_layout()
-}
-
+// The layout whose controls are moved.
 pub fn base(w: f32, h: f32, analog: bool, psp: bool) -> Layout
-    ensures { λ r. ⌜ (r ≡ baseOf w h analog psp) × (r .count ≤ 12) × (r .stickcount ≤ 2) ⌝ }
+    ensures { λ r. ⌜ (r ≡ baseOf w h analog psp) × Few r ⌝ }
 {
     if psp {
         return defaults::psp(w, h);
@@ -307,10 +272,31 @@ pub fn base(w: f32, h: f32, analog: bool, psp: bool) -> Layout
     arranged::arranged(w, h, false)
 }
 
-// The layout beside `some: false` is left open, but for its counts.
+// A row below the picture, else stacks below it, else stacks beside it: the first that fits. The picture keeps its
+// size, and where nothing fits there is no layout; the layout beside `some: false` is left open, but for its counts.
 pub fn controls(w: f32, h: f32, game: Rect, analog: bool, psp: bool, holes: Cutouts) -> MaybeLayout
     requires { ⌜ (holes .count ≤ 16) × T (le k0 w) × T (le k0 h) ⌝ }
-    ensures { λ r. ⌜ (maybe r ≡ controlsOf w h game analog psp (cutoutList holes)) × (r .layout .count ≤ 12) × (r .layout .stickcount ≤ 2) ⌝ }
+    ensures { λ r. ⌜ (maybe r ≡ controlsOf w h game analog psp (cutoutList holes)) × Few (r .layout) ⌝ }
 {
-    fitted(base(w, h, analog, psp), w, h, game, analog, psp, holes)
+    let base = base(w, h, analog, psp);
+    let bottom = clamp(game.y + game.h, 0.0, h);
+    let band = Rect::new(0.0, bottom, w, h - bottom);
+    let left = Rect::new(0.0, 0.0, clamp(game.x, 0.0, w), h);
+    let right_x = clamp(game.x + game.w, 0.0, w);
+    let right = Rect::new(right_x, 0.0, w - right_x, h);
+    let row = horizontal(base, w, band, analog, psp);
+    if fitting(row, w, h, game, holes) {
+        return row;
+    }
+    let below_left = Rect::new(0.0, bottom, w / 2.0, band.h);
+    let below_right = Rect::new(w / 2.0, bottom, w / 2.0, band.h);
+    let below = vertical(base, below_left, below_right, analog);
+    if fitting(below, w, h, game, holes) {
+        return below;
+    }
+    let beside = vertical(base, left, right, analog);
+    if fitting(beside, w, h, game, holes) {
+        return beside;
+    }
+    no_layout()
 }

@@ -1,6 +1,5 @@
 -- Laws of lists that pass a test, of a change of the first elements in place, of no element, of ranges and elements with their indices, and of two lists as one.
 use mathlib.Core.Path.{_≡_, refl, ap, ap₂, sym, subst, _∙_}
-use mathlib.Core.Logic.{_⊎_, inl, inr}
 use mathlib.Core.Bool.{Bool, true, false, cond}
 use mathlib.Core.List.{List, [], _∷_, _++_, map, zipWith}
 use Prim.Native.Nat.{ℕ, zero, suc, _+_, _<_, _≤_, zero-le, suc-le-suc}
@@ -28,10 +27,10 @@ module _ {A : Type 0} (p : A → Bool) where
   retain-fewer [] = zero-le
   retain-fewer (x ∷ l) = let h = retain-fewer l in either (λ (k : List A). length k ≤ suc (length l)) (p x) (suc-le-suc h) (le-trans h (le-suc (length l)))
 
-  -- the answer of a search is none, or passes the test
-  pub find-passes : (d : A) (l : List A) → (find p (λ x. x) d l ≡ d) ⊎ (p (find p (λ x. x) d l) ≡ true)
-  find-passes d [] = inl refl
-  find-passes d (x ∷ l) = by-test (λ r. (r ≡ d) ⊎ (p r ≡ true)) (p x) (λ t. inr (is-true (p x) t)) (λ t. find-passes d l)
+  -- the answer of a search is none, or made of an element that passes the test
+  pub find-passes : {B : Type 0} (C : B → Type 0) (hit : A → B) (none : B) (l : List A) → C none → ((x : A) → p x ≡ true → C (hit x)) → C (find p hit none l)
+  find-passes C hit none [] n h = n
+  find-passes C hit none (x ∷ l) n h = by-test C (p x) (λ t. h x (is-true (p x) t)) (λ t. find-passes C hit none l n h)
 
   pub all-snoc : (l : List A) (x : A) → allOf p l ≡ true → p x ≡ true → allOf p (l ++ (x ∷ [])) ≡ true
   unfolding allOf

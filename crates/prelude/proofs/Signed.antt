@@ -16,8 +16,8 @@ back z = toZ w32 (ofZ w32 z)
 pub kept : (z : ℤ) → mag z < 2 ^ hbits w32 → back z ≡ z
 kept z h = toZ-ofZ (sfits-of h)
 
-pub stored : {z y : ℤ} → mag z < 2 ^ hbits w32 → z ≡ y → back z ≡ y
-stored {z} h e = kept z h ∙ e
+pub read-back : {z y : ℤ} → mag z < 2 ^ hbits w32 → z ≡ y → back z ≡ y
+read-back {z} h e = kept z h ∙ e
 
 -- ---- the sign changed
 small : (z : ℤ) (k : ℕ) → natAbs z < k → (mag z < k) × (mag (negℤ z) < k)
@@ -33,4 +33,4 @@ module _ (z : ℤ) (h : natAbs z < 2 ^ hbits w32) where
   minus-fits = rw negative (sfits-of (small z _ h .1))
 
   pub minus-is : back (pos 0 -ℤ back z) ≡ negℤ z
-  minus-is = stored (rw negative (small z _ h .1)) negative
+  minus-is = read-back (rw negative (small z _ h .1)) negative

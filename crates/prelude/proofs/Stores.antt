@@ -1,13 +1,13 @@
--- What stands at the front of an array after stores, and an array of two.
+-- What stands at the front of an array after stores, runs of stores one after the other, and an array of two.
 use mathlib.Core.Path.{_≡_, refl, ap, sym, _∙_}
 use mathlib.Core.List.{List, [], _∷_, _++_, map, map-append, append-assoc}
 use Prim.Native.Nat.{ℕ, suc, _+_, _<_, _≤_}
-use native.Mathlib.Nat.{add-suc}
+use native.Mathlib.Nat.{zero-add, add-suc}
 use native.Mathlib.Numerals.{add-one}
 use native.Mathlib.Omega.{arith}
 use lib.ListN.{length, take, drop, getD, set}
-use lib.Seq.{take-suc, take-suc-set, take-append-le, take-append-add, length-take-le, sets, sets-eq, set-at, append-snoc, drop-cons}
-use Rattle.prelude.specs.Lists.{replaceFirst}
+use lib.Seq.{take-suc, take-suc-set, take-append-le, take-append-add, length-take-le, sets, sets-eq, length-sets, set-at, append-snoc, drop-cons}
+use Rattle.prelude.specs.Lists.{replaceFirst, stored}
 use Rattle.prelude.proofs.Loops.{Done, does}
 
 -- one more behind the first n
@@ -53,3 +53,26 @@ module _ {A : Type 0} where
       → Done (λ j. replaceFirst j new old) n k (set out i v) (i + 1)
   replaces new old d {i = i} {v} r h a b e =
       does v r h (rw (r .is, e, add-one, take-suc new i d a, append-snoc, drop-cons old i d b) (set-at (take i new) (getD old i d) (drop (suc i) old) (getD new i d) i (length-take-le i new (omega arith))))
+
+-- ---- runs of stores: at i, i + 1 and so on
+pub stored-run : (l : List ℕ) (i a : ℕ) (vs : List ℕ) → store (set l i a) i 1 vs ≡ stored l i (a ∷ vs)
+unfolding stored
+stored-run l i a vs = store-sets (set l i a) i 1 vs ∙ rw add-one
+
+pub length-stored : (l : List ℕ) (i : ℕ) (vs : List ℕ) → length (stored l i vs) ≡ length l
+unfolding stored
+length-stored l i vs = length-sets l i vs
+
+-- a run, and a run from where it ended
+pub then-on : (l : List ℕ) (i j : ℕ) (us vs : List ℕ) {m : List ℕ} → m ≡ stored l i us → i + length us ≡ j → stored l i (us ++ vs) ≡ stored m j vs
+unfolding stored
+then-on l i j [] vs p e = let h : i ≡ j = omega arith in rw (p, h)
+then-on l i j (u ∷ us) vs p e = then-on (set l i u) (suc i) j us vs p (omega arith)
+
+pub then : (l : List ℕ) (i j : ℕ) (us vs : List ℕ) {m n : List ℕ} → m ≡ stored l i us → n ≡ stored m j vs → i + length us ≡ j → n ≡ stored l i (us ++ vs)
+then l i j us vs p q e = q ∙ sym (then-on l i j us vs p e)
+
+-- what a run from the start leaves
+pub stored-all : (l vs : List ℕ) → length vs ≤ length l → stored l 0 vs ≡ vs ++ drop (length vs) l
+unfolding stored
+stored-all l vs h = sets-eq vs l 0 (omega arith) ∙ rw zero-add

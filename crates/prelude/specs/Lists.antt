@@ -1,9 +1,10 @@
--- Loops over lists, as definitions write them: any, all, no element, find, filter with map, retain, reduce, enumerate, `a..b`, and a change of the first elements in place.
+-- Loops over lists, as definitions write them: any, all, no element, find, filter with map, retain, reduce, enumerate, `a..b`, a change of the first elements in place, and stores from an index on.
 use mathlib.Core.Bool.{Bool, true, false, _&&_, _||_, cond}
 use mathlib.Core.List.{List, [], _∷_, _++_, foldl}
 use Prim.Native.Nat.{ℕ, zero, suc, _-_}
 use lib.Dec.{eqb}
 use lib.ListN.{length, take, drop}
+use lib.Seq.{sets}
 
 module _ {A : Type 0} where
   unfoldable pub anyOf : (A → Bool) → List A → Bool
@@ -65,3 +66,7 @@ countFrom a (suc k) = a ∷ countFrom (suc a) k
 -- Rust's `a..b`
 abbrev pub range : ℕ → ℕ → List ℕ
 range a b = countFrom a (b - a)
+
+-- `out` with the elements of `bytes` stored one after the other from an index on
+unfoldable pub stored : List ℕ → ℕ → List ℕ → List ℕ
+stored out at bytes = sets out at bytes

@@ -8,27 +8,26 @@ use Rattle.prelude.proofs.Booleans.{by-test}
 use Rattle.prelude.specs.Lists.{isEmpty}
 use Rattle.geometry.specs.declared.Rect.{Rect}
 use Rattle.layout.specs.declared.Layout.{Layout}
-use Rattle.search.specs.Search.{placeGameInAspectOf}
+use Rattle.search.specs.Search.{placeGameInAspectOf, aspectOf}
 use Rattle.settings.specs.declared.Preset.{Preset}
 use Rattle.settings.specs.Settings.{savedList, untouchedOf}
-use Rattle.band.specs.Band.{aspectOf}
 use Rattle.landscape.specs.Landscape.{fitLandscapeControlsOf}
-use Rattle.chosen.specs.Chosen.{firstOf, areaOf, arrangementOf}
-use Rattle.preset.specs.Preset.{settledOf, maximumOf, plainOf, hasSticks, rowAllowedOf, laidOutOf}
+use Rattle.arrangement_choice.specs.Choice.{firstOf, areaOf, arrangementOf}
+use Rattle.preset.specs.Preset.{settledOf, maximumOf, plainOf, analogOf, rowAllowedOf, laidOutOf}
 
 -- ---- the layout after each step
 module _ (p : Preset) (w h : Float) (cutouts : List Rect) (picture : Rect) where
   abbrev pub firstFor : Layout
-  firstFor = firstOf (p .psp) (p .analog) (maximumOf p) w h cutouts picture
+  firstFor = firstOf (p .analog) (p .psp) (maximumOf p) w h cutouts picture
 
   abbrev pub areaFor : Rect
-  areaFor = areaOf (maximumOf p) firstFor picture
+  areaFor = areaOf firstFor (maximumOf p) picture
 
   abbrev pub arrangementFor : Layout
-  arrangementFor = arrangementOf (maximumOf p) (plainOf p) firstFor w h areaFor cutouts (hasSticks p) (p .psp)
+  arrangementFor = arrangementOf firstFor (analogOf p) (p .psp) (maximumOf p) (plainOf p) w h cutouts areaFor
 
   abbrev pub settledFor : Layout
-  settledFor = settledOf arrangementFor w h picture cutouts (savedList p)
+  settledFor = settledOf arrangementFor w h cutouts picture (savedList p)
 
   abbrev pub placedFor : Layout
   placedFor = placeGameInAspectOf settledFor areaFor (p .overlap || maximumOf p) (p .scale) (p .offset) (aspectOf (p .psp))
@@ -48,7 +47,7 @@ unfolding rowAllowedOf
 row-allowed p cutouts t =
     let last : Bool = untouchedOf p && isEmpty cutouts in
     let tests : Bool = not (maximumOf p) && last in
-    let u = and-r (hasSticks p) (plainOf p && tests) t in
+    let u = and-r (analogOf p) (plainOf p && tests) t in
     let v = and-r (plainOf p) tests u in
     record {
       saved = and-l (isEmpty (savedList p)) (not (p .overlap)) (and-l (plainOf p) tests u);

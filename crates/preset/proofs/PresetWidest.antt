@@ -13,18 +13,17 @@ use Rattle.numerics.specs.Rects.{Element, Area}
 use Rattle.numerics.specs.Range.{In, at}
 use Rattle.numerics.proofs.Ranges.{max-in}
 use Rattle.numerics.proofs.Literals.{lit}
-use Rattle.search.specs.Bounded.{Bounded}
-use Rattle.search.specs.Search.{placeGameInAspectOf}
+use Rattle.layout_ranges.specs.Bounded.{Bounded}
+use Rattle.search.specs.Search.{placeGameInAspectOf, aspectOf}
 use Rattle.search.proofs.Layouts.{place-widest}
 use Rattle.settings.specs.declared.Fit.the-variants.{KeepClear}
 use Rattle.settings.specs.declared.Preset.{Preset}
 use Rattle.settings.specs.declared.Settings.{Settings}
 use Rattle.settings.specs.Settings.{pictureFitOf}
-use Rattle.limits.specs.InRange.{InRange}
-use Rattle.band.specs.Band.{aspectOf}
+use Rattle.settings_ranges.specs.InRange.{InRange}
 use Rattle.landscape.proofs.LandscapeRanges.{landscape-widest}
-use Rattle.chosen.proofs.ChosenCases.{whole-area}
-use Rattle.chosen.proofs.MaximumRanges.{shape}
+use Rattle.arrangement_choice.proofs.ChoiceCases.{whole-area}
+use Rattle.arrangement_choice.proofs.MaximumRanges.{shape}
 use Rattle.preset.specs.Demand.{WidestPicture, WidestFor}
 use Rattle.preset.specs.Preset.{maximumOf, laidOutOf, layoutInOf, settingsLayoutOf}
 use Rattle.preset.proofs.PresetCases.{areaFor, settledFor, placedFor, laid-out-case}
@@ -37,7 +36,7 @@ module _ (p : Preset) (fit : pictureFitOf p ≡ KeepClear) (overlap : p .overlap
   laid-out-widest : {w h : Float} → In w (at 1) (at 8192) → In h (at 1) (at 8192) → (cutouts : List Rect) → Each Element cutouts → {picture : Rect} → Area picture → WidestPicture (p .psp) picture (laidOutOf p w h cutouts picture)
   laid-out-widest {w} {h} W H cutouts O {picture} A =
       let area = areaFor p w h cutouts picture in
-      let same : area ≡ picture = whole-area (maximumOf p) _ picture (rw fit tt) in
+      let same : area ≡ picture = whole-area _ (maximumOf p) picture (rw fit tt) in
       let whole : Area area = rw same A in
       let K = placed-holds W H A p cutouts O in
       let G = placed-widest (settledFor p w h cutouts picture) (settled-layout W H A p cutouts O) whole in

@@ -7,11 +7,11 @@ use Rattle.float.specs.Float.{k1}
 use Rattle.geometry.specs.declared.Rect.{Rect}
 use Rattle.layout.specs.declared.Layout.{Layout}
 use Rattle.search.specs.Widest.{WidestGame}
+use Rattle.search.specs.Search.{aspectOf}
 use Rattle.settings.specs.declared.Fit.the-variants.{KeepClear}
 use Rattle.settings.specs.declared.Preset.{Preset}
 use Rattle.settings.specs.declared.Settings.{Settings}
 use Rattle.settings.specs.Settings.{pictureFitOf}
-use Rattle.band.specs.Band.{aspectOf}
 
 -- the presets that it is about
 pub record KeptClear (p : Preset) : Type 0 where

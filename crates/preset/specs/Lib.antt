@@ -1,2 +1,3 @@
 pub mod Preset
 pub mod Demand
+pub mod Promises

@@ -1,4 +1,4 @@
--- `Preset::layout_in` and `layout_with_cutouts` of input.rs, and `PlayerViewport::layout`; the first steps are in crate `chosen`.
+-- `Preset::layout_in` and `layout_with_cutouts` of input.rs, and `PlayerViewport::layout`; the first steps are in crate `arrangement_choice`.
 use mathlib.Core.Bool.{Bool, true, false, cond, not, _&&_, _||_}
 use mathlib.Core.List.{List}
 use lib.Ieee.{Float, lt}
@@ -9,7 +9,7 @@ use Rattle.geometry.specs.declared.Rect.{Rect}
 use Rattle.geometry.specs.Rect.{newOf}
 use Rattle.layout.specs.declared.Layout.{Layout}
 use Rattle.layout.specs.Layout.{cutoutList}
-use Rattle.search.specs.Search.{placeGameInAspectOf}
+use Rattle.search.specs.Search.{placeGameInAspectOf, aspectOf}
 use Rattle.settings.specs.declared.Fit.{Fit}
 use Rattle.settings.specs.declared.Fit.the-variants.{Unset, Maximum, KeepClear}
 use Rattle.settings.specs.declared.Preset.{Preset}
@@ -17,15 +17,14 @@ use Rattle.settings.specs.declared.Settings.{Settings}
 use Rattle.settings.specs.Settings.{savedList, untouchedOf, pictureFitOf}
 use Rattle.saved.specs.Saved.{withSavedOf}
 use Rattle.toolbar.specs.Toolbar.{anchorToolbarOf, reusableTopOf}
-use Rattle.band.specs.Band.{aspectOf}
 use Rattle.cutouts.specs.Cutouts.{avoidCutoutsOf}
 use Rattle.landscape.specs.Landscape.{fitLandscapeControlsOf}
-use Rattle.chosen.specs.Chosen.{firstOf, areaOf, arrangementOf}
+use Rattle.arrangement_choice.specs.Choice.{firstOf, areaOf, arrangementOf}
 
 -- the elements where they stay: the saved ones at their places, all clear of cutouts, the toolbar anchored
-unfoldable pub settledOf : Layout → Float → Float → Rect → List Rect → List Rect → Layout
-settledOf arrangement w h picture cutouts saved =
-    let restored = withSavedOf arrangement w h saved in
+unfoldable pub settledOf : Layout → Float → Float → List Rect → Rect → List Rect → Layout
+settledOf layout w h cutouts picture saved =
+    let restored = withSavedOf layout w h saved in
     anchorToolbarOf (avoidCutoutsOf restored w h cutouts) w h (reusableTopOf picture) k0 cutouts
 
 -- `picture_fit() == PictureFit::Maximum`, where a fit is never unset
@@ -41,23 +40,23 @@ maximumOf p = isMaximumOf (pictureFitOf p)
 abbrev pub plainOf : Preset → Bool
 plainOf p = isEmpty (savedList p) && not (p .overlap)
 
--- a psp has a stick, whatever its other mark says
-abbrev pub hasSticks : Preset → Bool
-hasSticks p = p .analog || p .psp
+-- the Rust's `analog`: a psp has a stick, whatever its other mark says
+abbrev pub analogOf : Preset → Bool
+analogOf p = p .analog || p .psp
 
 -- the keys beside the sticks may go into a row
 unfoldable pub rowAllowedOf : Preset → List Rect → Bool
-rowAllowedOf p cutouts = hasSticks p && (plainOf p && (not (maximumOf p) && (untouchedOf p && isEmpty cutouts)))
+rowAllowedOf p cutouts = analogOf p && (plainOf p && (not (maximumOf p) && (untouchedOf p && isEmpty cutouts)))
 
 -- on a screen of 1 by 1 at least
 unfoldable pub laidOutOf : Preset → Float → Float → List Rect → Rect → Layout
 laidOutOf p w h cutouts picture =
-    let maximum = maximumOf p in
     let aspect = aspectOf (p .psp) in
-    let first = firstOf (p .psp) (p .analog) maximum w h cutouts picture in
-    let area = areaOf maximum first picture in
-    let arrangement = arrangementOf maximum (plainOf p) first w h area cutouts (hasSticks p) (p .psp) in
-    let settled = settledOf arrangement w h picture cutouts (savedList p) in
+    let maximum = maximumOf p in
+    let first = firstOf (p .analog) (p .psp) maximum w h cutouts picture in
+    let area = areaOf first maximum picture in
+    let arrangement = arrangementOf first (analogOf p) (p .psp) maximum (plainOf p) w h cutouts area in
+    let settled = settledOf arrangement w h cutouts picture (savedList p) in
     let placed = placeGameInAspectOf settled area (p .overlap || maximum) (p .scale) (p .offset) aspect in
     cond (rowAllowedOf p cutouts) (fitLandscapeControlsOf placed w h area aspect) placed
 

@@ -1,4 +1,4 @@
-// `Preset::layout_in` and `layout_with_cutouts` of input.rs, and `PlayerViewport::layout`; the first steps are in crate `chosen`.
+// `Preset::layout_in` and `layout_with_cutouts` of input.rs, and `PlayerViewport::layout`; the first steps are in crate `arrangement_choice`.
 ghost use mathlib.Core.Path.{_≡_};
 ghost use mathlib.Core.Bool.{true};
 ghost use Prim.Native.Nat.{_≤_};
@@ -9,9 +9,8 @@ ghost use Rattle.float.specs.Float.{k0};
 ghost use Rattle.layout.specs.Layout.{cutoutList};
 ghost use Rattle.settings.specs.Settings.{acceptedOf};
 ghost use Rattle.preset.specs.Preset.{isMaximumOf, plainOf, rowAllowedOf, laidOutOf, layoutInOf, layoutWithCutoutsOf, viewportLayoutOf, settingsLayoutOf, settingsViewportOf};
-use band::aspect;
-use chosen::area;
-use chosen::arrangement;
+use arrangement_choice::area;
+use arrangement_choice::arrangement;
 use cutouts::avoid_cutouts;
 use float::max;
 use geometry::Rect;
@@ -19,6 +18,7 @@ use landscape::fit_landscape_controls;
 use layout::Cutouts;
 use layout::Layout;
 use saved::with_saved;
+use search::aspect;
 use search::place_game_in_aspect;
 use settings::Fit;
 use settings::Preset;
@@ -63,7 +63,7 @@ fn laid_out(p: Preset, w: f32, h: f32, cutouts: Cutouts, picture: Rect) -> Layou
     let maximum = is_maximum(p.picture_fit());
     let plain = plain(p);
     let area = area(maximum, w, h, cutouts, picture);
-    let layout = arrangement(maximum, plain, psp, p.analog, w, h, cutouts, picture, area);
+    let layout = arrangement(p.analog, psp, maximum, plain, w, h, cutouts, picture, area);
     let saved = p.elements;
     let restored = with_saved(layout, w, h, saved, p.count);
     let clear = avoid_cutouts(restored, w, h, cutouts);

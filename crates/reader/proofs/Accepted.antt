@@ -1,31 +1,30 @@
 -- An accepted order gives settings in document 01's limits, and each number that has limits is a value of binary32; a refused one has a number from 1 to 7.
-use mathlib.Core.Path.{_≡_, refl, _∙_}
+use mathlib.Core.Path.{_≡_, refl}
 use mathlib.Core.Bool.{Bool, true, false, _&&_, _||_}
 use mathlib.Core.List.{List, [], _∷_}
-use Prim.Native.Nat.{ℕ, zero, suc, _+_, _-_, _*_, _/_, _<_, _≤_}
-use native.Mathlib.Omega.{arith}
+use Prim.Native.Nat.{ℕ, zero, suc, _/_, _<_, _≤_}
 use borrow.Author.Tests.{ltb-true, leb-true}
 use lib.Dec.{T, eqb, ltb, leb}
 use lib.Ieee.{Float, binary32, ofBits, fits, lt, le, eq, ne, neg}
-use lib.Ieee.Bits.{is-true, ofBits-fits}
-use lib.ListN.{length, take, drop, replicate, length-append}
-use lib.Seq.{take-at}
+use lib.Ieee.Bits.{is-true}
+use lib.ListN.{length, take, drop}
 use Rattle.prelude.specs.Answer.{Answer, accepted, refused, must, andThen}
 use Rattle.prelude.proofs.Booleans.{either, both}
 use Rattle.prelude.specs.Lists.{allOf}
-use Rattle.prelude.proofs.ListLaws.{all-snoc}
 use Rattle.float.specs.Float.{k0, k1}
 use Rattle.float.specs.MinMax.{maxOf}
 use Rattle.geometry.specs.declared.Rect.{Rect}
-use Rattle.geometry.specs.Rect.{newOf, emptyRect}
+use Rattle.geometry.specs.Rect.{newOf, rectIsF32}
+use Rattle.geometry.specs.declared.Offset.{Offset}
 use Rattle.layout.specs.declared.Cutouts.{Cutouts}
 use Rattle.layout.specs.Layout.{cutoutList}
-use Rattle.search.specs.declared.Offset.{Offset}
 use Rattle.settings.specs.declared.Settings.{Settings}
-use Rattle.settings.specs.Settings.{defaultOf, least, inLimitsOf, screenInLimitsOf, rectInLimitsOf, placeInLimitsOf, cutoutsInLimitsOf, acceptedOf, rectIsF32, IsF32}
+use Rattle.settings.specs.Settings.{defaultOf, absentOf, least, inLimitsOf, screenInLimitsOf, rectInLimitsOf, placeInLimitsOf, cutoutsInLimitsOf, acceptedOf, IsF32}
+use Rattle.wire.specs.Wire.{shortOf, numberAtOf, rectAtOf, filled}
+use Rattle.wire.proofs.Rects.{bits-f32, number-f32, rect-f32, filled-f32}
 use Rattle.reader.specs.declared.Tag.{Tag}
 use Rattle.reader.specs.declared.Tag.the-variants as Tag
-use Rattle.reader.specs.Order.{shortOf, numberAtOf, rectAtOf, rects, filled, readScreenOf, readPictureOf, readModeOf, readFitOf, readPlaceOf, readCutoutsOf, readSavedOf, fromByteOf, readFieldOf, fields, blankOf, readOrderOf}
+use Rattle.reader.specs.Order.{readScreenOf, readPictureOf, readModeOf, readFitOf, readPlaceOf, readCutoutsOf, readSavedOf, fromByteOf, readFieldOf, fields, readOrderOf}
 
 -- ---- a property of the value that an answer accepts, while a refusal has one of the reader's numbers
 abbrev ofReader : ℕ → Bool
@@ -62,7 +61,7 @@ module _ {A : Type 0} (P : A → Type 0) where
   unfolding Holds
   number-of h e = rw e at h
 
--- what holds of the settings that are blank, and after each field, holds of the order's
+-- what holds of the settings of absent fields, and after each field that is read, holds of the order's
 module _ (P : Settings → Type 0) (each : (tag : Tag) (v : List ℕ) (s : Settings) → P s → Holds P (readFieldOf tag v s)) where
   fields-hold : (turns last : ℕ) (screen : Bool) (s : Settings) (bytes : List ℕ) → P s → Holds P (fields turns last screen s bytes)
   unfolding fields
@@ -77,9 +76,9 @@ module _ (P : Settings → Type 0) (each : (tag : Tag) (v : List ℕ) (s : Setti
       holds-then P (readFieldOf (fromByteOf tag) (take n rest) s) _ (each (fromByteOf tag) (take n rest) s p)
       (λ t q. fields-hold turns tag (screen || eqb tag 1) t (drop n rest) q)))
 
-  order-holds : P blankOf → (bytes : List ℕ) → Holds P (readOrderOf bytes)
+  order-holds : P absentOf → (bytes : List ℕ) → Holds P (readOrderOf bytes)
   unfolding readOrderOf
-  order-holds p bytes = fields-hold 8 0 false blankOf bytes p
+  order-holds p bytes = fields-hold 8 0 false absentOf bytes p
 
 -- ---- a property of each part of the settings
 record Parts (Screen : Float → Float → Type 0) (Picture : Rect → Type 0) (Place : Float → Offset → Type 0) (Cut : Cutouts → Type 0) (Saved : List Rect → ℕ → Type 0) (s : Settings) : Type 0 where
@@ -102,9 +101,9 @@ offsetAt v = record { x = numberAtOf v 1; y = numberAtOf v 2 }
 abbrev cutoutsAt : List ℕ → ℕ → Cutouts
 cutoutsAt v n = record { at = filled 16 v n; count = n }
 
--- what holds of the blank settings' parts, and of each value's where its tests are met, holds of the order's
+-- what holds of the parts of absent fields, and of each value's where its tests are met, holds of the order's
 module _ (Screen : Float → Float → Type 0) (Picture : Rect → Type 0) (Place : Float → Offset → Type 0) (Cut : Cutouts → Type 0) (Saved : List Rect → ℕ → Type 0)
-    (start : Parts Screen Picture Place Cut Saved blankOf)
+    (start : Parts Screen Picture Place Cut Saved absentOf)
     (on-screen : (v : List ℕ) → screenInLimitsOf (wide v) (high v) ≡ true → Screen (wide v) (high v) × Picture (newOf k0 k0 (maxOf (wide v) k1) (maxOf (high v) k1)))
     (on-picture : (v : List ℕ) → rectInLimitsOf k0 (rectAtOf v 0) ≡ true → Picture (rectAtOf v 0))
     (on-place : (v : List ℕ) → placeInLimitsOf (numberAtOf v 0) (offsetAt v) ≡ true → Place (numberAtOf v 0) (offsetAt v))
@@ -115,14 +114,27 @@ module _ (Screen : Float → Float → Type 0) (Picture : Rect → Type 0) (Plac
 
   each : (tag : Tag) (v : List ℕ) (s : Settings) → P s → Holds P (readFieldOf tag v s)
   unfolding readFieldOf readScreenOf readPictureOf readModeOf readFitOf readPlaceOf readCutoutsOf readSavedOf
-  each Tag.Screen v s p = holds-must P _ 3 tt _ (λ _. holds-must P _ 6 tt _ (λ e. let q = on-screen v e in holds P _ (record { screen = q .0; picture = q .1; place = p .place; cutouts = p .cutouts; saved = p .saved })))
-  each Tag.Picture v s p = holds-must P _ 3 tt _ (λ _. holds-must P _ 6 tt _ (λ e. holds P _ (record { screen = p .screen; picture = on-picture v e; place = p .place; cutouts = p .cutouts; saved = p .saved })))
-  each Tag.Mode v s p = holds-must P _ 3 tt _ (λ _. holds-must P _ 5 tt _ (λ _. holds P _ (record { screen = p .screen; picture = p .picture; place = p .place; cutouts = p .cutouts; saved = p .saved })))
-  each Tag.Fit v s p = holds-must P _ 3 tt _ (λ _. holds-must P _ 5 tt _ (λ _. holds P _ (record { screen = p .screen; picture = p .picture; place = p .place; cutouts = p .cutouts; saved = p .saved })))
-  each Tag.Place v s p = holds-must P _ 3 tt _ (λ _. holds-must P _ 6 tt _ (λ e. holds P _ (record { screen = p .screen; picture = p .picture; place = on-place v e; cutouts = p .cutouts; saved = p .saved })))
+  each Tag.Screen v s p =
+      holds-must P _ 3 tt _ (λ _. holds-must P _ 6 tt _ (λ e. let q = on-screen v e in
+      holds P _ (record { screen = q .0; picture = q .1; place = p .place; cutouts = p .cutouts; saved = p .saved })))
+  each Tag.Picture v s p =
+      holds-must P _ 3 tt _ (λ _. holds-must P _ 6 tt _ (λ e.
+      holds P _ (record { screen = p .screen; picture = on-picture v e; place = p .place; cutouts = p .cutouts; saved = p .saved })))
+  each Tag.Mode v s p =
+      holds-must P _ 3 tt _ (λ _. holds-must P _ 5 tt _ (λ _.
+      holds P _ (record { screen = p .screen; picture = p .picture; place = p .place; cutouts = p .cutouts; saved = p .saved })))
+  each Tag.Fit v s p =
+      holds-must P _ 3 tt _ (λ _. holds-must P _ 5 tt _ (λ _.
+      holds P _ (record { screen = p .screen; picture = p .picture; place = p .place; cutouts = p .cutouts; saved = p .saved })))
+  each Tag.Place v s p =
+      holds-must P _ 3 tt _ (λ _. holds-must P _ 6 tt _ (λ e.
+      holds P _ (record { screen = p .screen; picture = p .picture; place = on-place v e; cutouts = p .cutouts; saved = p .saved })))
   each Tag.Cutouts v s p =
-      holds-must P _ 3 tt _ (λ _. holds-must P _ 7 tt _ (λ few. holds-must P _ 6 tt _ (λ e. holds P _ (record { screen = p .screen; picture = p .picture; place = p .place; cutouts = on-cutouts v (length v / 16) few e; saved = p .saved }))))
-  each Tag.Saved v s p = holds-must P _ 3 tt _ (λ _. holds-must P _ 7 tt _ (λ few. holds P _ (record { screen = p .screen; picture = p .picture; place = p .place; cutouts = p .cutouts; saved = on-saved v (length v / 16) few })))
+      holds-must P _ 3 tt _ (λ _. holds-must P _ 7 tt _ (λ few. holds-must P _ 6 tt _ (λ e.
+      holds P _ (record { screen = p .screen; picture = p .picture; place = p .place; cutouts = on-cutouts v (length v / 16) few e; saved = p .saved }))))
+  each Tag.Saved v s p =
+      holds-must P _ 3 tt _ (λ _. holds-must P _ 7 tt _ (λ few.
+      holds P _ (record { screen = p .screen; picture = p .picture; place = p .place; cutouts = p .cutouts; saved = on-saved v (length v / 16) few })))
 
   parts : (bytes : List ℕ) → Holds P (readOrderOf bytes)
   parts bytes = order-holds P each start bytes
@@ -148,13 +160,13 @@ abbrev InLimits : Settings → Type 0
 InLimits = Parts (λ w h. screenInLimitsOf w h ≡ true) (λ r. rectInLimitsOf k0 r ≡ true) (λ scale offset. placeInLimitsOf scale offset ≡ true)
     (λ c. (leb (c .count) 16 ≡ true) × (cutoutsInLimitsOf c ≡ true)) (λ l n. leb n 32 ≡ true)
 
-blank-limits : InLimits blankOf
-unfolding blankOf defaultOf screenInLimitsOf rectInLimitsOf placeInLimitsOf cutoutsInLimitsOf inLimitsOf allOf le lt eq neg ofBits
-blank-limits = record { screen = refl; picture = refl; place = refl; cutouts = (refl, refl); saved = refl }
+absent-limits : InLimits absentOf
+unfolding absentOf defaultOf screenInLimitsOf rectInLimitsOf placeInLimitsOf cutoutsInLimitsOf inLimitsOf allOf le lt eq neg ofBits
+absent-limits = record { screen = refl; picture = refl; place = refl; cutouts = (refl, refl); saved = refl }
 
 limits : (bytes : List ℕ) → Holds InLimits (readOrderOf bytes)
 limits bytes =
-    parts _ _ _ _ _ blank-limits (λ v e. (e, default-picture (wide v) (high v) e)) (λ v e. e) (λ v e. e) (λ v n few e. (few, e)) (λ v n few. few) bytes
+    parts _ _ _ _ _ absent-limits (λ v e. (e, default-picture (wide v) (high v) e)) (λ v e. e) (λ v e. e) (λ v n few e. (few, e)) (λ v n few. few) bytes
 
 pub accepted-order : (bytes : List ℕ) {s : Settings} → readOrderOf bytes ≡ accepted s → acceptedOf s ≡ true
 unfolding acceptedOf
@@ -168,47 +180,22 @@ refused-order bytes {n} e =
     (ltb-true 0 n (b .0), leb-true n 7 (b .1))
 
 -- ---- values of binary32
-bits-f32 : (n : ℕ) → fits binary32 (ofBits binary32 n) ≡ true
-bits-f32 n = is-true _ (ofBits-fits binary32 n)
-
-number-f32 : (v : List ℕ) (i : ℕ) → fits binary32 (numberAtOf v i) ≡ true
-unfolding numberAtOf
-number-f32 v i = bits-f32 _
-
-rect-f32 : (v : List ℕ) (i : ℕ) → rectIsF32 (rectAtOf v i) ≡ true
-unfolding rectIsF32 rectAtOf
-rect-f32 v i = rw (number-f32 v (4 * i), number-f32 v (4 * i + 1), number-f32 v (4 * i + 2), number-f32 v (4 * i + 3))
-
 default-f32 : (w h : Float) → fits binary32 w ≡ true → fits binary32 h ≡ true → rectIsF32 (newOf k0 k0 (maxOf w k1) (maxOf h k1)) ≡ true
 unfolding rectIsF32
 default-f32 w h p q = let one = bits-f32 0x3f80_0000 in rw (bits-f32 0, raised (fits binary32) w one p, raised (fits binary32) h one q)
-
-pub length-rects : (v : List ℕ) (n : ℕ) → length (rects v n) ≡ n
-unfolding rects
-length-rects v zero = refl
-length-rects v (suc n) = length-append (rects v n) (rectAtOf v n ∷ []) ∙ rw (length-rects v n) (omega arith)
-
-rects-f32 : (v : List ℕ) (n : ℕ) → allOf rectIsF32 (rects v n) ≡ true
-unfolding rects allOf
-rects-f32 v zero = refl
-rects-f32 v (suc n) = all-snoc rectIsF32 (rects v n) (rectAtOf v n) (rects-f32 v n) (rect-f32 v n)
-
-filled-f32 : (v : List ℕ) (n : ℕ) → allOf rectIsF32 (take n (filled 16 v n)) ≡ true
-unfolding filled
-filled-f32 v n = rw (take-at (rects v n) (replicate (16 - n) emptyRect) n (length-rects v n)) (rects-f32 v n)
 
 abbrev InF32 : Settings → Type 0
 InF32 = Parts (λ w h. (fits binary32 w ≡ true) × (fits binary32 h ≡ true)) (λ r. rectIsF32 r ≡ true)
     (λ scale offset. (fits binary32 scale ≡ true) × (fits binary32 (offset .x) ≡ true) × (fits binary32 (offset .y) ≡ true))
     (λ c. allOf rectIsF32 (cutoutList c) ≡ true) (λ l n. Unit {0})
 
-blank-f32 : InF32 blankOf
-unfolding blankOf defaultOf rectIsF32 allOf fits ofBits
-blank-f32 = record { screen = (refl, refl); picture = refl; place = (refl, refl, refl); cutouts = refl; saved = tt }
+absent-f32 : InF32 absentOf
+unfolding absentOf defaultOf rectIsF32 allOf fits ofBits
+absent-f32 = record { screen = (refl, refl); picture = refl; place = (refl, refl, refl); cutouts = refl; saved = tt }
 
 pub order-f32 : (bytes : List ℕ) {s : Settings} → readOrderOf bytes ≡ accepted s → IsF32 s
 order-f32 bytes e =
     let q = holds-of InF32
-    (parts _ _ _ _ _ blank-f32 (λ v _. ((number-f32 v 0, number-f32 v 1), default-f32 (wide v) (high v) (number-f32 v 0) (number-f32 v 1))) (λ v _. rect-f32 v 0)
-    (λ v _. (number-f32 v 0, number-f32 v 1, number-f32 v 2)) (λ v n _ _. filled-f32 v n) (λ v n _. tt) bytes) e in
+    (parts _ _ _ _ _ absent-f32 (λ v _. ((number-f32 v 0, number-f32 v 1), default-f32 (wide v) (high v) (number-f32 v 0) (number-f32 v 1))) (λ v _. rect-f32 v 0)
+    (λ v _. (number-f32 v 0, number-f32 v 1, number-f32 v 2)) (λ v n _ _. filled-f32 16 v n) (λ v n _. tt) bytes) e in
     record { w = q .screen .0; h = q .screen .1; picture = q .picture; scale = q .place .0; across = q .place .1; down = q .place .2; cutouts = q .cutouts }

@@ -1,22 +1,15 @@
--- The tests of a byte's bits, and an array filled from the front.
+-- The tests of a byte's bits: `b & (1 << i) != 0` tells whether bit i is set.
 use mathlib.Core.Path.{_≡_, ap, sym, _∙_}
 use mathlib.Core.Bool.{not}
-use mathlib.Core.List.{List}
-use Prim.Native.Nat.{ℕ, zero, suc, _+_, _-_, _*_, _/_, _%_, _^_, _<_}
+use Prim.Native.Nat.{ℕ, zero, suc, _*_, _/_, _%_, _^_, _<_}
 use native.Mathlib.Nat.{mod-lt, zero-mul, one-mul}
-use native.Mathlib.Numerals.{add-one}
 use native.Mathlib.Omega.{arith}
 use borrow.Author.Tests.{ne-eqb}
 use lib.Bits.{bitAnd, and-high}
 use lib.Dec.{eqb, lit<}
-use lib.ListN.{set, replicate}
 use lib.Pow.{high-ones, pow-pos}
-use lib.Seq.{set-at, append-snoc}
-use Rattle.geometry.specs.Rect.{emptyRect}
-use Rattle.reader.specs.Order.{hasBit, rectAtOf, rects, filled}
-use Rattle.reader.proofs.Accepted.{length-rects}
+use Rattle.reader.specs.Order.{hasBit}
 
--- ---- `b & (1 << i) != 0` tells whether bit i is set
 and-bit : (b i : ℕ) → bitAnd b (2 ^ i) ≡ b / 2 ^ i % 2 * 2 ^ i
 and-bit b i = ap (bitAnd b) (sym (high-ones 1 i ∙ one-mul (2 ^ i))) ∙ and-high b 1 i
 
@@ -28,11 +21,3 @@ digit (suc (suc x)) p h k = absurd (let z : ⊥ = omega arith in z)
 pub test-bit : (b i : ℕ) → not (eqb (bitAnd b (2 ^ i)) 0) ≡ hasBit b i
 unfolding hasBit
 test-bit b i = rw and-bit (digit (b / 2 ^ i % 2) (2 ^ i) (mod-lt (b / 2 ^ i) (lit< tt)) (pow-pos i))
-
--- ---- the first rectangles of a value, put into an array
-pub fill-next : (size : ℕ) (v : List ℕ) (i : ℕ) → i < size → set (filled size v i) i (rectAtOf v i) ≡ filled size v (i + 1)
-unfolding filled rects
-fill-next size v i h =
-    let e : size - i ≡ suc (size - suc i) = omega arith in
-    let z = replicate (size - suc i) emptyRect in
-    rw (add-one, e) (set-at (rects v i) emptyRect z (rectAtOf v i) i (length-rects v i) ∙ sym (append-snoc (rects v i) (rectAtOf v i) z))

@@ -10,9 +10,11 @@ use lib.ListN.{length, getD, take, drop, length-drop, drop-of-length-le}
 use lib.Seq.{drop-cons, drop-drop}
 use Rattle.prelude.specs.Answer.{accepted, refused, must, andThen}
 use Rattle.settings.specs.declared.Settings.{Settings}
+use Rattle.settings.specs.Settings.{absentOf}
+use Rattle.wire.specs.Wire.{shortOf}
 use Rattle.reader.specs.declared.Reading.{Reading}
 use Rattle.reader.specs.declared.Tag.{Tag}
-use Rattle.reader.specs.Order.{answerOf, shortOf, fromByteOf, readFieldOf, fields, blankOf, readOrderOf}
+use Rattle.reader.specs.Order.{readingAnswer, fromByteOf, readFieldOf, fields, readOrderOf}
 
 three-left : (l : List ℕ) (i : ℕ) → i + 3 ≤ length l → drop i l ≡ getD l i 0 ∷ getD l (i + 1) 0 ∷ getD l (i + 2) 0 ∷ drop (i + 3) l
 three-left l i h =
@@ -27,7 +29,7 @@ pub record Left (bytes : List ℕ) (at last : ℕ) (screen : Bool) (s : Settings
   pub enough : 6 < more + last
   pub gives : fields (suc more) last screen s (drop at bytes) ≡ readOrderOf bytes
 
-pub at-start : (bytes : List ℕ) {s : Settings} → s ≡ blankOf → Left bytes 0 0 false s
+pub at-start : (bytes : List ℕ) {s : Settings} → s ≡ absentOf → Left bytes 0 0 false s
 unfolding readOrderOf
 at-start bytes e = record { more = 7; enough = omega arith; gives = rw e }
 
@@ -77,20 +79,20 @@ module _ {bytes : List ℕ} {at last : ℕ} {screen : Bool} {s : Settings} (left
 
       -- the value is whole, and r is what reading it gave
       module _ (r : Reading) {t : Tag} {k : ℕ} (short : k ≡ n) (whole : k ≤ length bytes - (at + 3)) (named : t ≡ fromByteOf tag)
-          (read : answerOf r ≡ readFieldOf t (take (at + 3 + k - (at + 3)) rest) s) where
-        read-on : readOrderOf bytes ≡ andThen (answerOf r) (λ t. fields (left .more) tag (screen || eqb tag 1) t (drop k rest))
+          (read : readingAnswer r ≡ readFieldOf t (take (at + 3 + k - (at + 3)) rest) s) where
+        read-on : readOrderOf bytes ≡ andThen (readingAnswer r) (λ t. fields (left .more) tag (screen || eqb tag 1) t (drop k rest))
         unfolding must
         read-on =
             let e : at + 3 + k - (at + 3) ≡ k = omega arith in
             let fits = le-leb k (length rest) (simp length-drop (omega arith)) in
             turn ∙ rw (lt-ltb last tag above, le-leb tag 7 known, ← short, fits, read, named, e)
 
-        pub bad-value : (r .refusal ≡ 0 → ⊥) → answerOf r ≡ readOrderOf bytes
-        unfolding answerOf
+        pub bad-value : (r .refusal ≡ 0 → ⊥) → readingAnswer r ≡ readOrderOf bytes
+        unfolding readingAnswer
         bad-value h = let e = ne-eqb (r .refusal) 0 h in rw e (sym (read-on ∙ rw e))
 
         pub next-field : r .refusal ≡ 0 → Left bytes (at + 3 + k) tag (screen || eqb tag 1) (r .settings)
-        unfolding answerOf
+        unfolding readingAnswer
         next-field h =
             let e : suc (left .more - 1) ≡ left .more = omega arith in
             record { more = left .more - 1; enough = omega arith; gives = rw (e, ← drop-drop k (at + 3) bytes) (sym (read-on ∙ rw (eq-eqb (r .refusal) 0 h))) }

@@ -1,17 +1,21 @@
 // The reader of orders: bytes to settings, or the number of their first fault.
 ghost use mathlib.Core.Path.{_≡_};
-ghost use Prim.Native.Nat.{_+_, _*_, _≤_, _<_};
+ghost use Prim.Native.Nat.{_*_, _≤_, _<_};
 ghost use lib.ListN.{length};
 ghost use Rattle.prelude.specs.Answer.{accepted, refused};
-ghost use Rattle.reader.specs.Order.{answerOf, shortOf, wordOf, numberAtOf, rectAtOf, filled, withPreset, readScreenOf, readPictureOf, readModeOf, fitMarkOf, readFitOf, readPlaceOf, readCutoutsOf, readSavedOf, fromByteOf, readFieldOf, blankOf, readOrderOf};
+ghost use Rattle.settings.specs.Settings.{withPreset};
+ghost use Rattle.wire.specs.Wire.{filled};
+ghost use Rattle.reader.specs.Order.{readingAnswer, readScreenOf, readPictureOf, readModeOf, fitMarkOf, readFitOf, readPlaceOf, readCutoutsOf, readSavedOf, fromByteOf, readFieldOf, readOrderOf};
 use geometry::EMPTY;
+use geometry::Offset;
 use geometry::Rect;
 use layout::Cutouts;
-use layout::NO_CUTOUTS;
-use search::Offset;
 use settings::Fit;
 use settings::Preset;
 use settings::Settings;
+use wire::number_at;
+use wire::rect_at;
+use wire::short;
 
 // Refusal 0 is none; with any other the settings mean nothing.
 pub struct Reading {
@@ -30,14 +34,14 @@ pub enum Tag {
 }
 
 fn accept(settings: Settings) -> Reading
-    ensures { λ r. ⌜ answerOf r ≡ accepted settings ⌝ }
+    ensures { λ r. ⌜ readingAnswer r ≡ accepted settings ⌝ }
 {
     let refusal = 0;
     Reading { refusal, settings }
 }
 
 fn accept_preset(s: Settings, preset: Preset) -> Reading
-    ensures { λ r. ⌜ answerOf r ≡ accepted (withPreset s preset) ⌝ }
+    ensures { λ r. ⌜ readingAnswer r ≡ accepted (withPreset s preset) ⌝ }
 {
     let mut t = s;
     t.preset = preset;
@@ -46,46 +50,14 @@ fn accept_preset(s: Settings, preset: Preset) -> Reading
 
 fn refuse(refusal: u8, settings: Settings) -> Reading
     requires { ⌜ 0 < refusal ⌝ }
-    ensures { λ r. ⌜ answerOf r ≡ refused refusal ⌝ }
+    ensures { λ r. ⌜ readingAnswer r ≡ refused refusal ⌝ }
 {
     Reading { refusal, settings }
 }
 
-pub fn short(high: u8, low: u8) -> usize
-    ensures { λ r. ⌜ (r ≡ shortOf high low) × (r < 65536) ⌝ }
-{
-    high as usize * 256 + low as usize
-}
-
-pub fn word(a: u8, b: u8, c: u8, d: u8) -> u32
-    ensures { λ r. ⌜ r ≡ wordOf a b c d ⌝ }
-{
-    ((a as u32 * 256 + b as u32) * 256 + c as u32) * 256 + d as u32
-}
-
-fn number_at(value: &[u8], i: usize) -> f32
-    requires { ⌜ 4 * i + 4 ≤ length (now value) ⌝ }
-    ensures { λ r. ⌜ r ≡ numberAtOf (now (value .entry)) i ⌝ }
-{
-    let at = 4 * i;
-    float::from_bits(word(value[at], value[at + 1], value[at + 2], value[at + 3]))
-}
-
-fn rect_at(value: &[u8], i: usize) -> Rect
-    requires { ⌜ 16 * i + 16 ≤ length (now value) ⌝ }
-    ensures { λ r. ⌜ r ≡ rectAtOf (now (value .entry)) i ⌝ }
-{
-    Rect::new(
-        number_at(value, 4 * i),
-        number_at(value, 4 * i + 1),
-        number_at(value, 4 * i + 2),
-        number_at(value, 4 * i + 3),
-    )
-}
-
 // A picture follows in tag 2; without one it is the screen, raised to at least 1 by 1.
 fn read_screen(value: &[u8], s: Settings) -> Reading
-    ensures { λ r. ⌜ answerOf r ≡ readScreenOf (now (value .entry)) s ⌝ }
+    ensures { λ r. ⌜ readingAnswer r ≡ readScreenOf (now (value .entry)) s ⌝ }
 {
     if value.len() != 8 {
         return refuse(3, s);
@@ -104,7 +76,7 @@ fn read_screen(value: &[u8], s: Settings) -> Reading
 }
 
 fn read_picture(value: &[u8], s: Settings) -> Reading
-    ensures { λ r. ⌜ answerOf r ≡ readPictureOf (now (value .entry)) s ⌝ }
+    ensures { λ r. ⌜ readingAnswer r ≡ readPictureOf (now (value .entry)) s ⌝ }
 {
     if value.len() != 16 {
         return refuse(3, s);
@@ -120,7 +92,7 @@ fn read_picture(value: &[u8], s: Settings) -> Reading
 
 // Bit 0 psp, bit 1 analog, bit 2 allow_overlap.
 fn read_mode(value: &[u8], s: Settings) -> Reading
-    ensures { λ r. ⌜ answerOf r ≡ readModeOf (now (value .entry)) s ⌝ }
+    ensures { λ r. ⌜ readingAnswer r ≡ readModeOf (now (value .entry)) s ⌝ }
 {
     if value.len() != 1 {
         return refuse(3, s);
@@ -148,7 +120,7 @@ fn fit_mark(b: u8) -> Fit
 }
 
 fn read_fit(value: &[u8], s: Settings) -> Reading
-    ensures { λ r. ⌜ answerOf r ≡ readFitOf (now (value .entry)) s ⌝ }
+    ensures { λ r. ⌜ readingAnswer r ≡ readFitOf (now (value .entry)) s ⌝ }
 {
     if value.len() != 1 {
         return refuse(3, s);
@@ -157,25 +129,12 @@ fn read_fit(value: &[u8], s: Settings) -> Reading
     if 2 < b {
         return refuse(5, s);
     }
-    // A field that is an enum is not stored to: the preset is written anew.
-    let p = s.preset;
-    let offset = p.offset;
-    let elements = p.elements;
-    let preset = Preset {
-        psp: p.psp,
-        analog: p.analog,
-        overlap: p.overlap,
-        fit: fit_mark(b),
-        scale: p.scale,
-        offset,
-        elements,
-        count: p.count,
-    };
-    accept_preset(s, preset)
+    let preset = s.preset;
+    accept_preset(s, preset.with_fit(fit_mark(b)))
 }
 
 fn read_place(value: &[u8], s: Settings) -> Reading
-    ensures { λ r. ⌜ answerOf r ≡ readPlaceOf (now (value .entry)) s ⌝ }
+    ensures { λ r. ⌜ readingAnswer r ≡ readPlaceOf (now (value .entry)) s ⌝ }
 {
     if value.len() != 12 {
         return refuse(3, s);
@@ -217,7 +176,7 @@ fn saved_rects(value: &[u8], n: usize) -> [Rect; 32]
 }
 
 fn read_cutouts(value: &[u8], s: Settings) -> Reading
-    ensures { λ r. ⌜ answerOf r ≡ readCutoutsOf (now (value .entry)) s ⌝ }
+    ensures { λ r. ⌜ readingAnswer r ≡ readCutoutsOf (now (value .entry)) s ⌝ }
 {
     if value.len() % 16 != 0 {
         return refuse(3, s);
@@ -238,7 +197,7 @@ fn read_cutouts(value: &[u8], s: Settings) -> Reading
 
 // Any f32 may stand in a saved rectangle.
 fn read_saved(value: &[u8], s: Settings) -> Reading
-    ensures { λ r. ⌜ answerOf r ≡ readSavedOf (now (value .entry)) s ⌝ }
+    ensures { λ r. ⌜ readingAnswer r ≡ readSavedOf (now (value .entry)) s ⌝ }
 {
     if value.len() % 16 != 0 {
         return refuse(3, s);
@@ -272,7 +231,7 @@ impl Tag {
 }
 
 fn read_field(tag: Tag, value: &[u8], s: Settings) -> Reading
-    ensures { λ r. ⌜ answerOf r ≡ readFieldOf tag (now (value .entry)) s ⌝ }
+    ensures { λ r. ⌜ readingAnswer r ≡ readFieldOf tag (now (value .entry)) s ⌝ }
 {
     match tag {
         Tag::Screen => read_screen(value, s),
@@ -285,24 +244,11 @@ fn read_field(tag: Tag, value: &[u8], s: Settings) -> Reading
     }
 }
 
-// Document 01's values for absent fields.
-fn blank() -> Settings
-    ensures { λ r. ⌜ r ≡ blankOf ⌝ }
-{
-    Settings {
-        w: 0.0,
-        h: 0.0,
-        picture: EMPTY,
-        preset: Preset::default(),
-        cutouts: NO_CUTOUTS,
-    }
-}
-
 // The settings of a refused reading are left open.
 pub fn read_order(bytes: &[u8]) -> Reading
-    ensures { λ r. ⌜ answerOf r ≡ readOrderOf (now (bytes .entry)) ⌝ }
+    ensures { λ r. ⌜ readingAnswer r ≡ readOrderOf (now (bytes .entry)) ⌝ }
 {
-    let mut s = blank();
+    let mut s = Settings::absent();
     let mut screen = false;
     let mut last = 0;
     let mut at = 0;

@@ -7,8 +7,8 @@ use float::from_bits;
 use libc::STDOUT_FILENO;
 use order::LayoutAnswer;
 use order::TouchAnswer;
-use reader::short;
-use reader::word;
+use wire::short;
+use wire::word;
 
 fn main() {
     examples();
@@ -91,7 +91,7 @@ fn replay(list: &[u8]) {
 fn load(file: i32, head: &[u8; 17], out: &mut [u8]) -> usize
     ensures { λ r. ⌜ Counts r (now (out .exit)) ⌝ }
 {
-    let n = within(short(head[15], head[16]), out);
+    let n = at_most(short(head[15], head[16]), out);
     io::read_full(file, &mut out[..n])
 }
 
@@ -117,7 +117,7 @@ fn agrees(head: &[u8; 17], order: &[u8], bytes: &[u8]) -> bool {
 fn layout_agrees(head: &[u8; 17], order: &[u8], bytes: &[u8]) -> bool {
     let fill = head[11];
     let mut out = [fill; 1024];
-    let room = within(short(head[9], head[10]), &out);
+    let room = at_most(short(head[9], head[10]), &out);
     let answer = order::layout(order, &mut out[..room]);
     (layout_number(answer) == answer_of(head)) & holds(out, bytes, fill)
 }
@@ -125,7 +125,7 @@ fn layout_agrees(head: &[u8; 17], order: &[u8], bytes: &[u8]) -> bool {
 fn viewport_agrees(head: &[u8; 17], order: &[u8], bytes: &[u8]) -> bool {
     let fill = head[11];
     let mut out = [fill; 1024];
-    let room = within(short(head[9], head[10]), &out);
+    let room = at_most(short(head[9], head[10]), &out);
     let answer = order::viewport_layout(order, x_of(head), y_of(head), &mut out[..room]);
     (layout_number(answer) == answer_of(head)) & holds(out, bytes, fill)
 }
@@ -145,7 +145,7 @@ fn sheet_agrees(order: &[u8], bytes: &[u8]) -> bool {
 // Whether `out` begins with the bytes and is filled up as it was before.
 fn holds(out: [u8; 1024], bytes: &[u8], fill: u8) -> bool {
     let before = [fill; 1024];
-    let n = within(bytes.len(), &out);
+    let n = at_most(bytes.len(), &out);
     check::same(&out[..n], bytes) & check::same(&out[n..], &before[n..])
 }
 
@@ -177,7 +177,7 @@ fn y_of(head: &[u8; 17]) -> f32 {
 }
 
 // `n`, or all of the bytes where they are fewer.
-fn within(n: usize, bytes: &[u8]) -> usize
+fn at_most(n: usize, bytes: &[u8]) -> usize
     ensures { λ r. ⌜ Counts r (now (bytes .entry)) ⌝ }
 {
     if n < bytes.len() { n } else { bytes.len() }

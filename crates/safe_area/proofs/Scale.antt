@@ -16,7 +16,7 @@ use borrow.Author.Tests.{leb-true, eqb-true, eqb-false, eq-eqb, ne-eqb}
 use Rattle.prelude.proofs.Booleans.{either, both}
 use Rattle.prelude.specs.Lists.{allOf}
 use Rattle.prelude.proofs.Signed.{back, kept}
-use Rattle.safe_area.specs.Safe.{at, eqZ, maxOf, clampOf, withinLimitsOf, onScaleOf, allOnScaleOf, sameSizeOf, currentEdgesOf}
+use Rattle.safe_area.specs.Safe.{entry, eqZ, maxZ, clampZ, withinLimitsOf, onScaleOf, allOnScaleOf, sameSizeOf, currentEdgesOf}
 
 -- ---- tests
 pub ltZ-back : {a b : ℤ} {t : Bool} → SFits w32 a → SFits w32 b → ltZ (back a) (back b) ≡ t → ltZ a b ≡ t
@@ -43,7 +43,7 @@ unfolding withinLimitsOf
 within-mag (pos n) h = leb-true n 8192 h
 within-mag (negsuc n) h = let k : n ≤ 8191 = leb-true n 8191 (rw and-true at h) in omega arith
 
-pub within-at : (xs : List ℤ) (i : ℕ) → onScaleOf xs ≡ true → withinLimitsOf (at xs i) ≡ true
+pub within-at : (xs : List ℤ) (i : ℕ) → onScaleOf xs ≡ true → withinLimitsOf (entry xs i) ≡ true
 unfolding allOf withinLimitsOf
 within-at [] i h = refl
 within-at (x ∷ xs) zero h = both (withinLimitsOf x) (onScaleOf xs) h .0
@@ -68,39 +68,39 @@ in-float (negsuc n) h = lt→ltb n (2 ^ 24) (omega arith)
 pub cast-small : (z : ℤ) → mag z ≤ 65536 → T (inFloat binary32 (back z))
 cast-small z h = rw (kept z (omega arith)) (in-float z h)
 
-max-mag : (k : ℕ) (a b : ℤ) → mag a ≤ k → mag b ≤ k → mag (maxOf a b) ≤ k
-unfolding maxOf
+max-mag : (k : ℕ) (a b : ℤ) → mag a ≤ k → mag b ≤ k → mag (maxZ a b) ≤ k
+unfolding maxZ
 max-mag k a b p q = either (λ z. mag z ≤ k) (ltZ a b) q p
 
 -- clamp's ends: 0 and what is raised to it
-pub zero-least : (z : ℤ) → T (leZ (pos 0) (maxOf z (pos 0)))
-unfolding maxOf
+pub zero-least : (z : ℤ) → T (leZ (pos 0) (maxZ z (pos 0)))
+unfolding maxZ
 zero-least (pos n) = either (λ z. T (leZ (pos 0) z)) (ltb n 0) tt (le→leb 0 n (omega arith))
 zero-least (negsuc n) = tt
 
 -- ---- a span: its start, the differences up to its extent, and the extent
 pub record Measured (whole near far start end : ℤ) : Type 0 where
-  pub start-is : start ≡ clampOf near (pos 0) (maxOf whole (pos 0))
+  pub start-is : start ≡ clampZ near (pos 0) (maxZ whole (pos 0))
   pub start-small : mag start ≤ 8192
   pub first : SFits w32 (back whole -ℤ back start)
   pub second : SFits w32 (back (back whole -ℤ back start) -ℤ back end)
-  pub rest-small : mag (whole -ℤ start -ℤ maxOf far (pos 0)) ≤ 65536
-  pub rest-is : back (back (back whole -ℤ back start) -ℤ back end) ≡ whole -ℤ start -ℤ maxOf far (pos 0)
+  pub rest-small : mag (whole -ℤ start -ℤ maxZ far (pos 0)) ≤ 65536
+  pub rest-is : back (back (back whole -ℤ back start) -ℤ back end) ≡ whole -ℤ start -ℤ maxZ far (pos 0)
 
 module _ {whole near far least start end : ℤ} where
   pub measured : withinLimitsOf whole ≡ true → withinLimitsOf near ≡ true → withinLimitsOf far ≡ true
-      → least ≡ maxOf (back whole) (pos 0) → start ≡ clampOf (back near) (pos 0) (back least) → end ≡ maxOf (back far) (pos 0) → Measured whole near far start end
-  unfolding clampOf
+      → least ≡ maxZ (back whole) (pos 0) → start ≡ clampZ (back near) (pos 0) (back least) → end ≡ maxZ (back far) (pos 0) → Measured whole near far start end
+  unfolding clampZ
   measured w n f el es ee =
       let hw = within-mag whole w in
       let hn = within-mag near n in
       let hf = within-mag far f in
       let bw = kept whole (omega arith) in
-      let l : least ≡ maxOf whole (pos 0) = el ∙ rw bw in
+      let l : least ≡ maxZ whole (pos 0) = el ∙ rw bw in
       let hl : mag least ≤ 8192 = rw l (max-mag 8192 whole (pos 0) hw (omega arith)) in
-      let s : start ≡ clampOf near (pos 0) least = es ∙ rw (kept near (omega arith), kept least (omega arith)) in
+      let s : start ≡ clampZ near (pos 0) least = es ∙ rw (kept near (omega arith), kept least (omega arith)) in
       let hs : mag start ≤ 8192 = rw s (either (λ z. mag z ≤ 8192) (ltZ near (pos 0)) (omega arith) (either (λ z. mag z ≤ 8192) (ltZ least near) hl hn)) in
-      let e : end ≡ maxOf far (pos 0) = ee ∙ rw (kept far (omega arith)) in
+      let e : end ≡ maxZ far (pos 0) = ee ∙ rw (kept far (omega arith)) in
       let he : mag end ≤ 8192 = rw e (max-mag 8192 far (pos 0) hf (omega arith)) in
       let bs = kept start (omega arith) in
       let be = kept end (omega arith) in
@@ -116,12 +116,12 @@ module _ {whole near far least start end : ℤ} where
         rest-is = rw (bw, bs, b1, be, kept (whole -ℤ start -ℤ end) (omega arith), e);
       }
 
-module _ {whole near far start end extent : ℤ} (m : Measured whole near far start end) (e : extent ≡ maxOf (back (back (back whole -ℤ back start) -ℤ back end)) (pos 1)) where
-  pub extent-is : extent ≡ maxOf (whole -ℤ clampOf near (pos 0) (maxOf whole (pos 0)) -ℤ maxOf far (pos 0)) (pos 1)
+module _ {whole near far start end extent : ℤ} (m : Measured whole near far start end) (e : extent ≡ maxZ (back (back (back whole -ℤ back start) -ℤ back end)) (pos 1)) where
+  pub extent-is : extent ≡ maxZ (whole -ℤ clampZ near (pos 0) (maxZ whole (pos 0)) -ℤ maxZ far (pos 0)) (pos 1)
   extent-is = e ∙ rw (m .rest-is, m .start-is)
 
   pub extent-small : mag extent ≤ 65536
-  extent-small = rw (e, m .rest-is) (max-mag 65536 (whole -ℤ start -ℤ maxOf far (pos 0)) (pos 1) (m .rest-small) (omega arith))
+  extent-small = rw (e, m .rest-is) (max-mag 65536 (whole -ℤ start -ℤ maxZ far (pos 0)) (pos 1) (m .rest-small) (omega arith))
 
 pub sizes-and-edges : (a b c : List ℤ) → allOnScaleOf a b c ≡ true → (onScaleOf a ≡ true) × (onScaleOf c ≡ true)
 unfolding allOnScaleOf

@@ -4,7 +4,7 @@ ghost use mathlib.Core.Bool.{true};
 ghost use Prim.Native.Nat.{_<_};
 ghost use lib.Dec.{T};
 ghost use lib.Signed.{leZ};
-ghost use Rattle.safe_area.specs.Safe.{maxOf, clampOf, withinLimitsOf, onScaleOf, allOnScaleOf, sameSizeOf, currentEdgesOf, spanAlongOf, contentOf, safeContentOf, mergedEdgeOf, mergedOf, safeEdgesOf, contentAnswer, edgesAnswer};
+ghost use Rattle.safe_area.specs.Safe.{maxZ, clampZ, withinLimitsOf, onScaleOf, allOnScaleOf, sameSizeOf, currentEdgesOf, contentOf, safeContentOf, mergedEdgeOf, mergedOf, safeEdgesOf, contentAnswer, edgesAnswer};
 use geometry::Rect;
 
 pub enum SafeContent {
@@ -74,16 +74,16 @@ fn all_on_scale(a: &[i32], b: &[i32], c: &[i32]) -> bool
     on_scale(a) && (on_scale(b) && on_scale(c))
 }
 
-fn max(a: i32, b: i32) -> i32
-    ensures { λ r. ⌜ r ≡ maxOf a b ⌝ }
+fn int_max(a: i32, b: i32) -> i32
+    ensures { λ r. ⌜ r ≡ maxZ a b ⌝ }
 {
     if a < b { b } else { a }
 }
 
 // Rust's clamp asserts low <= high; here that is required.
-fn clamp(x: i32, low: i32, high: i32) -> i32
+fn int_clamp(x: i32, low: i32, high: i32) -> i32
     requires { ⌜ T (leZ low high) ⌝ }
-    ensures { λ r. ⌜ r ≡ clampOf x low high ⌝ }
+    ensures { λ r. ⌜ r ≡ clampZ x low high ⌝ }
 {
     if x < low {
         return low;
@@ -108,37 +108,24 @@ fn current_edges(size: [i32; 2], inset_size: [i32; 2], edges: [i32; 4]) -> [i32;
     }
 }
 
-// Along one axis, 0 across and 1 down: where the content starts, and how far it goes.
-struct Span {
-    start: f32,
-    extent: f32,
-}
-
-fn span_along(size: [i32; 2], edges: [i32; 4], axis: usize) -> Span
-    requires { ⌜ axis < 2 ⌝ }
-    requires { ⌜ onScaleOf size ≡ true ⌝ }
-    requires { ⌜ onScaleOf edges ≡ true ⌝ }
-    ensures { λ r. ⌜ r ≡ spanAlongOf size edges axis ⌝ }
-{
-    let whole = size[axis];
-    let start = clamp(edges[axis], 0, max(whole, 0));
-    let far = max(edges[axis + 2], 0);
-    let extent = max(whole - start - far, 1);
-    Span {
-        start: start as f32,
-        extent: extent as f32,
-    }
-}
-
 fn content(size: [i32; 2], inset_size: [i32; 2], edges: [i32; 4]) -> Rect
     requires { ⌜ onScaleOf size ≡ true ⌝ }
     requires { ⌜ onScaleOf edges ≡ true ⌝ }
     ensures { λ r. ⌜ r ≡ contentOf size «inset_size» edges ⌝ }
 {
+    let w = size[0];
+    let h = size[1];
     let current = current_edges(size, inset_size, edges);
-    let across = span_along(size, current, 0);
-    let down = span_along(size, current, 1);
-    Rect::new(across.start, down.start, across.extent, down.extent)
+    let left = int_clamp(current[0], 0, int_max(w, 0));
+    let top = int_clamp(current[1], 0, int_max(h, 0));
+    let right = current[2];
+    let bottom = current[3];
+    Rect::new(
+        left as f32,
+        top as f32,
+        int_max(w - left - int_max(right, 0), 1) as f32,
+        int_max(h - top - int_max(bottom, 0), 1) as f32,
+    )
 }
 
 // The margin at edge i. A camera that is a local obstacle has none.
@@ -152,11 +139,11 @@ fn merged_edge(
     requires { ⌜ i < 4 ⌝ }
     ensures { λ r. ⌜ r ≡ mergedEdgeOf decoration navigation camera i local ⌝ }
 {
-    let other = max(decoration[i], navigation[i]);
+    let other = int_max(decoration[i], navigation[i]);
     if local {
-        max(other, 0)
+        int_max(other, 0)
     } else {
-        max(other, camera[i])
+        int_max(other, camera[i])
     }
 }
 

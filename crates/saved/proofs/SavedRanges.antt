@@ -18,9 +18,8 @@ use Rattle.numerics.specs.Range.{In, at}
 use Rattle.numerics.proofs.Operations.{whole-finite}
 use Rattle.numerics.proofs.Ranges.{sub-in, min-in, element-in, saved-in}
 use Rattle.numerics.proofs.Literals.{lit}
-use Rattle.search.specs.Bounded.{Bounded}
-use Rattle.search.proofs.Changes.{set-elements-in}
-use Rattle.search.proofs.Layouts.{elements-in}
+use Rattle.layout_ranges.specs.Bounded.{Bounded}
+use Rattle.layout_ranges.proofs.Changes.{set-elements-in, elements-in}
 use Rattle.saved.specs.Saved.{usableOf, onScreenOf, restoreOf, restoredOf, withSavedOf}
 use Rattle.saved.proofs.SavedLaws.{usable-finite, length-restored}
 

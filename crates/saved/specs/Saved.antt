@@ -11,6 +11,7 @@ use Rattle.layout.specs.declared.Layout.{Layout}
 use Rattle.layout.specs.Layout.{elementsOf, elementCountOf}
 use Rattle.layout.specs.Elements.{setElementsOf}
 use Rattle.settings.specs.declared.Preset.{Preset}
+use Rattle.settings.specs.Settings.{withElements}
 
 -- ---- restored
 
@@ -47,13 +48,4 @@ partOf w h r = newOf (r .x ⊘ w) (r .y ⊘ h) (r .w ⊘ w) (r .h ⊘ h)
 unfoldable pub captureOf : Preset → Layout → Float → Float → Preset
 captureOf p l w h =
     let n = elementCountOf l in
-    record {
-      psp = p .psp;
-      analog = p .analog;
-      overlap = p .overlap;
-      fit = p .fit;
-      scale = p .scale;
-      offset = p .offset;
-      elements = replaceFirst n (map (partOf w h) (elementsOf l)) (p .elements);
-      count = n;
-    }
+    withElements p (replaceFirst n (map (partOf w h) (elementsOf l)) (p .elements)) n

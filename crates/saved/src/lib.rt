@@ -6,7 +6,7 @@ ghost use lib.Dec.{T};
 ghost use lib.Ieee.Scale.{finite};
 ghost use lib.ListN.{take};
 ghost use Rattle.prelude.specs.Lists.{replaceFirst};
-ghost use Rattle.layout.specs.Layout.{elementList};
+ghost use Rattle.layout.specs.Layout.{elementList, Few};
 ghost use Rattle.saved.specs.Saved.{isFiniteOf, usableOf, onScreenOf, restoreOf, restoredOf, withSavedOf, partOf, captureOf};
 use float::abs;
 use float::clamp;
@@ -69,7 +69,7 @@ fn restored(w: f32, h: f32, saved: [Rect; 32], n: usize, elements: Elements) -> 
 }
 
 pub fn with_saved(l: Layout, w: f32, h: f32, saved: [Rect; 32], n: usize) -> Layout
-    requires { ⌜ (n ≤ 32) × (l .count ≤ 12) × (l .stickcount ≤ 2) × T (finite w) × T (finite h) ⌝ }
+    requires { ⌜ (n ≤ 32) × Few l × T (finite w) × T (finite h) ⌝ }
     ensures { λ r. ⌜ r ≡ withSavedOf l w h (take n saved) ⌝ }
 {
     if n == 0 {
@@ -98,7 +98,7 @@ fn captured(w: f32, h: f32, elements: Elements, saved: [Rect; 32]) -> [Rect; 32]
 }
 
 pub fn capture(p: Preset, l: Layout, w: f32, h: f32) -> Preset
-    requires { ⌜ (l .count ≤ 12) × (l .stickcount ≤ 2) ⌝ }
+    requires { ⌜ Few l ⌝ }
     ensures { λ r. ⌜ r ≡ captureOf p l w h ⌝ }
 {
     let elements = l.elements();

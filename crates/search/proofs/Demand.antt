@@ -15,12 +15,12 @@ use Rattle.prelude.specs.Each.{Each}
 use Rattle.prelude.proofs.EachLaws.{each-imp, each-both}
 use Rattle.float.specs.Float.{k0, k1}
 use Rattle.geometry.specs.declared.Rect.{Rect}
+use Rattle.geometry.specs.declared.Offset.{Offset}
 use Rattle.numerics.specs.Value.{Whole, posPart, negPart, value, above, below, eps, P, N, E}
 use Rattle.numerics.specs.Rects.{WholeRect, Element, Area}
 use Rattle.numerics.proofs.Integers.{le-parts, parts-le, nle-parts, nlt-parts, add-parts, neg-parts, mul-parts, eq-parts, value-parts, scaled-parts}
 use Rattle.numerics.proofs.Operations.{lt-true}
 use Rattle.numerics.proofs.Bounds.{zero-most}
-use Rattle.search.specs.declared.Offset.{Offset}
 use Rattle.search.specs.Search.{gameOf, obstaclesOf}
 use Rattle.search.specs.Widest.{Exact, over, rightEdge, lowerEdge, meets, middle, lesser, greater, meetAcross, meetDown, sixteenth, centredWidth, Rival, Widest}
 use Rattle.search.proofs.Shapes.{Shape}
@@ -178,7 +178,7 @@ module _ {b : Rect} (B : Area b) {a : Float} {p q : ℕ} (S : Shape a p q) (es :
           (omega (arith, le-parts (rightEdge r) (rightEdge o) (sides .1), add-parts (r .x) (r .w), add-parts (o .x) (o .w), area, w0))
           (omega (arith, le-parts (lowerEdge r) (lowerEdge o) (sides .3), add-parts (r .y) (r .h), add-parts (o .y) (o .h), area, h0))
           (each-imp _ _ (λ e k. (k .0, missed d r e (k .0) w0 h0 (k .1))) es (each-both _ _ es F (R .clear)))
-          (placing (R .centred)))
+          (placing (R .position)))
 
     rival : T (leZ (r .w) ((value (game .w) +ℤ pos sixteenth) *ℤ pos d))
     rival =

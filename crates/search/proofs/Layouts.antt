@@ -1,4 +1,4 @@
--- Layouts in range: their elements, demand 3, and the range of the game.
+-- Layouts in range: demand 3, and the range of the game.
 use mathlib.Core.List.{List}
 use mathlib.Core.Bool.{Bool, false}
 use Prim.Native.Nat.{ℕ, _+_}
@@ -10,6 +10,7 @@ use Rattle.prelude.specs.Each.{Each, _&_}
 use Rattle.prelude.proofs.EachLaws.{each-take, each-append, each-map}
 use Rattle.float.specs.Float.{_⊕_, k1}
 use Rattle.geometry.specs.declared.Rect.{Rect}
+use Rattle.geometry.specs.declared.Offset.{Offset}
 use Rattle.layout.specs.declared.Layout.{Layout}
 use Rattle.layout.specs.Layout.{controlList, boundsOf, elementsOf}
 use Rattle.numerics.specs.Value.{Whole, AtMost}
@@ -18,24 +19,14 @@ use Rattle.numerics.proofs.Bounds.{add-most, most-size, most-more, between-most
 use Rattle.numerics.proofs.Ranges.{range-most, sub-in, clamp-whole-in}
 use Rattle.numerics.proofs.Products.{product-most}
 use Rattle.numerics.proofs.Literals.{lit, i0·25}
-use Rattle.search.specs.declared.Offset.{Offset}
 use Rattle.search.specs.Search.{clearPictureAspectOf, obstaclesOf, gameOf, placeGameInAspectOf}
 use Rattle.search.specs.Widest.{WidestGame}
-use Rattle.search.specs.Bounded.{Every, Bounded, BoundedGame}
+use Rattle.layout_ranges.specs.Bounded.{Every, Bounded, BoundedGame}
 use Rattle.search.proofs.Shapes.{Shape}
 use Rattle.search.proofs.Clearance.{Inside}
 use Rattle.search.proofs.Placement.{game-is, offset-in, obstacles-fair, picture-found}
 use Rattle.search.proofs.Demand.{game-widest}
-
-pub bounds-in : {C D : Rect → Type 0} (l : Layout) → Every C D l → Each C (boundsOf l)
-bounds-in {C} l B = each-map C (λ c. c .bounds) (controlList l) (each-take (λ c. C (c .bounds)) (l .count) (l .controls) (B .controls))
-
-pub elements-in : {C : Rect → Type 0} (l : Layout) → Every C C l → Each C (elementsOf l)
-unfolding elementsOf
-elements-in {C} l B =
-    B .dpad
-    & each-append C (boundsOf l) _ (bounds-in l B)
-    (B .pause & B .playback & B .speed & B .mute & each-take C (l .stickcount) (l .sticks) (B .sticks))
+use Rattle.layout_ranges.proofs.Changes.{elements-in}
 
 -- ---- the game, for any size factor
 abbrev most : ℕ

@@ -38,9 +38,9 @@ better-not best x y width aspect p = go (lt (best .w) width) refl (eq width (bes
     go false h false k = refl
 
 -- A turn's answer is that of the full width, if no obstacle is left or the picture was given up. `left` is where a picture of a width starts.
-pub settled : {f : Float → Rect → Float} {l : List Rect} {n k : ℕ} {width full : Float} (best : Rect) → Narrows f (best .w) → (left : Float → Float) (y aspect : Float) → Rest (foldl f width) l n full k
+pub turn-is-full : {f : Float → Rect → Float} {l : List Rect} {n k : ℕ} {width full : Float} (best : Rect) → Narrows f (best .w) → (left : Float → Float) (y aspect : Float) → Rest (foldl f width) l n full k
     → (n ≤ k) ⊎ (lt width (best .w) ≡ true) → betterOf best (left width) y width aspect ≡ betterOf best (left full) y full aspect
-settled best keeps left y aspect r (inl j) = rw (runs-out r j)
-settled {f} {l} {n} {k} {width} {full} best keeps left y aspect r (inr t) =
+turn-is-full best keeps left y aspect r (inl j) = rw (runs-out r j)
+turn-is-full {f} {l} {n} {k} {width} {full} best keeps left y aspect r (inr t) =
     let q : T (lt width (best .w)) = rw t tt in
     better-not best (left width) y width aspect q ∙ sym (better-not best (left full) y full aspect (rw (← r .left) (fold-keeps (λ v. T (lt v (best .w))) f keeps (drop k (take n l)) width q)))

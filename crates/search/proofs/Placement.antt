@@ -14,13 +14,13 @@ use Rattle.float.specs.Float.{_⊕_, _⊖_, _⊗_, _⊘_, k0, k0·01, k0·25, k
 use Rattle.float.specs.MinMax.{clampOf}
 use Rattle.geometry.specs.declared.Rect.{Rect}
 use Rattle.geometry.specs.Rect.{newOf, overlapsOf}
+use Rattle.geometry.specs.declared.Offset.{Offset}
 use Rattle.numerics.specs.Value.{Whole, magnitude, posPart, negPart, eps, AtMost, P, N, E}
 use Rattle.numerics.specs.Rects.{WholeRect, Element, Area}
 use Rattle.numerics.proofs.Operations.{zero-times, times-zero}
 use Rattle.numerics.proofs.Bounds.{add-law, add-most, sub-law, sub-most, mul-law, mul-most, most-size, lt-not}
 use Rattle.numerics.proofs.Ranges.{range-most, clamp-whole-in}
 use Rattle.numerics.proofs.Literals.{lit, f1, hundredth-most, hundredth}
-use Rattle.search.specs.declared.Offset.{Offset}
 use Rattle.search.specs.Search.{centeredOf, sideOf, clearPictureAspectOf, obstaclesOf, gameOf}
 use Rattle.search.proofs.Shapes.{width, Shape}
 use Rattle.search.proofs.Widths.{Wide}

@@ -11,9 +11,9 @@ use Rattle.float.specs.Float.{_⊕_, _⊖_, _⊗_, _⊘_, k0, k0·25, k1, k3, k
 use Rattle.float.specs.MinMax.{clampOf}
 use Rattle.geometry.specs.declared.Rect.{Rect}
 use Rattle.geometry.specs.Rect.{newOf}
+use Rattle.geometry.specs.declared.Offset.{Offset}
 use Rattle.layout.specs.Layout.{anyRect}
 use Rattle.search.specs.Search.{clearPictureOf, clearPictureAspectOf, obstaclesOf, gameOf}
-use Rattle.search.specs.declared.Offset.{Offset}
 
 -- the place where a picture may start: 0 in the first turn, an edge of the obstacle before in a later one
 module _ (edge : Rect → Float) (l : List Rect) (k : ℕ) where

@@ -3,13 +3,13 @@ use mathlib.Core.Bool.{Bool, cond, _&&_, _||_}
 use mathlib.Core.List.{List, [], _∷_, map, foldl}
 use lib.Ieee.{Float, lt, le, eq}
 use Rattle.prelude.specs.Lists.{filterMap}
-use Rattle.float.specs.Float.{_⊕_, _⊖_, _⊗_, _⊘_, k0, k0·01, k0·25, k0·5, k1, k2, k3, k4}
+use Rattle.float.specs.Float.{_⊕_, _⊖_, _⊗_, _⊘_, k0, k0·01, k0·25, k1, k2, k3, k4, k272, k480}
 use Rattle.float.specs.MinMax.{minOf, maxOf, clampOf}
 use Rattle.geometry.specs.declared.Rect.{Rect}
 use Rattle.geometry.specs.Rect.{newOf, emptyRect, overlapsOf}
+use Rattle.geometry.specs.declared.Offset.{Offset}
 use Rattle.layout.specs.declared.Layout.{Layout}
 use Rattle.layout.specs.Layout.{elementsOf, withGame}
-use Rattle.search.specs.declared.Offset.{Offset}
 
 -- the lower and the right edge of an obstacle
 abbrev pub bottomOf : Rect → Float
@@ -94,9 +94,9 @@ unfoldable pub obstaclesOf : Rect → List Rect → List Rect
 obstaclesOf bounds elements =
     filterMap (λ r. overlapsOf r bounds) (λ r. newOf (r .x ⊖ bounds .x) (r .y ⊖ bounds .y) (r .w) (r .h)) elements
 
--- `[0.5; 2]`
-abbrev pub centred : Offset
-centred = record { x = k0·5; y = k0·5 }
+-- the picture's shape: 480 to 272 for psp, else 4 to 3
+abbrev pub aspectOf : Bool → Float
+aspectOf psp = cond psp (k480 ⊘ k272) (k4 ⊘ k3)
 
 -- the game for the elements that may not be covered
 unfoldable pub gameOf : List Rect → Rect → Float → Offset → Float → Rect

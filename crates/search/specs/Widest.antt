@@ -73,7 +73,7 @@ pub record Rival (p q : ℕ) (elements : List Rect) (area : Rect) (found : Float
   pub shape : r .w *ℤ pos q ≡ r .h *ℤ pos p
   pub within : T (inside r (over d area))
   pub clear : Each (λ e. T (not (meets r (over d e)))) elements
-  pub centred : (middle r ≡ middle (over d area)) ⊎ (value found ≡ pos 0)
+  pub position : (middle r ≡ middle (over d area)) ⊎ (value found ≡ pos 0)
 
 -- the numbers of the game and of the elements are finite, no rival is more than 1/16 wider than the game, and the game meets no element by over 1/16 both across and down
 pub record Widest (p q : ℕ) (elements : List Rect) (area : Rect) (found : Float) (game : Rect) : Type 0 where

@@ -4,25 +4,25 @@ ghost use mathlib.Core.Bool.{cond};
 ghost use mathlib.Core.List.{[]};
 ghost use Prim.Native.Nat.{_≤_};
 ghost use lib.ListN.{take};
-ghost use Rattle.layout.specs.Layout.{elementList, elementsOf};
-ghost use Rattle.search.specs.Search.{withinOf, betterOf, narrowOf, narrowSideOf, centeredOf, sideOf, clearPictureAspectOf, clearPictureOf, obstaclesOf, gameOf, placeGameInAspectOf, placeGameInOf, placeGameOf};
+ghost use Rattle.layout.specs.Layout.{elementList, elementsOf, Few};
+ghost use Rattle.search.specs.Search.{aspectOf, withinOf, betterOf, narrowOf, narrowSideOf, centeredOf, sideOf, clearPictureAspectOf, clearPictureOf, obstaclesOf, gameOf, placeGameInAspectOf, placeGameInOf, placeGameOf};
 use float::clamp;
 use float::max;
 use float::min;
+use float::pick;
 use geometry::EMPTY;
+use geometry::Offset;
 use geometry::Rect;
 use layout::Elements;
 use layout::Layout;
 use layout::NO_ELEMENTS;
 
-// Where the game lies in the room that a smaller size factor leaves, from 0 to 1 across and down.
-pub struct Offset {
-    pub x: f32,
-    pub y: f32,
+// The picture's shape.
+pub fn aspect(psp: bool) -> f32
+    ensures { λ r. ⌜ r ≡ aspectOf psp ⌝ }
+{
+    pick(psp, 480.0 / 272.0, 4.0 / 3.0)
 }
-
-// `[0.5; 2]`.
-pub const CENTRED: Offset = Offset { x: 0.5, y: 0.5 };
 
 // A picture may start at y.
 fn within(y: f32, h: f32) -> bool
@@ -191,7 +191,7 @@ fn game(elements: Elements, bounds: Rect, scale: f32, offset: Offset, aspect: f3
 
 // The elements that the game may not cover: none where it may overlap them.
 fn uncovered(l: Layout, overlap: bool) -> Elements
-    requires { ⌜ (l .count ≤ 12) × (l .stickcount ≤ 2) ⌝ }
+    requires { ⌜ Few l ⌝ }
     ensures { λ r. ⌜ (elementList r ≡ cond overlap [] (elementsOf l)) × (r .count ≤ 19) ⌝ }
 {
     if overlap {
@@ -209,7 +209,7 @@ pub fn place_game_in_aspect(
     offset: Offset,
     aspect: f32,
 ) -> Layout
-    requires { ⌜ (l .count ≤ 12) × (l .stickcount ≤ 2) ⌝ }
+    requires { ⌜ Few l ⌝ }
     ensures { λ r. ⌜ r ≡ placeGameInAspectOf l bounds overlap scale offset aspect ⌝ }
 {
     let elements = uncovered(l, overlap);
@@ -220,14 +220,14 @@ pub fn place_game_in_aspect(
 }
 
 pub fn place_game_in(l: Layout, bounds: Rect, overlap: bool, scale: f32, offset: Offset) -> Layout
-    requires { ⌜ (l .count ≤ 12) × (l .stickcount ≤ 2) ⌝ }
+    requires { ⌜ Few l ⌝ }
     ensures { λ r. ⌜ r ≡ placeGameInOf l bounds overlap scale offset ⌝ }
 {
     place_game_in_aspect(l, bounds, overlap, scale, offset, 4.0 / 3.0)
 }
 
 pub fn place_game(l: Layout, w: f32, h: f32, overlap: bool, scale: f32, offset: Offset) -> Layout
-    requires { ⌜ (l .count ≤ 12) × (l .stickcount ≤ 2) ⌝ }
+    requires { ⌜ Few l ⌝ }
     ensures { λ r. ⌜ r ≡ placeGameOf l w h overlap scale offset ⌝ }
 {
     let bounds = Rect::new(0.0, 0.0, w, h);

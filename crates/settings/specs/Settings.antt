@@ -2,17 +2,18 @@
 use mathlib.Core.Path.{_≡_}
 use mathlib.Core.Bool.{Bool, true, false, _&&_, cond}
 use mathlib.Core.List.{List}
+use Prim.Native.Nat.{ℕ}
 use lib.Dec.{leb}
 use lib.Ieee.{Float, binary32, fits, le, eq, neg}
 use lib.ListN.{take, replicate}
 use Rattle.prelude.specs.Lists.{allOf}
 use Rattle.float.specs.Float.{k0, k0·5, k1, k8192}
 use Rattle.geometry.specs.declared.Rect.{Rect}
-use Rattle.geometry.specs.Rect.{emptyRect}
+use Rattle.geometry.specs.Rect.{emptyRect, rectIsF32}
+use Rattle.geometry.specs.declared.Offset.{Offset}
+use Rattle.geometry.specs.Offset.{centred}
 use Rattle.layout.specs.declared.Cutouts.{Cutouts}
 use Rattle.layout.specs.Layout.{cutoutList}
-use Rattle.search.specs.declared.Offset.{Offset}
-use Rattle.search.specs.Search.{centred}
 use Rattle.settings.specs.declared.Fit.{Fit}
 use Rattle.settings.specs.declared.Fit.the-variants.{Unset, Maximum, KeepClear}
 use Rattle.settings.specs.declared.Preset.{Preset}
@@ -35,6 +36,98 @@ defaultOf = record {
   count = 0;
 }
 
+-- document 01's values for absent fields
+unfoldable pub absentOf : Settings
+absentOf = record {
+  w = k0;
+  h = k0;
+  picture = emptyRect;
+  preset = defaultOf;
+  cutouts = record { at = replicate 16 emptyRect; count = 0 };
+}
+
+-- ---- a preset, and settings, made anew with other values in some fields
+abbrev pub withMode : Preset → Bool → Bool → Bool → Preset
+withMode p psp analog overlap = record {
+  psp = psp;
+  analog = analog;
+  overlap = overlap;
+  fit = p .fit;
+  scale = p .scale;
+  offset = p .offset;
+  elements = p .elements;
+  count = p .count;
+}
+
+abbrev pub withFit : Preset → Fit → Preset
+withFit p fit = record {
+  psp = p .psp;
+  analog = p .analog;
+  overlap = p .overlap;
+  fit = fit;
+  scale = p .scale;
+  offset = p .offset;
+  elements = p .elements;
+  count = p .count;
+}
+
+abbrev pub withPlace : Preset → Float → Offset → Preset
+withPlace p scale offset = record {
+  psp = p .psp;
+  analog = p .analog;
+  overlap = p .overlap;
+  fit = p .fit;
+  scale = scale;
+  offset = offset;
+  elements = p .elements;
+  count = p .count;
+}
+
+-- the first `count` of `elements` saved
+abbrev pub withElements : Preset → List Rect → ℕ → Preset
+withElements p elements count = record {
+  psp = p .psp;
+  analog = p .analog;
+  overlap = p .overlap;
+  fit = p .fit;
+  scale = p .scale;
+  offset = p .offset;
+  elements = elements;
+  count = count;
+}
+
+-- the screen, and the picture that comes with it
+abbrev pub withScreen : Settings → Float → Float → Rect → Settings
+withScreen s w h picture = record {
+  w = w;
+  h = h;
+  picture = picture;
+  preset = s .preset;
+  cutouts = s .cutouts;
+}
+
+abbrev pub withPicture : Settings → Rect → Settings
+withPicture s picture = withScreen s (s .w) (s .h) picture
+
+abbrev pub withPreset : Settings → Preset → Settings
+withPreset s preset = record {
+  w = s .w;
+  h = s .h;
+  picture = s .picture;
+  preset = preset;
+  cutouts = s .cutouts;
+}
+
+abbrev pub withCutouts : Settings → Cutouts → Settings
+withCutouts s cutouts = record {
+  w = s .w;
+  h = s .h;
+  picture = s .picture;
+  preset = s .preset;
+  cutouts = cutouts;
+}
+
+-- ---- the fit
 -- `fit.unwrap_or(other)`
 abbrev pub unwrapOr : Fit → Fit → Fit
 unwrapOr Unset other = other
@@ -85,9 +178,6 @@ acceptedOf s =
     && ((leb (s .cutouts .count) 16 && cutoutsInLimitsOf (s .cutouts)) && leb (s .preset .count) 32)))
 
 -- ---- each number that has limits is a value of binary32, as the f32 of a program are
-unfoldable pub rectIsF32 : Rect → Bool
-rectIsF32 r = fits binary32 (r .x) && (fits binary32 (r .y) && (fits binary32 (r .w) && fits binary32 (r .h)))
-
 pub record IsF32 (s : Settings) : Type 0 where
   pub w : fits binary32 (s .w) ≡ true
   pub h : fits binary32 (s .h) ≡ true

@@ -1,12 +1,14 @@
 // What an order sets: the screen, the picture's area, the preset of input.rs, the cutouts.
 ghost use mathlib.Core.Path.{_≡_};
 ghost use Prim.Native.Nat.{_≤_};
-ghost use Rattle.settings.specs.Settings.{defaultOf, untouchedOf, pictureFitOf, inLimitsOf, screenInLimitsOf, rectInLimitsOf, placeInLimitsOf, cutoutsInLimitsOf, topsInLimitsOf};
+ghost use Rattle.settings.specs.Settings.{defaultOf, absentOf, withFit, untouchedOf, pictureFitOf};
+ghost use Rattle.settings.specs.Settings.{inLimitsOf, screenInLimitsOf, rectInLimitsOf, placeInLimitsOf, cutoutsInLimitsOf, topsInLimitsOf};
+use geometry::CENTRED;
 use geometry::EMPTY;
+use geometry::Offset;
 use geometry::Rect;
 use layout::Cutouts;
-use search::CENTRED;
-use search::Offset;
+use layout::NO_CUTOUTS;
 
 // `Option<PictureFit>`
 pub enum Fit {
@@ -51,6 +53,24 @@ impl Preset {
         }
     }
 
+    // A field that is an enum is not stored to: the preset is made anew.
+    pub fn with_fit(self, fit: Fit) -> Self
+        ensures { λ r. ⌜ r ≡ withFit self fit ⌝ }
+    {
+        let offset = self.offset;
+        let elements = self.elements;
+        Self {
+            psp: self.psp,
+            analog: self.analog,
+            overlap: self.overlap,
+            fit,
+            scale: self.scale,
+            offset,
+            elements,
+            count: self.count,
+        }
+    }
+
     // The game at its whole size, in the middle.
     pub fn untouched(self) -> bool
         ensures { λ r. ⌜ r ≡ untouchedOf self ⌝ }
@@ -73,6 +93,21 @@ impl Preset {
             }
             Fit::Maximum => Fit::Maximum,
             Fit::KeepClear => Fit::KeepClear,
+        }
+    }
+}
+
+impl Settings {
+    // Document 01's values for absent fields.
+    pub fn absent() -> Self
+        ensures { λ r. ⌜ r ≡ absentOf ⌝ }
+    {
+        Self {
+            w: 0.0,
+            h: 0.0,
+            picture: EMPTY,
+            preset: Preset::default(),
+            cutouts: NO_CUTOUTS,
         }
     }
 }

@@ -12,14 +12,16 @@ use Rattle.geometry.specs.declared.Rect.{Rect}
 use Rattle.layout.specs.declared.Control.{Control}
 use Rattle.layout.specs.declared.Layout.{Layout}
 use Rattle.layout.specs.Label.{nameOf}
-use Rattle.layout.specs.Layout.{controlList, stickList}
+use Rattle.layout.specs.Layout.{controlList, stickList, Few}
+use Rattle.layout.specs.Labels.{Arrays}
 use Rattle.layout.proofs.Names.{length-name}
 use Rattle.numerics.proofs.Bounds.{most-more}
 use Rattle.numerics.specs.Rects.{Element}
-use Rattle.search.specs.Bounded.{Bounded, BoundedGame}
+use Rattle.layout_ranges.specs.Bounded.{Bounded, BoundedGame}
 use Rattle.lines.specs.Line.{Line, lineOf, lineText, headText, most, Printable}
 use Rattle.lines.proofs.LineLaws.{length-digits, length-head, length-line}
-use Rattle.sheet.specs.Sheet.{controlLine, toolbarLines, stickLines, linesOf, linesText, film, refusal, sheetText, gameName, dpadName, pauseName, playName, speedName, muteName, leftName, rightName}
+use Rattle.sheet.specs.Sheet.{gameName, dpadName, pauseName, playName, speedName, muteName, leftName, rightName}
+use Rattle.sheet.specs.Sheet.{controlLine, toolbarLines, stickLines, linesOf, linesText, film, refusal, sheetText}
 
 -- a line of 39 bytes at most
 abbrev Short : Line → Type 0
@@ -59,36 +61,41 @@ sticks-short [] e = tt
 sticks-short (a ∷ []) e = short leftName a tt (element-printable (e .0)) & tt
 sticks-short (a ∷ b ∷ rs) e = short leftName a tt (element-printable (e .0)) & short rightName b tt (element-printable (e .1 .0)) & tt
 
-module _ (l : Layout) (twelve : l .count ≤ 12) (two : l .stickcount ≤ 2) where
+module _ (l : Layout) (few : Few l) where
   length-linesOf : length (linesOf l) ≡ length (controlList l) + length (stickList l) + 6
   unfolding linesOf toolbarLines
   length-linesOf = simp (length-append, length-map) (omega (arith, stick-count (stickList l) (rw length-take (omega arith))))
 
-  few-lines : length (linesOf l) ≤ 20
+  pub few-lines : length (linesOf l) ≤ 20
   few-lines = rw (length-linesOf, length-take (l .count) (l .controls), length-take (l .stickcount) (l .sticks)) (omega arith)
 
   -- how many lines follow the header
-  pub line-count : l .count ≤ length (l .controls) → l .stickcount ≤ length (l .sticks) → l .count + l .stickcount + 6 ≡ length (linesOf l)
-  line-count cs ss = rw (length-linesOf, length-take-le (l .count) (l .controls) cs, length-take-le (l .stickcount) (l .sticks) ss)
+  pub line-count : Arrays l → l .count + l .stickcount + 6 ≡ length (linesOf l)
+  line-count a = rw (length-linesOf, length-take-le (l .count) (l .controls) (omega arith), length-take-le (l .stickcount) (l .sticks) (omega arith))
 
-module _ (l : Layout) (twelve : l .count ≤ 12) (two : l .stickcount ≤ 2) (b : Bounded l) where
+module _ (l : Layout) (few : Few l) (b : Bounded l) where
   lines-short : BoundedGame (l .game) → Each Short (linesOf l)
   unfolding linesOf toolbarLines
   lines-short g =
       short gameName (l .game) tt (game-printable g)
       & short dpadName (l .dpad) tt (element-printable (b .dpad))
       & each-append Short (map controlLine (controlList l)) (toolbarLines l ++ stickLines (stickList l))
-      (each-map Short controlLine (controlList l) (each-imp (λ c. Element (c .bounds)) (λ c. Short (controlLine c)) control (controlList l) (each-take (λ c. Element (c .bounds)) (l .count) (l .controls) (b .controls))))
-      (short pauseName (l .pause) tt (element-printable (b .pause)) & short playName (l .playback) tt (element-printable (b .playback)) & short speedName (l .speed) tt (element-printable (b .speed)) & short muteName (l .mute) tt (element-printable (b .mute)) & sticks-short (stickList l) (each-take Element (l .stickcount) (l .sticks) (b .sticks)))
+      (each-map Short controlLine (controlList l) (each-imp (λ c. Element (c .bounds)) (λ c. Short (controlLine c)) control (controlList l)
+      (each-take (λ c. Element (c .bounds)) (l .count) (l .controls) (b .controls))))
+      (short pauseName (l .pause) tt (element-printable (b .pause))
+      & short playName (l .playback) tt (element-printable (b .playback))
+      & short speedName (l .speed) tt (element-printable (b .speed))
+      & short muteName (l .mute) tt (element-printable (b .mute))
+      & sticks-short (stickList l) (each-take Element (l .stickcount) (l .sticks) (b .sticks)))
     where
       control : (c : Control) → Element (c .bounds) → Short (controlLine c)
       control c e = short (nameOf (c .label)) (c .bounds) (le→leb (length (nameOf (c .label))) 6 (length-name (c .label))) (element-printable e)
 
   -- 20 lines of 39 bytes at most
   lines-fit : BoundedGame (l .game) → length (linesText (linesOf l)) ≤ 780
-  lines-fit g = omega (arith, few-lines l twelve two, length-lines (linesOf l) (lines-short g))
+  lines-fit g = omega (arith, few-lines l few, length-lines (linesOf l) (lines-short g))
 
   -- and a header of 8
   pub sheet-fits : BoundedGame (l .game) → length (sheetText (linesOf l)) ≤ 788
   unfolding sheetText
-  sheet-fits g = simp length-append (omega (arith, lines-fit g, head-fits (length (linesOf l)) (few-lines l twelve two)))
+  sheet-fits g = simp length-append (omega (arith, lines-fit g, head-fits (length (linesOf l)) (few-lines l few)))

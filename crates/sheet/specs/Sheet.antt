@@ -1,14 +1,15 @@
 -- The film sheet of document 01: a layout as lines, and lines as text.
 use mathlib.Core.List.{List, [], _∷_, _++_, map, flatMap, zipWith}
 use Prim.Native.Nat.{ℕ, _-_}
-use lib.ListN.{length, replicate}
+use lib.ListN.{length, take, replicate}
 use Rattle.geometry.specs.declared.Rect.{Rect}
 use Rattle.layout.specs.declared.Control.{Control}
 use Rattle.layout.specs.declared.Layout.{Layout}
 use Rattle.layout.specs.Label.{nameOf}
 use Rattle.layout.specs.Layout.{controlList, stickList}
-use Rattle.lines.specs.Line.{Line, lineOf, lineText, headText}
+use Rattle.lines.specs.Line.{Line, lineOf, lineIn, lineText, headText}
 use Rattle.sheet.specs.declared.Sheet.{Sheet}
+use Rattle.sheet.specs.declared.SheetLines.{SheetLines}
 
 -- ---- lines
 
@@ -50,6 +51,10 @@ stickLines sticks = zipWith lineOf (leftName ∷ rightName ∷ []) sticks
 unfoldable pub linesOf : Layout → List Line
 linesOf l =
     lineOf gameName (l .game) ∷ lineOf dpadName (l .dpad) ∷ (map controlLine (controlList l) ++ (toolbarLines l ++ stickLines (stickList l)))
+
+-- the lines that an array and its count stand for
+abbrev pub linesIn : SheetLines → List Line
+linesIn ls = map lineIn (take (ls .count) (ls .at))
 
 -- ---- text, in ASCII
 

@@ -6,10 +6,10 @@ use lib.Dec.{eqb}
 use lib.Ieee.{Float}
 use lib.IntN.{ℤ, pos, negℤ}
 use Rattle.prelude.specs.Answer.{Answer, accepted, refused, andThen}
-use Rattle.safe_area.specs.Safe.{at, safeContentOf, safeEdgesOf}
+use Rattle.safe_area.specs.Safe.{entry, safeContentOf, safeEdgesOf}
 use Rattle.geometry.specs.declared.Rect.{Rect}
 use Rattle.safe_area.specs.declared.Edges.{Edges}
-use Rattle.order.specs.Orders.{layoutOf, touchOf, viewportLayoutOf}
+use Rattle.order.specs.Orders.{layoutOf, touchOf, viewportOf}
 use Rattle.film_sheet.specs.Film.{filmSheetOf}
 
 -- an answer as a number: minus the refusal's, if it is one
@@ -26,7 +26,7 @@ unfoldable pub tlTouchOf : List ℕ → Float → Float → ℕ → ℤ
 tlTouchOf order x y previous = numberOf (touchOf order x y previous)
 
 unfoldable pub tlViewportLayoutOf : List ℕ → Float → Float → List ℕ → ℤ
-tlViewportLayoutOf order reusable covered out = numberOf (viewportLayoutOf order reusable covered out)
+tlViewportLayoutOf order reusable covered out = numberOf (viewportOf order reusable covered out)
 
 -- ---- the film sheet, of a refused order too; its 1,024 bytes are those of crate `film_sheet`
 
@@ -42,10 +42,10 @@ statusOf a = numberOf (andThen a (λ v. accepted 0))
 
 -- two numbers, and four, from place i on
 unfoldable pub twoOf : List ℤ → ℕ → List ℤ
-twoOf numbers i = at numbers i ∷ at numbers (i + 1) ∷ []
+twoOf numbers i = entry numbers i ∷ entry numbers (i + 1) ∷ []
 
 unfoldable pub fourOf : List ℤ → ℕ → List ℤ
-fourOf numbers i = at numbers i ∷ at numbers (i + 1) ∷ at numbers (i + 2) ∷ at numbers (i + 3) ∷ []
+fourOf numbers i = entry numbers i ∷ entry numbers (i + 1) ∷ entry numbers (i + 2) ∷ entry numbers (i + 3) ∷ []
 
 -- of eight numbers: the size, the inset size, the edges
 unfoldable pub contentFrom : List ℤ → Answer Rect

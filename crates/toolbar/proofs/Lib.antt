@@ -1,2 +1,3 @@
 pub mod ToolbarRanges
 pub mod Scan
+pub mod ToolbarLabels

@@ -24,9 +24,9 @@ use Rattle.numerics.proofs.Bounds.{lt-law}
 use Rattle.numerics.proofs.Ranges.{in-reach, in-more, most-in, add-in, sub-in, sub-back, times-in, mul-in, div-in, min-in, max-in, clamp-in, cond-in, neg-in, raise, moved-in, placed-in}
 use Rattle.numerics.proofs.Products.{product-most}
 use Rattle.numerics.proofs.Literals.{lit, i0·01, i1·4, f0·01, f0·055, f2, f3, f4}
-use Rattle.search.specs.Bounded.{Every, Bounded}
-use Rattle.search.proofs.Layouts.{bounds-in}
-use Rattle.toolbar.specs.Toolbar.{candidateOf, roomOf, belowOf, moved, pass, pairOf, avoidedOf, anchorToolbarOf, reusableTopOf}
+use Rattle.layout_ranges.specs.Bounded.{Every, Bounded}
+use Rattle.toolbar.specs.Toolbar.{candidateOf, roomOf, belowOf, movedBar, pass, pairOf, avoidedOf, anchorToolbarOf, reusableTopOf}
+use Rattle.layout_ranges.proofs.Changes.{bounds-in}
 
 -- what is found holds
 module _ {A B : Type 0} (C : B → Type 0) (D : A → Type 0) (p : A → Bool) (hit : A → B) (none : B) (found : (x : A) → D x → T (p x) → C (hit x)) (otherwise : C none) where
@@ -62,8 +62,8 @@ module _ (left : Bool) {w h : Float} (W : In w (at 0) (at 8192)) (H : In h (at 0
       let lower = sub-back (minus 8193) bottom i0·01 (raise less (B .y) (lt-law 1 (bar .y) (c .y ⊕ c .h ⊖ k0·01) (B .y .whole) (less .whole) over)) tt tt in
       record { x = B .x; y = in-more (minus 8193) (at 8193) (min-in (add-in lower (lit 8) tt) (max-in (sub-in H (B .h) tt) (lit 0))) tt tt; w = B .w; h = B .h }
 
-  moved-bar : (bar c : Rect) → BarIn bar → Element c → T (overlapsOf bar c) → BarIn (moved left w h obstacles bar c)
-  unfolding moved
+  moved-bar : (bar c : Rect) → BarIn bar → Element c → T (overlapsOf bar c) → BarIn (movedBar left w h obstacles bar c)
+  unfolding movedBar
   moved-bar bar c B E t =
       let r : Bool = roomOf (candidateOf bar left c) left w in
       let f : Bool = not (anyOf (overlapsOf (candidateOf bar left c)) obstacles) in
@@ -73,7 +73,8 @@ module _ (left : Bool) {w h : Float} (W : In w (at 0) (at 8192)) (H : In h (at 0
   unfolding pass
   pass-in O zero bar B = B
   pass-in O (suc turns) bar B =
-      find-ind BarIn Element (overlapsOf bar) (λ c. pass left w h obstacles turns (moved left w h obstacles bar c)) bar (λ c E t. pass-in O turns (moved left w h obstacles bar c) (moved-bar bar c B E t)) B obstacles O
+      find-ind BarIn Element (overlapsOf bar) (λ c. pass left w h obstacles turns (movedBar left w h obstacles bar c)) bar
+      (λ c E t. pass-in O turns (movedBar left w h obstacles bar c) (moved-bar bar c B E t)) B obstacles O
 
 -- ---- the obstacles
 module _ (l : Layout) (covered : Float) (cutouts : List Rect) where
@@ -87,9 +88,9 @@ module _ (l : Layout) (covered : Float) (cutouts : List Rect) where
           (L .dpad & each-append Element (boundsOf l) (stickList l) (bounds-in l L) (each-take Element (l .stickcount) (l .sticks) (L .sticks)))
 
 -- where no decoration shows, only the cutouts
-pub uncovered : (l : Layout) (cutouts : List Rect) → avoidedOf l k0 cutouts ≡ cutouts
+pub nothing-covered : (l : Layout) (cutouts : List Rect) → avoidedOf l k0 cutouts ≡ cutouts
 unfolding avoidedOf lt ofBits
-uncovered l cutouts = refl
+nothing-covered l cutouts = refl
 
 -- ---- the keys
 pub anchor-in : {C D : Rect → Type 0} (l : Layout) {w h reusable covered : Float} (cutouts : List Rect)
@@ -107,8 +108,10 @@ anchor-in l {w} {covered = covered} cutouts W H R C O L =
     let up = neg-in R tt in
     let top = in-more (minus 8193) (at 8193) (clamp-in (add-in up C tt) up (max-in (sub-in H height tt) (lit 0))) tt tt in
     let right = sub-in (sub-in (sub-in (sub-in W padding tt) size tt) size tt) gap tt in
-    let a = pass-in true W H obstacles O (length obstacles + 1) _ (record { x = in-more (minus 128) (at 8320) padding tt tt; y = top; w = in-more (minus 64) (at 128) (add-in (add-in size gap tt) time tt) tt tt; h = height }) in
-    let b = pass-in false W H obstacles O (length obstacles + 1) _ (record { x = in-more (minus 128) (at 8320) right tt tt; y = top; w = in-more (minus 64) (at 128) (add-in (times-in f2 size tt) gap tt) tt tt; h = height }) in
+    let a = pass-in true W H obstacles O (length obstacles + 1) _
+    (record { x = in-more (minus 128) (at 8320) padding tt tt; y = top; w = in-more (minus 64) (at 128) (add-in (add-in size gap tt) time tt) tt tt; h = height }) in
+    let b = pass-in false W H obstacles O (length obstacles + 1) _
+    (record { x = in-more (minus 128) (at 8320) right tt tt; y = top; w = in-more (minus 64) (at 128) (add-in (times-in f2 size tt) gap tt) tt tt; h = height }) in
     record {
       dpad = L .dpad;
       controls = L .controls;
@@ -122,7 +125,7 @@ anchor-in l {w} {covered = covered} cutouts W H R C O L =
 -- where no decoration shows
 pub anchored-in : {C D : Rect → Type 0} (l : Layout) {w h reusable : Float} (cutouts : List Rect) → In w (at 0) (at 8192) → In h (at 0) (at 8192) → In reusable (at 0) (at 8192) → Each Element cutouts
     → Every C D l → Every C (Key margin) (anchorToolbarOf l w h reusable k0 cutouts)
-anchored-in l cutouts W H R O L = anchor-in l cutouts W H R (in-more (minus 8192) (at 8192) (lit 0) tt tt) (rw uncovered O) L
+anchored-in l cutouts W H R O L = anchor-in l cutouts W H R (in-more (minus 8192) (at 8192) (lit 0) tt tt) (rw nothing-covered O) L
 
 pub reusable-in : {picture : Rect} → Area picture → In (reusableTopOf picture) (at 0) (at 8192)
 reusable-in A = max-in (neg-in (most-in (A .y) tt) tt) (lit 0)

@@ -11,7 +11,7 @@ use Rattle.float.specs.MinMax.{minOf, maxOf, clampOf}
 use Rattle.geometry.specs.declared.Rect.{Rect}
 use Rattle.geometry.specs.Rect.{newOf, overlapsOf}
 use Rattle.layout.specs.declared.Layout.{Layout}
-use Rattle.layout.specs.Layout.{elementOf}
+use Rattle.layout.specs.Layout.{elementOf, withToolbar}
 use Rattle.layout.specs.Elements.{controllerElementsOf}
 use Rattle.toolbar.specs.declared.Bars.{Bars}
 use Rattle.toolbar.specs.declared.Obstacles.{Obstacles}
@@ -38,15 +38,15 @@ belowOf bar h c = newOf (bar .x) (minOf (c .y ⊕ c .h ⊕ k8) (maxOf (h ⊖ bar
 
 module _ (left : Bool) (w h : Float) (obstacles : List Rect) where
   -- one turn of the pass, for the first obstacle that the bar overlaps
-  unfoldable pub moved : Rect → Rect → Rect
-  moved bar c =
+  unfoldable pub movedBar : Rect → Rect → Rect
+  movedBar bar c =
       let candidate = candidateOf bar left c in
       cond (roomOf candidate left w && not (anyOf (overlapsOf candidate) obstacles)) candidate (belowOf bar h c)
 
   -- so many turns of the pass, which ends as soon as the bar is free
   unfoldable pub pass : ℕ → Rect → Rect
   pass zero bar = bar
-  pass (suc turns) bar = find (overlapsOf bar) (λ c. pass turns (moved bar c)) bar obstacles
+  pass (suc turns) bar = find (overlapsOf bar) (λ c. pass turns (movedBar bar c)) bar obstacles
 
 -- where the bar of a pair of keys comes to lie
 unfoldable pub pairOf : Float → Bool → Float → Float → Float → Float → Float → List Rect → Rect
@@ -60,11 +60,6 @@ avoidedOf l coveredTop cutouts = cond (lt k0 coveredTop) (cutouts ++ map (elemen
 pub record BarsOf (obstacles : List Rect) (a b : Rect) (w h : Float) (r : Bars) : Type 0 where
   pub left : r .left ≡ pairOf (a .x) true (a .w) (a .y) (a .h) w h obstacles
   pub right : r .right ≡ pairOf (b .x) false (b .w) (b .y) (b .h) w h obstacles
-
--- the layout with other keys in its toolbar
-abbrev pub withToolbar : Layout → Rect → Rect → Rect → Rect → Layout
-withToolbar l playback speed mute pause =
-    record { game = l .game; dpad = l .dpad; controls = l .controls; count = l .count; pause = pause; playback = playback; speed = speed; mute = mute; sticks = l .sticks; stickcount = l .stickcount }
 
 -- Playback and speed lie at the left, mute and pause at the right. A clear camera margin above the screen is used only
 -- while the system shows no decoration; a visible status bar pushes the keys down, and the game stays.

@@ -6,7 +6,7 @@ ghost use lib.Dec.{T};
 ghost use lib.Ieee.{le};
 ghost use lib.ListN.{take};
 ghost use Rattle.float.specs.Float.{k0};
-ghost use Rattle.layout.specs.Layout.{cutoutList, elementList};
+ghost use Rattle.layout.specs.Layout.{cutoutList, elementList, Few};
 ghost use Rattle.toolbar.specs.Toolbar.{obstacleList, avoidedOf, BarsOf, candidateOf, roomOf, belowOf, pairOf, anchorToolbarOf, reusableTopOf};
 use geometry::EMPTY;
 use geometry::Rect;
@@ -154,7 +154,7 @@ fn place_bars(
     w: f32,
     h: f32,
 ) -> Bars
-    requires { ⌜ (cutouts .count ≤ 16) × (l .count ≤ 12) × (l .stickcount ≤ 2) ⌝ }
+    requires { ⌜ (cutouts .count ≤ 16) × Few l ⌝ }
     ensures { λ r. ⌜ BarsOf (avoidedOf l «covered_top» (cutoutList cutouts)) left right w h r ⌝ }
 {
     if covered_top > 0.0 {
@@ -178,7 +178,7 @@ pub fn anchor_toolbar(
     covered_top: f32,
     cutouts: Cutouts,
 ) -> Layout
-    requires { ⌜ (cutouts .count ≤ 16) × (l .count ≤ 12) × (l .stickcount ≤ 2) × T (le k0 «reusable_top») ⌝ }
+    requires { ⌜ (cutouts .count ≤ 16) × Few l × T (le k0 «reusable_top») ⌝ }
     ensures { λ r. ⌜ r ≡ anchorToolbarOf l w h «reusable_top» «covered_top» (cutoutList cutouts) ⌝ }
 {
     let padding = float::min(28.0, w * 0.055);

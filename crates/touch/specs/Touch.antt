@@ -1,11 +1,11 @@
 -- `mask_near` of input.rs: the mask of a touch, by the three sources of its bits.
 use mathlib.Core.Bool.{Bool, cond, not, _&&_, _||_}
-use mathlib.Core.List.{List, foldl}
+use mathlib.Core.List.{List, _∷_, foldl}
 use Prim.Native.Nat.{ℕ, _^_}
 use lib.Bits.{bitAnd, bitOr}
 use lib.Dec.{eqb}
 use lib.Ieee.{Float, binary32, ofBits, lt, le}
-use Rattle.prelude.specs.Lists.{anyOf}
+use Rattle.prelude.specs.Lists.{anyOf, filterMap}
 use Rattle.float.specs.Float.{_⊕_, _⊖_, _⊗_, _⊘_, k0, k0·09, k0·15, k1, k2, k6, k10, √2}
 use Rattle.float.specs.MinMax.{minOf, absOf}
 use Rattle.geometry.specs.declared.Rect.{Rect}
@@ -42,30 +42,29 @@ dpadMaskOf dpad x y =
 unfoldable pub otherHoldsOf : Float → Float → Control → Bool
 otherHoldsOf x y c = not (isFaceOf (c .label)) && containsOf (c .bounds) x y
 
-abbrev pub anyOtherOf : Layout → Float → Float → Bool
-anyOtherOf l x y = anyOf (otherHoldsOf x y) (controlList l)
-
-unfoldable pub joinOf : Float → Float → ℕ → Control → ℕ
-joinOf x y mask c = cond (otherHoldsOf x y c) (bitOr mask (maskOf (c .label))) mask
+unfoldable pub addOtherOf : Float → Float → ℕ → Control → ℕ
+addOtherOf x y mask c = cond (otherHoldsOf x y c) (bitOr mask (maskOf (c .label))) mask
 
 unfoldable pub othersMaskOf : Float → Float → List Control → ℕ
-othersMaskOf x y controls = foldl (joinOf x y) 0 controls
+othersMaskOf x y controls = foldl (addOtherOf x y) 0 controls
 
 -- ---- the face buttons: one finger takes the nearest
 
--- neither the picture nor the d-pad holds the touch
-unfoldable pub outsideOf : Layout → Float → Float → Bool
-outsideOf l x y = not (containsOf (l .game) x y) && not (containsOf (l .dpad) x y)
+-- what may take a touch from the margin of a face button, in the order in which it is asked
+abbrev pub blockersOf : Layout → List Rect
+blockersOf l =
+    l .game
+    ∷ l .dpad
+    ∷ l .pause
+    ∷ l .playback
+    ∷ l .speed
+    ∷ l .mute
+    ∷ filterMap (λ c. not (isFaceOf (c .label))) (λ c. c .bounds) (controlList l)
 
--- The margin about a face button's box counts in unused control space only, so that it takes nothing from the picture, another control or the toolbar.
+-- The margin about a face button's box counts in unused control space only, so that it takes nothing from the picture, another
+-- control or the toolbar.
 unfoldable pub isFreeOf : Layout → Float → Float → Bool
-isFreeOf l x y =
-    outsideOf l x y
-    && (not (containsOf (l .pause) x y)
-    && (not (containsOf (l .playback) x y)
-    && (not (containsOf (l .speed) x y)
-    && (not (containsOf (l .mute) x y)
-    && not (anyOtherOf l x y)))))
+isFreeOf l x y = not (anyOf (λ r. containsOf r x y) (blockersOf l))
 
 -- the box with its margin
 unfoldable pub targetOf : Rect → Rect

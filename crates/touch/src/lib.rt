@@ -1,12 +1,15 @@
 // `mask_near` of input.rs: the buttons that a touch holds down.
 ghost use mathlib.Core.Path.{_≡_};
-ghost use mathlib.Core.Bool.{false, cond, _&&_};
+ghost use mathlib.Core.Bool.{false, cond, not, _&&_};
 ghost use Prim.Native.Nat.{_≤_};
 ghost use lib.Ieee.{lt, eq};
+ghost use Rattle.prelude.specs.Lists.{anyOf};
 ghost use Rattle.float.specs.MinMax.{absOf};
+ghost use Rattle.geometry.specs.Rect.{containsOf};
 ghost use Rattle.hypot.specs.Hypot.{hypotOf};
 ghost use Rattle.layout.specs.Label.{isFaceOf};
-ghost use Rattle.touch.specs.Touch.{axisBitOf, sectorOf, dpadMaskOf, otherHoldsOf, anyOtherOf, outsideOf, isFreeOf, joinOf, targetOf, reachedOf, distanceOf, nearerOf, maskNearOf};
+ghost use Rattle.layout.specs.Layout.{controlList};
+ghost use Rattle.touch.specs.Touch.{axisBitOf, sectorOf, dpadMaskOf, otherHoldsOf, isFreeOf, addOtherOf, targetOf, reachedOf, distanceOf, nearerOf, maskNearOf};
 use float::SQRT_2;
 use geometry::Rect;
 use layout::Control;
@@ -90,7 +93,7 @@ fn other_holds(c: Control, x: f32, y: f32) -> bool
 
 fn any_other(l: Layout, x: f32, y: f32) -> bool
     requires { ⌜ l .count ≤ 12 ⌝ }
-    ensures { λ r. ⌜ r ≡ anyOtherOf l x y ⌝ }
+    ensures { λ r. ⌜ r ≡ anyOf (otherHoldsOf x y) (controlList l) ⌝ }
 {
     let n = l.count;
     for i in 0..n {
@@ -104,20 +107,22 @@ fn any_other(l: Layout, x: f32, y: f32) -> bool
 
 // Neither the picture nor the d-pad holds the touch.
 fn outside(l: Layout, x: f32, y: f32) -> bool
-    ensures { λ r. ⌜ r ≡ outsideOf l x y ⌝ }
+    ensures { λ r. ⌜ r ≡ (not (containsOf (l .game) x y) && not (containsOf (l .dpad) x y)) ⌝ }
 {
     !l.game.contains(x, y) && !l.dpad.contains(x, y)
 }
 
-// The touch lies in unused control space.
+// The touch lies in unused control space: none of the blockers holds it, asked in their order.
 fn is_free(l: Layout, x: f32, y: f32) -> bool
     requires { ⌜ l .count ≤ 12 ⌝ }
     ensures { λ r. ⌜ r ≡ isFreeOf l x y ⌝ }
 {
-    outside(l, x, y)
-        && (!l.pause.contains(x, y)
-            && (!l.playback.contains(x, y)
-                && (!l.speed.contains(x, y) && (!l.mute.contains(x, y) && !any_other(l, x, y)))))
+    !l.game.contains(x, y)
+        && (!l.dpad.contains(x, y)
+            && (!l.pause.contains(x, y)
+                && (!l.playback.contains(x, y)
+                    && (!l.speed.contains(x, y)
+                        && (!l.mute.contains(x, y) && !any_other(l, x, y))))))
 }
 
 // The box of a face button with its margin.
@@ -145,8 +150,8 @@ fn distance(r: Rect, x: f32, y: f32, held: bool) -> f32
     hypot::hypot(x - r.x - r.w / 2.0, y - r.y - r.h / 2.0) - float::pick(held, 6.0, 0.0)
 }
 
-fn join(mask: u16, c: Control, x: f32, y: f32) -> u16
-    ensures { λ r. ⌜ r ≡ joinOf x y mask c ⌝ }
+fn add_other(mask: u16, c: Control, x: f32, y: f32) -> u16
+    ensures { λ r. ⌜ r ≡ addOtherOf x y mask c ⌝ }
 {
     let label = c.label;
     if other_holds(c, x, y) {
@@ -237,7 +242,7 @@ pub fn mask_near(l: Layout, x: f32, y: f32, previous: u16) -> u16
     };
     for i in 0..n {
         let c = controls[i];
-        others = join(others, c, x, y);
+        others = add_other(others, c, x, y);
         faces = nearer(faces, c, x, y, outside, previous);
     }
     dpad_mask(l.dpad, x, y) | others | face_mask(l, faces, x, y)

@@ -1,45 +1,21 @@
--- Runs of stores, one after the other, and what they leave of the output.
-use mathlib.Core.Path.{_≡_, ap, sym, _∙_}
-use mathlib.Core.List.{List, [], _∷_, _++_, flatMap, append-assoc}
-use Prim.Native.Nat.{ℕ, suc, _+_, _*_, _<_, _≤_}
-use native.Mathlib.Nat.{zero-add}
-use native.Mathlib.Numerals.{add-one}
+-- What the stores of a whole layout leave of the output: its bytes where they have room, else the output as it was.
+use mathlib.Core.Path.{_≡_, ap, _∙_}
+use mathlib.Core.List.{List, flatMap, append-assoc}
+use Prim.Native.Nat.{ℕ, _+_, _*_, _<_, _≤_}
 use native.Mathlib.Omega.{arith}
 use borrow.Author.Tests.{le-leb, lt-leb}
-use lib.ListN.{length, set, drop}
-use lib.Seq.{sets-eq, length-sets}
+use lib.ListN.{length}
 use Rattle.prelude.specs.Answer.{accepted, refused, must}
-use Rattle.prelude.proofs.Stores.{store, store-sets}
+use Rattle.prelude.specs.Lists.{stored}
+use Rattle.prelude.proofs.Stores.{then, stored-all}
 use Rattle.geometry.specs.declared.Rect.{Rect}
 use Rattle.layout.specs.declared.Layout.{Layout}
 use Rattle.layout.specs.Layout.{elementsOf, controlList, elementCountOf}
-use Rattle.writer.specs.Bytes.{stored, rectBytes, maskBytes, headBytes, layoutBytes, writeLayoutOf, outputOf}
-use Rattle.writer.proofs.Length.{length-rect, length-head, length-rects, length-masks, length-layout, lengthFor}
+use Rattle.wire.specs.Wire.{rectBytes, headBytes}
+use Rattle.wire.proofs.Items.{length-rect, length-field-head}
+use Rattle.writer.specs.Bytes.{maskBytes, layoutBytes, writeLayoutOf, outputOf}
+use Rattle.writer.proofs.Length.{length-element-bytes, length-mask-bytes, length-layout, lengthFor}
 
--- stores at i, i + 1 and so on
-pub stored-run : (l : List ℕ) (i a : ℕ) (vs : List ℕ) → store (set l i a) i 1 vs ≡ stored l i (a ∷ vs)
-unfolding stored
-stored-run l i a vs = store-sets (set l i a) i 1 vs ∙ rw add-one
-
-pub length-stored : (l : List ℕ) (i : ℕ) (vs : List ℕ) → length (stored l i vs) ≡ length l
-unfolding stored
-length-stored l i vs = length-sets l i vs
-
--- a run, and a run from where it ended
-pub then-on : (l : List ℕ) (i j : ℕ) (us vs : List ℕ) {m : List ℕ} → m ≡ stored l i us → i + length us ≡ j → stored l i (us ++ vs) ≡ stored m j vs
-unfolding stored
-then-on l i j [] vs p e = let h : i ≡ j = omega arith in rw (p, h)
-then-on l i j (u ∷ us) vs p e = then-on (set l i u) (suc i) j us vs p (omega arith)
-
-pub then : (l : List ℕ) (i j : ℕ) (us vs : List ℕ) {m n : List ℕ} → m ≡ stored l i us → n ≡ stored m j vs → i + length us ≡ j → n ≡ stored l i (us ++ vs)
-then l i j us vs p q e = q ∙ sym (then-on l i j us vs p e)
-
--- what a run from the start leaves
-pub stored-all : (l vs : List ℕ) → length vs ≤ length l → stored l 0 vs ≡ vs ++ drop (length vs) l
-unfolding stored
-stored-all l vs h = sets-eq vs l 0 (omega arith) ∙ rw zero-add
-
--- ---- the whole layout
 module _ (l : Layout) (cs : l .count ≤ length (l .controls)) (ss : l .stickcount ≤ length (l .sticks)) (out : List ℕ) where
   pub too-small : length out < lengthFor (l .count) (l .stickcount) → (refused 8 ≡ writeLayoutOf l out) × (out ≡ outputOf l out)
   unfolding writeLayoutOf outputOf must
@@ -47,10 +23,10 @@ module _ (l : Layout) (cs : l .count ≤ length (l .controls)) (ss : l .stickcou
       let g = lt-leb (length (layoutBytes l)) (length out) (omega (arith, length-layout l cs ss)) in
       (rw g, rw g)
 
-  pub fits : {n : ℕ} {end : List ℕ} → n ≡ lengthFor (l .count) (l .stickcount) → n ≤ length out → end ≡ stored out 0 (layoutBytes l)
+  pub has-room : {n : ℕ} {end : List ℕ} → n ≡ lengthFor (l .count) (l .stickcount) → n ≤ length out → end ≡ stored out 0 (layoutBytes l)
       → (accepted n ≡ writeLayoutOf l out) × (end ≡ outputOf l out)
   unfolding writeLayoutOf outputOf must
-  fits e h p =
+  has-room e h p =
       let k = length-layout l cs ss in
       let g = le-leb (length (layoutBytes l)) (length out) (omega arith) in
       (rw (g, k, e), rw g (p ∙ stored-all out (layoutBytes l) (omega arith)))
@@ -63,10 +39,10 @@ module _ (l : Layout) (cs : l .count ≤ length (l .controls)) (ss : l .stickcou
       → f ≡ stored out 0 (layoutBytes l)
   unfolding layoutBytes
   layout-run {n} {rs} k q p₁ p₂ p₃ p₄ p₅ p₆ =
-      let u₁ = length-head 1 16 in
+      let u₁ = length-field-head 1 16 in
       let u₂ = length-rect (l .game) in
-      let u₃ = length-head 2 n in
-      let u₄ : length (flatMap rectBytes rs) ≡ n = rw (q, k) (length-rects l cs ss) in
-      let u₅ = length-head 3 (2 * l .count) in
+      let u₃ = length-field-head 2 n in
+      let u₄ : length (flatMap rectBytes rs) ≡ n = rw (q, k) (length-element-bytes l cs ss) in
+      let u₅ = length-field-head 3 (2 * l .count) in
       then _ _ _ _ _ p₁ (then _ _ _ _ _ p₂ (then _ _ _ _ _ p₃ (then _ _ _ _ _ p₄ (then _ _ _ _ _ p₅ p₆ (omega arith)) (omega arith)) (omega arith)) (omega arith)) (omega arith)
-      ∙ ap (stored out 0) (rw (u₂, length-rects l cs ss, length-masks l cs ss, ← k, ← q) (simp append-assoc))
+      ∙ ap (stored out 0) (rw (u₂, length-element-bytes l cs ss, length-mask-bytes l cs ss, ← k, ← q) (simp append-assoc))

@@ -1,3 +1,4 @@
+-- `anchor_toolbar` with no cutouts; the counts are read off its definition.
 use mathlib.Core.Path.{refl}
 use borrow.Author.Needs.{needs}
 use lib.Ieee.{le, ofBits}

@@ -1,3 +1,4 @@
+-- `place_game` over `anchored`; the counts are read off the definitions.
 use mathlib.Core.Path.{refl}
 use borrow.Author.Needs.{needs}
 use Rattle.search.specs.Search.{placeGameInAspectOf}

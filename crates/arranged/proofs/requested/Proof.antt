@@ -1,3 +1,4 @@
+-- The bounds of `clamp` are in order; what max, clamp and min give is put for its terms.
 use borrow.Author.Needs.{needs}
 use lib.Ieee.{le, ofBits}
 use Rattle.arranged.specs.Arranged.{requestedOf}

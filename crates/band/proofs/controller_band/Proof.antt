@@ -1,3 +1,4 @@
+-- By its three ways out; at the last, toolbar and game of `arranged` do not matter (`band-anew`).
 use native.Mathlib.Omega.{arith}
 use borrow.Author.Needs.{needs}
 use Rattle.search.specs.Search.{placeGameInAspectOf}
@@ -5,45 +6,52 @@ use Rattle.toolbar.specs.Toolbar.{anchorToolbarOf}
 use Rattle.float.proofs.Ends.{zero-le-max}
 use Rattle.band.specs.Band.{controllerBandOf}
 use Rattle.band.proofs.Anew.{band-anew}
-use Rattle.band.proofs.Counts.{Counted}
 use Rattle.band.proofs.controller_band.Statement.{statement}
 use Rattle.band.proofs.controller_band.Tie as tie
+use Rattle.layout.specs.Layout.{Few}
 
 returns-2 : tie.Need-returns-2
 unfolding controllerBandOf
 returns-2 c =
-    let p = c .before .before .before in
-    (rw (p .before .if1 .left, ← p .find-room .ensures, c .before .if2 .taken) (c .no-layout2 .ensures .0), omega arith, omega arith)
+    let found = c .before .before .before in
+    (rw (found .before .if1 .left, ← found .find-room .ensures, c .before .if2 .taken) (c .no-layout2 .ensures .0), omega arith, omega arith)
 
 with-inputs-requires : tie.Need-with-inputs-requires
 with-inputs-requires c κs =
-    let b = c .before .before .band-controls in
-    let k : Counted (c .anchor-toolbar .result) = unfold anchorToolbarOf in (rw (c .anchor-toolbar .ensures) (b .ensures .1, b .ensures .2)) in
-    k
+    let controls = c .before .before .band-controls in
+    let few : Few (c .anchor-toolbar .result) = unfold anchorToolbarOf in (rw (c .anchor-toolbar .ensures) (controls .ensures .1, controls .ensures .2)) in
+    few
 
 returns-3 : tie.Need-returns-3
 unfolding controllerBandOf
 returns-3 c =
-    let i = c .before .before in
-    let p = i .before .before .before in
-    let t = p .before .before in
-    let a = t .before .before .before .before .args in
-    let k : Counted (c .place-game-in-aspect .result) = unfold placeGameInAspectOf in (rw (c .place-game-in-aspect .ensures) (i .with-inputs .ensures .1, i .with-inputs .ensures .2)) in (
+    let inputs = c .before .before in
+    let topped = inputs .before .before in
+    let controls = topped .before in
+    let measured = controls .before in
+    let roomy = measured .before in
+    let found = roomy .before .before in
+    let args = found .before .before .args in
+    let few : Few (c .place-game-in-aspect .result) =
+    unfold placeGameInAspectOf in (rw (c .place-game-in-aspect .ensures) (inputs .with-inputs .ensures .1, inputs .with-inputs .ensures .2)) in
+    let room = found .find-room .result in
+    let band = measured .measure-band .result in
+    let top = topped .reusable-top .result in (
       rw (
-        t .before .before .before .if1 .left,
-        ← t .before .before .find-room .ensures,
-        t .if2 .left,
-        ← p .before .measure-band .ensures,
-        ← i .before .before .reusable-top .ensures,
-        band-anew (a .w) (a .h) (a .analog) (t .before .before .find-room .result .deep) (p .before .measure-band .result) (a .psp) (i .before .before .reusable-top .result) (a .picture),
-        ← p .band-controls .ensures .0,
-        ← i .before .anchor-toolbar .ensures,
-        ← i .with-inputs .ensures .0,
+        found .before .if1 .left,
+        ← found .find-room .ensures,
+        roomy .if2 .left,
+        ← measured .measure-band .ensures,
+        ← topped .reusable-top .ensures,
+        band-anew (args .w) (args .h) (args .analog) (room .deep) band (args .psp) top (args .picture),
+        ← controls .band-controls .ensures .0,
+        ← inputs .before .anchor-toolbar .ensures,
+        ← inputs .with-inputs .ensures .0,
         ← c .before .aspect .ensures,
         ← c .place-game-in-aspect .ensures,
       ),
-      k .0,
-      k .1,
+      few .0,
+      few .1,
     )
 
 pub controller-band-spec : {M : Type 1} → statement M
@@ -59,7 +67,7 @@ controller-band-spec =
     (λ c κs. search needs)
     (λ c κs. search needs)
     (λ c κs. search needs)
-    (λ c κs. (omega arith, omega arith, omega arith, rw (c .reusable-top .ensures) (zero-le-max _)))
+    (λ c κs. (omega arith, omega arith, rw (c .reusable-top .ensures) (zero-le-max _)))
     with-inputs-requires
     (λ c κs. search needs)
     (λ c κs. search needs)

@@ -1,10 +1,27 @@
+-- Each place is the rectangle that its call gives.
 use borrow.Author.Needs.{needs}
 use Rattle.band.specs.Band.{deepPlacesOf}
 use Rattle.band.proofs.deep_places.Statement.{statement}
 use Rattle.band.proofs.deep_places.Tie as tie
 
-pub deep-places-spec : {M : Type 1} → statement M
+returns : tie.Need-returns
 unfolding deepPlacesOf
+returns c =
+    let start = c .before .before .before .before in
+    let r1 = start .before .before .before .before in
+    let l2 = r1 .before .before .before .before in
+    rw (
+      ← l2 .before .before .new .ensures,
+      ← l2 .new2 .ensures,
+      ← r1 .before .before .new3 .ensures,
+      ← r1 .new4 .ensures,
+      ← start .before .before .new5 .ensures,
+      ← start .new6 .ensures,
+      ← c .before .before .new7 .ensures,
+      ← c .new8 .ensures,
+    )
+
+pub deep-places-spec : {M : Type 1} → statement M
 deep-places-spec =
     tie.close
     (tie.spec
@@ -16,4 +33,4 @@ deep-places-spec =
     (λ c κs. search needs)
     (λ c κs. search needs)
     (λ c κs. search needs)
-    (λ c. rw (← c .before .before .before .before .before .before .before .before .before .before .before .before .before .before .new .ensures, ← c .before .before .before .before .before .before .before .before .before .before .before .before .new2 .ensures, ← c .before .before .before .before .before .before .before .before .before .before .new3 .ensures, ← c .before .before .before .before .before .before .before .before .new4 .ensures, ← c .before .before .before .before .before .before .new5 .ensures, ← c .before .before .before .before .new6 .ensures) (rw (← c .before .before .new7 .ensures, ← c .new8 .ensures))))
+    returns)

@@ -1,10 +1,24 @@
+-- Each place is the rectangle that its call gives.
 use borrow.Author.Needs.{needs}
 use Rattle.band.specs.Band.{plainPlacesOf}
 use Rattle.band.proofs.plain_places.Statement.{statement}
 use Rattle.band.proofs.plain_places.Tie as tie
 
-pub plain-places-spec : {M : Type 1} → statement M
+returns : tie.Need-returns
 unfolding plainPlacesOf
+returns c =
+    let r1 = c .before .before .before .before in
+    let l2 = r1 .before .before .before .before in
+    rw (
+      ← l2 .before .new .ensures,
+      ← l2 .new2 .ensures,
+      ← r1 .before .before .new3 .ensures,
+      ← r1 .new4 .ensures,
+      ← c .before .before .new5 .ensures,
+      ← c .new6 .ensures,
+    )
+
+pub plain-places-spec : {M : Type 1} → statement M
 plain-places-spec =
     tie.close
     (tie.spec
@@ -14,4 +28,4 @@ plain-places-spec =
     (λ c κs. search needs)
     (λ c κs. search needs)
     (λ c κs. search needs)
-    (λ c. rw (← c .before .before .before .before .before .before .before .before .before .new .ensures, ← c .before .before .before .before .before .before .before .before .new2 .ensures, ← c .before .before .before .before .before .before .new3 .ensures, ← c .before .before .before .before .new4 .ensures, ← c .before .before .new5 .ensures, ← c .new6 .ensures)))
+    returns)

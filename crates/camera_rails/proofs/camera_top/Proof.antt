@@ -1,3 +1,4 @@
+-- After i turns the cutouts from i on are left to look at (`Rest`).
 use borrow.Author.Needs.{needs}
 use native.Mathlib.Omega.{arith}
 use mathlib.Core.Logic.{⊎-elim}

@@ -1,3 +1,4 @@
+-- By the two tests.
 use Rattle.camera_rails.specs.CameraRails.{inRailOf}
 use Rattle.camera_rails.proofs.in_rail.Statement.{statement}
 use Rattle.camera_rails.proofs.in_rail.Tie as tie

@@ -1,3 +1,4 @@
+-- What pick gives is put for its term in the definition.
 use borrow.Author.Needs.{needs}
 use Rattle.camera_rails.specs.CameraRails.{measureRailOf}
 use Rattle.camera_rails.proofs.measure_rail.Statement.{statement}

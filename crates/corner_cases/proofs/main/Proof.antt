@@ -1,3 +1,4 @@
+-- The counter rises to its bound; a step's 116 bytes stay.
 use borrow.Author.Needs.{needs}
 use mathlib.Core.Path.{_≡_}
 use Prim.Native.Nat.{_-_, _≤_}

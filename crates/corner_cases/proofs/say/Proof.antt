@@ -1,3 +1,4 @@
+-- What is written is no longer than what there is.
 use mathlib.Core.Path.{sym}
 use lib.Seq.{length-take-le}
 use borrow.Author.Needs.{needs}

@@ -1,3 +1,4 @@
+-- A number with a set sign bit, taken as negative, fits.
 use Prim.Native.Nat.{_%_}
 use native.Mathlib.Omega.{arith}
 use lib.IntN.{pos}

@@ -1,3 +1,4 @@
+-- The groups that are left, settled in turn, give the whole; an element on no cutout is left as it is.
 use Prim.Native.Nat.{ℕ, _-_}
 use mathlib.Core.List.{List, [], _∷_, foldl}
 use mathlib.Core.Path.{sym, _∙_, _≡_}
@@ -26,30 +27,36 @@ abbrev μ-loop : tie.MeasureT-loop
 
 loop-again : tie.Need-loop-again Inv-loop μ-loop
 loop-again c =
-    let l = c .before .before .before .loop in
-    let h = c .before .before .loop-test .taken in
+    let turn = c .before .before in
+    let l = turn .before .loop in
+    let h = turn .loop-test .taken in
     (l .inv .0, goes-on 0 (l .inv .1) h (rw (range-at _ (l .i) h, ← c .before .in-group .ensures, c .if1 .taken)))
 
 loop-again-2 : tie.Need-loop-again-2 Inv-loop μ-loop
 loop-again-2 c =
-    let t = c .before .before .before in
-    let s = t .before .before .before .before .before .args in
-    let l = t .before .before .before .loop in
-    let h = t .before .before .loop-test .taken in
-    let k = missed (s .w) (s .h) (cutoutList (s .holes)) (l .out .at) (l .out .count) (l .i) (omega arith) (sym (c .before .overlap .ensures) ∙ not-true _ (c .if2 .taken)) in
-    (l .inv .0, goes-on 0 (l .inv .1) h (rw (range-at _ (l .i) h, ← t .before .in-group .ensures, t .if1 .left, k, foldl)))
+    let single = c .before .before .before in
+    let turn = single .before .before in
+    let s = turn .before .before .before .args in
+    let l = turn .before .loop in
+    let h = turn .loop-test .taken in
+    let apart = sym (c .before .overlap .ensures) ∙ not-true _ (c .if2 .taken) in
+    let stays = missed (s .w) (s .h) (cutoutList (s .holes)) (l .out .at) (l .out .count) (l .i) (omega arith) apart in
+    (l .inv .0, goes-on 0 (l .inv .1) h (rw (range-at _ (l .i) h, ← single .before .in-group .ensures, single .if1 .left, stays, foldl)))
 
 settle-requires-2 : tie.Need-settle-requires-2 Inv-loop μ-loop
 settle-requires-2 c κs =
-    let l = c .before .before .before .before .before .before .before .loop in
+    let single = c .before .before .before .before in
+    let l = single .before .before .before .loop in
     ((omega arith, (omega arith, omega arith)), below-one (l .out .count) (l .i) _ (omega arith) (c .single .ensures .0))
 
 loop-again-3 : tie.Need-loop-again-3 Inv-loop μ-loop
 loop-again-3 c =
-    let t = c .before .before .before .before .before in
-    let l = t .before .before .before .loop in
-    let h = t .before .before .loop-test .taken in
-    (c .settle2 .ensures .1 ∙ l .inv .0, goes-on 0 (l .inv .1) h (rw (range-at _ (l .i) h, ← t .before .in-group .ensures, t .if1 .left, c .settle2 .ensures .0, c .before .single .ensures .0)))
+    let single = c .before .before .before .before .before in
+    let turn = single .before .before in
+    let l = turn .before .loop in
+    let h = turn .loop-test .taken in
+    let settled = c .settle2 .ensures in
+    (settled .1 ∙ l .inv .0, goes-on 0 (l .inv .1) h (rw (range-at _ (l .i) h, ← single .before .in-group .ensures, single .if1 .left, settled .0, c .before .single .ensures .0)))
 
 returns : tie.Need-returns Inv-loop μ-loop
 returns c =

@@ -1,3 +1,4 @@
+-- No cutout with an area leaves the layout; else the elements are those of `avoid`, set at once.
 use borrow.Author.Tests.{ne-eqb}
 use Rattle.layout.specs.Elements.{setElementsOf}
 use mathlib.Core.Path.{ap, _∙_}
@@ -18,10 +19,12 @@ returns-2 c =
 returns-3 : tie.Need-returns-3
 unfolding avoidCutoutsOf
 returns-3 c =
-    let t = c .before .before .before .before in
-    let a = t .before .before .with-area in
-    rw (← a .ensures .0, none-counted (a .result .count) (a .result .at) (search (in-array, arith)), ne-eqb _ 0 (t .if2 .left))
-    (c .set-elements .ensures ∙ ap (setElementsOf (t .before .before .before .before .before .args .l)) (c .before .avoid .ensures .0 ∙ rw (c .before .before .before .faces .ensures .0, c .before .before .elements .ensures .0)))
+    let some = c .before .before .before .before in
+    let a = some .before .before .with-area in
+    rw (← a .ensures .0, none-counted (a .result .count) (a .result .at) (search (in-array, arith)), ne-eqb _ 0 (some .if2 .left))
+    (c .set-elements .ensures
+    ∙ ap (setElementsOf (some .before .before .before .before .before .args .l))
+    (c .before .avoid .ensures .0 ∙ rw (c .before .before .before .faces .ensures .0, c .before .before .elements .ensures .0)))
 
 pub avoid-cutouts-spec : {M : Type 1} → statement M
 unfolding avoidCutoutsOf

@@ -1,3 +1,4 @@
+-- What is stored, and behind it the faces among the controls that are left: together all faces, so that there is room for each.
 use Prim.Native.Nat.{_+_, _-_, _<_, _≤_}
 use borrow.Author.Tests.{not-true, not-false}
 use mathlib.Core.Path.{refl, ap, sym, _≡_}
@@ -26,18 +27,21 @@ abbrev μ-loop : tie.MeasureT-loop
 
 loop-again : tie.Need-loop-again Inv-loop μ-loop
 loop-again c =
-    let s = c .before .before .before .before .before .before .args .l in
-    let l = c .before .before .before .before .loop in
-    let h = c .before .before .before .loop-test .taken in
-    (l .inv .0, l .inv .1, goes-on (0, anyControl) (l .inv .2) h (rw (face-at s (search (in-array, arith)) (l .i) h, ← c .before .is-face .ensures, not-true (c .before .is-face .result) (c .if1 .taken))))
+    let turn = c .before .before .before in
+    let s = turn .before .before .before .args .l in
+    let l = turn .before .loop in
+    let h = turn .loop-test .taken in
+    let no-face = not-true (c .before .is-face .result) (c .if1 .taken) in
+    (l .inv .0, l .inv .1, goes-on (0, anyControl) (l .inv .2) h (rw (face-at s (search (in-array, arith)) (l .i) h, ← c .before .is-face .ensures, no-face)))
 
 -- there is room for a face that was found
 room : (c : tie.Else1 Inv-loop μ-loop) → c .before .before .before .before .loop .count < 4
 unfolding actionElementsOf
 room c =
-    let s = c .before .before .before .before .before .before in
-    let l = c .before .before .before .before .loop in
-    let h = c .before .before .before .loop-test .taken in
+    let turn = c .before .before .before in
+    let s = turn .before .before .before in
+    let l = turn .before .loop in
+    let h = turn .loop-test .taken in
     let rest = facesOf (drop (l .i + 1) (take (s .args .l .count) (enumerateFrom 1 (controlList (s .args .l))))) in
     let e : take (l .count) (l .at) ++ ((l .i + 1) ∷ rest) ≡ actionElementsOf (s .args .l) =
     stops (0, anyControl) (l .inv .2) h (rw (face-at (s .args .l) (search (in-array, arith)) (l .i) h, ← c .before .is-face .ensures, not-false (c .before .is-face .result) (c .if1 .left))) in
@@ -45,12 +49,17 @@ room c =
 
 loop-again-2 : tie.Need-loop-again-2 Inv-loop μ-loop
 loop-again-2 c =
-    let l = c .before .before .before .before .loop in
-    let h = c .before .before .before .loop-test .taken in
+    let turn = c .before .before .before in
+    let s = turn .before .before .before .args .l in
+    let l = turn .before .loop in
+    let h = turn .loop-test .taken in
+    let face = not-false (c .before .is-face .result) (c .if1 .left) in
     let k = room c in (
       omega arith,
       rw length-set (l .inv .1),
-      goes-on (0, anyControl) (l .inv .2) h (rw (face-at (c .before .before .before .before .before .before .args .l) (search (in-array, arith)) (l .i) h, ← c .before .is-face .ensures, not-false (c .before .is-face .result) (c .if1 .left)) (sym (put-rest (l .at) (l .count) (l .i + 1) _ (omega arith)))),
+      goes-on (0, anyControl) (l .inv .2) h
+          (rw (face-at s (search (in-array, arith)) (l .i) h, ← c .before .is-face .ensures, face)
+          (sym (put-rest (l .at) (l .count) (l .i + 1) _ (omega arith)))),
     )
 
 returns : tie.Need-returns Inv-loop μ-loop

@@ -1,3 +1,4 @@
+-- The two tests, in the definition's order.
 use Rattle.cutouts.specs.Cutouts.{hasAreaOf}
 use Rattle.cutouts.proofs.has_area.Statement.{statement}
 use Rattle.cutouts.proofs.has_area.Tie as tie

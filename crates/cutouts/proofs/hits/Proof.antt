@@ -1,3 +1,4 @@
+-- The rectangles that are left decide; one that overlaps a cutout ends the loop.
 use borrow.Author.Needs.{needs}
 use native.Mathlib.Omega.{arith}
 use Prim.Native.Nat.{_-_}
@@ -15,6 +16,18 @@ Inv-loop m holes original i₀ i = Rest (λ l. hitsOf l (cutoutList holes)) orig
 abbrev μ-loop : tie.MeasureT-loop
 μ-loop m holes original i₀ i = m - i
 
+returns : tie.Need-returns Inv-loop μ-loop
+unfolding anyOf
+returns c =
+    let turn = c .before .before .before in
+    stops anyRect (turn .before .loop .inv) (turn .loop-test .taken) (rw (← c .before .overlap .ensures, c .if1 .taken))
+
+loop-again : tie.Need-loop-again Inv-loop μ-loop
+unfolding anyOf
+loop-again c =
+    let turn = c .before .before .before in
+    goes-on anyRect (turn .before .loop .inv) (turn .loop-test .taken) (rw (← c .before .overlap .ensures, c .if1 .left))
+
 pub hits-spec : {M : Type 1} → statement M
 unfolding anyOf
 hits-spec =
@@ -26,8 +39,8 @@ hits-spec =
     (λ c. omega arith)
     (λ c. omega arith)
     (λ c κs. search needs)
-    (λ c. stops anyRect (c .before .before .before .before .loop .inv) (c .before .before .before .loop-test .taken) (rw (← c .before .overlap .ensures, c .if1 .taken)))
+    returns
     (λ c. omega arith)
     (λ c. omega arith)
-    (λ c. goes-on anyRect (c .before .before .before .before .loop .inv) (c .before .before .before .loop-test .taken) (rw (← c .before .overlap .ensures, c .if1 .left)))
+    loop-again
     (λ c. runs-out (c .before .loop .inv) (c .loop-test .left)))

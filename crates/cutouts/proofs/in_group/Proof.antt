@@ -1,3 +1,4 @@
+-- The indices that are left decide; the one that is looked for ends the loop.
 use Prim.Native.Nat.{_-_}
 use borrow.Author.Tests.{eq-eqb, ne-eqb}
 use lib.ListN.{take}

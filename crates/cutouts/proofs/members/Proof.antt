@@ -1,4 +1,5 @@
-use Prim.Native.Nat.{_-_}
+-- What is stored, and behind it the rectangles at the indices that are left; each index is below the count of the elements.
+use Prim.Native.Nat.{_-_, _<_}
 use mathlib.Core.List.{_++_, map, append-nil}
 use mathlib.Core.Path.{refl, ap, sym, _∙_, _≡_}
 use lib.ListN.{length, take, getD, length-set}
@@ -29,7 +30,15 @@ returns c =
     let s = c .before .before .before .before .before in
     let l = c .before .loop in
     let e : s .args .group .count ≡ l .k = omega (arith, l .inv .1 .most) in
-    ap (λ k. take k (l .out)) e ∙ (rw append-nil at (runs-out (l .inv .1) (c .loop-test .left))) ∙ members-first (s .args .elements .count) (s .args .elements .at) (groupList (s .args .group)) (s .pre .1)
+    ap (λ k. take k (l .out)) e ∙ (rw append-nil at (runs-out (l .inv .1) (c .loop-test .left)))
+    ∙ members-first (s .args .elements .count) (s .args .elements .at) (groupList (s .args .group)) (s .pre .1)
+
+-- the index of a turn
+index-below : (c : tie.In-loop Inv-loop μ-loop) → let s = c .before .before .before .before .before in getD (s .args .group .at) (c .before .loop .k) 0 < s .args .elements .count
+index-below c =
+    let s = c .before .before .before .before .before in
+    let l = c .before .loop in
+    below-index _ _ _ (l .k) (s .pre .1) (l .inv .1 .size) (c .loop-test .taken)
 
 pub members-spec : {M : Type 1} → statement M
 members-spec =
@@ -41,8 +50,8 @@ members-spec =
     (λ c. (refl, search (in-array, arith)))
     (λ c. omega arith)
     (λ c. omega arith)
-    (λ c. let l = c .before .loop in omega (arith, below-index _ _ _ (l .k) (c .before .before .before .before .before .pre .1) (l .inv .1 .size) (c .loop-test .taken)))
-    (λ c. let l = c .before .loop in omega (arith, below-index _ _ _ (l .k) (c .before .before .before .before .before .pre .1) (l .inv .1 .size) (c .loop-test .taken)))
+    (λ c. omega (arith, index-below c))
+    (λ c. omega (arith, index-below c))
     (λ c. omega arith)
     (λ c. omega arith)
     (λ c. omega arith)

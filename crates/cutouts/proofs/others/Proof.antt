@@ -1,3 +1,4 @@
+-- What is stored, and behind it the elements outside the group among the indices that are left.
 use Prim.Native.Nat.{_-_, _≤_}
 use mathlib.Core.Path.{sym, _≡_}
 use mathlib.Core.List.{_++_, append-nil}
@@ -25,17 +26,21 @@ abbrev μ-loop : tie.MeasureT-loop
 
 loop-again : tie.Need-loop-again Inv-loop μ-loop
 loop-again c =
-    let l = c .before .before .before .loop in
-    let h = c .before .before .loop-test .taken in
+    let turn = c .before .before in
+    let l = turn .before .loop in
+    let h = turn .loop-test .taken in
     (omega arith, l .inv .1, goes-on 0 (l .inv .2) h (rw (range-at _ (l .i) h, ← c .before .in-group .ensures, c .if1 .taken)))
 
 loop-again-2 : tie.Need-loop-again-2 Inv-loop μ-loop
 loop-again-2 c =
-    let l = c .before .before .before .before .loop in
-    let h = c .before .before .before .loop-test .taken in (
+    let turn = c .before .before .before in
+    let l = turn .before .loop in
+    let h = turn .loop-test .taken in (
       omega arith,
       rw length-set (l .inv .1),
-      goes-on 0 (l .inv .2) h (rw (range-at _ (l .i) h, ← c .before .before .in-group .ensures, c .before .if1 .left, getD-take _ _ (l .i) anyRect h) (sym (put-rest (l .out) (l .count) _ _ (omega arith)))),
+      goes-on 0 (l .inv .2) h
+          (rw (range-at _ (l .i) h, ← c .before .before .in-group .ensures, c .before .if1 .left, getD-take _ _ (l .i) anyRect h)
+          (sym (put-rest (l .out) (l .count) _ _ (omega arith)))),
     )
 
 returns : tie.Need-returns Inv-loop μ-loop

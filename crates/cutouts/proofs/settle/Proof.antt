@@ -1,3 +1,4 @@
+-- A group on no cutout stays; else it is shifted as the search answers.
 use borrow.Author.Tests.{not-true, not-false}
 use mathlib.Core.Path.{refl}
 use Rattle.cutouts.specs.Cutouts.{settleOf}
@@ -14,9 +15,11 @@ returns c =
 returns-2 : tie.Need-returns-2
 unfolding settleOf
 returns-2 c =
-    let q = c .before .before .before .before .hits in
-    let m = c .before .before .before .before .before .members in
-    (rw (← m .ensures, ← q .ensures, not-false (q .result) (c .before .before .before .if1 .left), ← c .before .before .others .ensures .0, ← c .before .search .ensures) (c .shift .ensures .0), c .shift .ensures .1)
+    let hit = c .before .before .before in
+    let q = hit .before .hits in
+    let m = hit .before .before .members in
+    let chosen = c .before .search in
+    (rw (← m .ensures, ← q .ensures, not-false (q .result) (hit .if1 .left), ← c .before .before .others .ensures .0, ← chosen .ensures) (c .shift .ensures .0), c .shift .ensures .1)
 
 pub settle-spec : {M : Type 1} → statement M
 settle-spec =

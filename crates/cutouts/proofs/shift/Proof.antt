@@ -1,3 +1,4 @@
+-- The two cases of the move.
 use mathlib.Core.Path.{refl}
 use Rattle.cutouts.specs.Cutouts.{shiftOf}
 use borrow.Author.Needs.{needs}

@@ -1,3 +1,4 @@
+-- What is stored, and behind it the cutouts with an area among those that are left.
 use Prim.Native.Nat.{_-_, _≤_}
 use borrow.Author.Tests.{not-true, not-false}
 use mathlib.Core.Path.{sym, _≡_}
@@ -21,15 +22,19 @@ abbrev μ-loop : tie.MeasureT-loop
 
 loop-again : tie.Need-loop-again Inv-loop μ-loop
 loop-again c =
-    let l = c .before .before .before .before .loop in
-    (omega arith, l .inv .1, goes-on anyRect (l .inv .2) (c .before .before .before .loop-test .taken) (rw (← c .before .has-area .ensures, not-true (c .before .has-area .result) (c .if1 .taken))))
+    let turn = c .before .before .before in
+    let l = turn .before .loop in
+    let empty = not-true (c .before .has-area .result) (c .if1 .taken) in
+    (omega arith, l .inv .1, goes-on anyRect (l .inv .2) (turn .loop-test .taken) (rw (← c .before .has-area .ensures, empty)))
 
 loop-again-2 : tie.Need-loop-again-2 Inv-loop μ-loop
 loop-again-2 c =
-    let l = c .before .before .before .before .loop in (
+    let turn = c .before .before .before in
+    let l = turn .before .loop in
+    let full = not-false (c .before .has-area .result) (c .if1 .left) in (
       omega arith,
       rw length-set (l .inv .1),
-      goes-on anyRect (l .inv .2) (c .before .before .before .loop-test .taken) (rw (← c .before .has-area .ensures, not-false (c .before .has-area .result) (c .if1 .left)) (sym (put-rest (l .out) (l .count) _ _ (omega arith)))),
+      goes-on anyRect (l .inv .2) (turn .loop-test .taken) (rw (← c .before .has-area .ensures, full) (sym (put-rest (l .out) (l .count) _ _ (omega arith)))),
     )
 
 pub with-area-spec : {M : Type 1} → statement M

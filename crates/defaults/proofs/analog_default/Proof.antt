@@ -1,3 +1,4 @@
+-- The full layout, scaled and finished (`full-anew`), or the band; the counts by `analog-formed`.
 use borrow.Author.Needs.{needs}
 use Rattle.layout.specs.Labels.{analogLabels}
 use Rattle.layout.proofs.LabelLaws.{with-counts}
@@ -10,10 +11,18 @@ use Rattle.defaults.proofs.analog_default.Tie as tie
 returns : tie.Need-returns
 unfolding analogDefaultOf
 returns c =
-    let p = c .before .before .before .before in
-    let a = p .before .before .before .args in
-    with-counts analogLabels 2 (analogDefaultOf (a .w) (a .h)) (analog-formed (a .w) (a .h))
-    (rw (← p .before .before .max .ensures, ← p .before .max2 .ensures, ← full-anew, ← p .analog-controls .ensures .0, ← c .before .before .before .shrunk .ensures .0, ← c .before .before .new .ensures, ← c .before .finished .ensures .0) (c .try-band .ensures))
+    let made = c .before .before .before .before in
+    let args = made .before .before .before .args in
+    with-counts analogLabels 2 (analogDefaultOf (args .w) (args .h)) (analog-formed (args .w) (args .h))
+    (rw (
+      ← made .before .before .max .ensures,
+      ← made .before .max2 .ensures,
+      ← full-anew,
+      ← made .analog-controls .ensures .0,
+      ← c .before .before .before .shrunk .ensures .0,
+      ← c .before .before .new .ensures,
+      ← c .before .finished .ensures .0,
+    ) (c .try-band .ensures))
 
 pub analog-default-spec : {M : Type 1} → statement M
 analog-default-spec =

@@ -1,3 +1,4 @@
+-- The three steps, one after the other; the counts by `default-formed`.
 use borrow.Author.Needs.{needs}
 use Rattle.layout.specs.Layout.{cutoutList}
 use Rattle.layout.specs.Labels.{standardLabels}
@@ -11,10 +12,18 @@ use Rattle.defaults.proofs.default_in.Tie as tie
 returns : tie.Need-returns
 unfolding defaultInOf
 returns c =
-    let p = c .before .before in
-    let a = p .before .before .before .args in
-    with-counts standardLabels 0 (defaultInOf (a .w) (a .h) (cutoutList (a .cutouts)) (a .picture)) (default-formed (a .w) (a .h) (cutoutList (a .cutouts)) (a .picture))
-    (rw (arranged-finished, ← p .before .before .docked .ensures .0, ← p .before .finished-in .ensures, ← p .try-dock .ensures, ← c .before .try-side .ensures) (c .try-band .ensures))
+    let rails = c .before .before .before in
+    let docked = rails .before in
+    let args = docked .before .args in
+    let cutouts = cutoutList (args .cutouts) in
+    with-counts standardLabels 0 (defaultInOf (args .w) (args .h) cutouts (args .picture)) (default-formed (args .w) (args .h) cutouts (args .picture))
+    (rw (
+      arranged-finished,
+      ← docked .docked .ensures .0,
+      ← rails .finished-in .ensures,
+      ← c .before .before .try-dock .ensures,
+      ← c .before .try-side .ensures,
+    ) (c .try-band .ensures))
 
 pub default-in-spec : {M : Type 1} → statement M
 default-in-spec =

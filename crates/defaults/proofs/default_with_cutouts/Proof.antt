@@ -1,3 +1,4 @@
+-- `default_in` with the screen for the picture.
 use borrow.Author.Needs.{needs}
 use native.Mathlib.Omega.{arith}
 use Rattle.defaults.proofs.default_with_cutouts.Statement.{statement}

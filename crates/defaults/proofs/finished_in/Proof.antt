@@ -1,3 +1,4 @@
+-- The game that `finished` places does not matter (`clear-anew`).
 use borrow.Author.Needs.{needs}
 use Rattle.defaults.proofs.Anew.{clear-anew}
 use Rattle.defaults.proofs.finished_in.Statement.{statement}

@@ -1,3 +1,4 @@
+-- What `well_faces` and pick give is put for its terms in the definition.
 use borrow.Author.Needs.{needs}
 use Rattle.defaults.specs.Defaults.{measureHalvesOf}
 use Rattle.defaults.proofs.measure_halves.Statement.{statement}
@@ -6,9 +7,10 @@ use Rattle.defaults.proofs.measure_halves.Tie as tie
 returns : tie.Need-returns
 unfolding measureHalvesOf
 returns c =
+    let faced = c .before .before .before .before .before in
     rw (
-      ← c .before .before .before .before .before .before .before .well-faces .ensures,
-      ← c .before .before .before .before .before .pick .ensures,
+      ← faced .before .before .well-faces .ensures,
+      ← faced .pick .ensures,
       ← c .before .before .before .pick2 .ensures,
       ← c .before .before .pick3 .ensures,
       ← c .before .pick4 .ensures,

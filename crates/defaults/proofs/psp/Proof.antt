@@ -1,3 +1,4 @@
+-- The inputs of a psp, of `analog_default`; the counts by `psp-formed`.
 use borrow.Author.Needs.{needs}
 use Rattle.layout.specs.Labels.{pspLabels}
 use Rattle.layout.proofs.LabelLaws.{with-counts}
@@ -9,8 +10,8 @@ use Rattle.defaults.proofs.psp.Tie as tie
 returns : tie.Need-returns
 unfolding pspOf
 returns c =
-    let a = c .before .before .args in
-    with-counts pspLabels 1 (pspOf (a .w) (a .h)) (psp-formed (a .w) (a .h)) (rw (← c .before .analog-default .ensures .0) (c .psp-inputs .ensures))
+    let args = c .before .before .args in
+    with-counts pspLabels 1 (pspOf (args .w) (args .h)) (psp-formed (args .w) (args .h)) (rw (← c .before .analog-default .ensures .0) (c .psp-inputs .ensures))
 
 pub psp-spec : {M : Type 1} → statement M
 psp-spec = tie.close (tie.spec (λ c κs. search needs) (λ c κs. search needs) returns)

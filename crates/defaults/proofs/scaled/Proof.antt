@@ -1,3 +1,4 @@
+-- After i turns the first i rectangles are scaled (`Done`).
 use borrow.Author.Needs.{needs}
 use native.Mathlib.Omega.{arith}
 use mathlib.Core.Path.{refl}
@@ -21,8 +22,8 @@ loop-again c = changes _ _ anyRect (c .before .before .before .loop .inv) (omega
 
 returns : tie.Need-returns Inv-loop μ-loop
 returns c =
-    let a = c .before .before .before .args in
-    (rw (all-done (c .before .loop .inv) (c .loop-test .left)) (take-mapFirst _ (a .elements .count) (a .elements .at)), refl)
+    let elements = c .before .before .before .args .elements in
+    (rw (all-done (c .before .loop .inv) (c .loop-test .left)) (take-mapFirst _ (elements .count) (elements .at)), refl)
 
 pub scaled-spec : {M : Type 1} → statement M
 scaled-spec =

@@ -1,3 +1,4 @@
+-- By the test of the sizes: all elements scaled, or none.
 use mathlib.Core.Path.{refl, ap}
 use borrow.Author.Needs.{needs}
 use Rattle.layout.specs.declared.Layout.{Layout}

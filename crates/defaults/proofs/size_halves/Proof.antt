@@ -1,3 +1,4 @@
+-- What clamp, pick and max give is put for its terms in the definition.
 use borrow.Author.Needs.{needs}
 use lib.Ieee.{le, ofBits}
 use Rattle.defaults.specs.Defaults.{sizeHalvesOf}
@@ -7,15 +8,18 @@ use Rattle.defaults.proofs.size_halves.Tie as tie
 returns : tie.Need-returns
 unfolding sizeHalvesOf
 returns c =
-    let p = c .before .before .before .before in
+    let sticks = c .before .before .before .before .before in
     rw (
-      ← p .before .before .before .before .clamp .ensures,
-      ← p .before .before .before .pick .ensures,
-      ← p .before .before .clamp2 .ensures,
-      ← p .before .pick2 .ensures,
-      ← p .clamp3 .ensures,
+      ← sticks .before .before .before .clamp .ensures,
+      ← sticks .before .before .pick .ensures,
+      ← sticks .before .clamp2 .ensures,
+      ← sticks .pick2 .ensures,
+      ← c .before .before .before .before .clamp3 .ensures,
+      ← c .before .before .before .clamp4 .ensures,
+      ← c .before .before .pick3 .ensures,
+      ← c .before .max .ensures,
+      ← c .pick4 .ensures,
     )
-    (rw (← c .before .before .before .clamp4 .ensures, ← c .before .before .pick3 .ensures, ← c .before .max .ensures, ← c .pick4 .ensures))
 
 pub size-halves-spec : {M : Type 1} → statement M
 unfolding le ofBits

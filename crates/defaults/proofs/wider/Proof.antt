@@ -1,3 +1,4 @@
+-- By the test of the widths.
 use Rattle.defaults.specs.Defaults.{widerOf}
 use Rattle.defaults.proofs.wider.Statement.{statement}
 use Rattle.defaults.proofs.wider.Tie as tie

@@ -1,3 +1,4 @@
+-- What was read is counted within the buffer, whose length stays.
 use mathlib.Core.Path.{_≡_, refl, sym, _∙_}
 use mathlib.Core.List.{List}
 use Prim.Native.Nat.{ℕ, _-_, _≤_}

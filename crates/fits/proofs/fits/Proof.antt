@@ -20,21 +20,31 @@ abbrev μ-loop : tie.MeasureT-loop
 returns : tie.Need-returns Inv-loop μ-loop
 unfolding fitsOf allFit
 returns c =
-    let l = c .before .before .before .before in
-    rw (← l .before .inputs .ensures .0) (stops (fromStick anyRect) (l .loop .inv) (c .before .before .before .loop-test .taken) (rw (← c .before .lies-clear .ensures, not-true (c .before .lies-clear .result) (c .if1 .taken))))
+    let entered = c .before .before .before in
+    let l = entered .before in
+    let clear = c .before .lies-clear in
+    rw (← l .before .inputs .ensures .0) (stops (fromStick anyRect) (l .loop .inv) (entered .loop-test .taken) (rw (← clear .ensures, not-true (clear .result) (c .if1 .taken))))
 
 returns-2 : tie.Need-returns-2 Inv-loop μ-loop
 unfolding fitsOf allFit
 returns-2 c =
-    let e = c .before .before .before in
-    let l = e .before .before .before in
-    rw (← l .before .inputs .ensures .0) (stops (fromStick anyRect) (l .loop .inv) (e .before .before .loop-test .taken) (rw (← e .lies-clear .ensures, not-false (e .lies-clear .result) (c .before .before .if1 .left), ← c .before .separate-after .ensures, not-true (c .before .separate-after .result) (c .if2 .taken))))
+    let tested = c .before .before in
+    let clear = tested .before .lies-clear in
+    let apart = c .before .separate-after in
+    let entered = tested .before .before .before in
+    let l = entered .before in
+    rw (← l .before .inputs .ensures .0) (stops (fromStick anyRect) (l .loop .inv) (entered .loop-test .taken)
+    (rw (← clear .ensures, not-false (clear .result) (tested .if1 .left), ← apart .ensures, not-true (apart .result) (c .if2 .taken))))
 
 loop-again : tie.Need-loop-again Inv-loop μ-loop
 unfolding allFit
 loop-again c =
-    let e = c .before .before .before in
-    goes-on (fromStick anyRect) (e .before .before .before .loop .inv) (e .before .before .loop-test .taken) (rw (← e .lies-clear .ensures, not-false (e .lies-clear .result) (c .before .before .if1 .left), ← c .before .separate-after .ensures, not-false (c .before .separate-after .result) (c .if2 .left)))
+    let tested = c .before .before in
+    let clear = tested .before .lies-clear in
+    let apart = c .before .separate-after in
+    let entered = tested .before .before .before in
+    goes-on (fromStick anyRect) (entered .before .loop .inv) (entered .loop-test .taken)
+    (rw (← clear .ensures, not-false (clear .result) (tested .if1 .left), ← apart .ensures, not-false (apart .result) (c .if2 .left)))
 
 pub fits-spec : {M : Type 1} → statement M
 unfolding fitsOf allFit

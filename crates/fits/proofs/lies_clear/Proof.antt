@@ -1,3 +1,4 @@
+-- `lies_clear`: the three tests of the definition in turn.
 use borrow.Author.Needs.{needs}
 use Rattle.fits.specs.Fits.{liesClearOf}
 use Rattle.fits.proofs.lies_clear.Statement.{statement}

@@ -1,3 +1,4 @@
+-- `separate_after`: the inputs passed leave the answer to those after them.
 use borrow.Author.Needs.{needs}
 use borrow.Author.Tests.{not-true, not-false}
 use native.Mathlib.Omega.{arith}
@@ -16,6 +17,20 @@ Inv-loop a i inputs n j₀ j = Rest (allOf (separateOf a)) (inputs .at) n (allOf
 abbrev μ-loop : tie.MeasureT-loop
 μ-loop a i inputs n j₀ j = n - j
 
+returns : tie.Need-returns Inv-loop μ-loop
+unfolding allOf
+returns c =
+    let entered = c .before .before .before in
+    let s = c .before .separate in
+    stops (fromStick anyRect) (entered .before .loop .inv) (entered .loop-test .taken) (rw (← s .ensures, not-true (s .result) (c .if1 .taken)))
+
+loop-again : tie.Need-loop-again Inv-loop μ-loop
+unfolding allOf
+loop-again c =
+    let entered = c .before .before .before in
+    let s = c .before .separate in
+    goes-on (fromStick anyRect) (entered .before .loop .inv) (entered .loop-test .taken) (rw (← s .ensures, not-false (s .result) (c .if1 .left)))
+
 pub separate-after-spec : {M : Type 1} → statement M
 unfolding allOf
 separate-after-spec =
@@ -28,8 +43,8 @@ separate-after-spec =
     (λ c. omega arith)
     (λ c. omega arith)
     (λ c κs. search needs)
-    (λ c. stops (fromStick anyRect) (c .before .before .before .before .loop .inv) (c .before .before .before .loop-test .taken) (rw (← c .before .separate .ensures, not-true (c .before .separate .result) (c .if1 .taken))))
+    returns
     (λ c. omega arith)
     (λ c. omega arith)
-    (λ c. goes-on (fromStick anyRect) (c .before .before .before .before .loop .inv) (c .before .before .before .loop-test .taken) (rw (← c .before .separate .ensures, not-false (c .before .separate .result) (c .if1 .left))))
+    loop-again
     (λ c. runs-out (c .before .loop .inv) (c .loop-test .left)))

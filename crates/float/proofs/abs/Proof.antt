@@ -1,3 +1,4 @@
+-- Two tests against zero give the number without its sign (`abs-law`).
 use lib.Dec.{T}
 use lib.Ieee.{binary32, fits}
 use borrow.Author.Needs.{needs}

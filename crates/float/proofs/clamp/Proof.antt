@@ -1,3 +1,4 @@
+-- `clamp`: the two picks are the two tests of the definition.
 use borrow.Author.Needs.{needs}
 use Rattle.float.specs.MinMax.{clampOf}
 use Rattle.float.proofs.clamp.Statement.{statement}

@@ -1,3 +1,4 @@
+-- `from_bits`: a NaN's pattern gives the NaN, every other its number.
 use mathlib.Core.Path.{sym}
 use lib.Ieee.{binary32, div, ofBits}
 use Rattle.float.proofs.Nan.{nan-bits, no-nan-bits}

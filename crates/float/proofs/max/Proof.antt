@@ -1,3 +1,4 @@
+-- `max`: the tests of the definition in its order.
 use Rattle.float.specs.MinMax.{maxOf}
 use Rattle.float.proofs.max.Statement.{statement}
 use Rattle.float.proofs.max.Tie as tie

@@ -1,3 +1,4 @@
+-- `min`: the tests of the definition in its order.
 use Rattle.float.specs.MinMax.{minOf}
 use Rattle.float.proofs.min.Statement.{statement}
 use Rattle.float.proofs.min.Tie as tie

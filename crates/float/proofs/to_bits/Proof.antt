@@ -1,3 +1,4 @@
+-- `to_bits`: a NaN has one pattern, every other number its own.
 use borrow.Author.Needs.{needs}
 use lib.Ieee.{toBits}
 use Rattle.float.proofs.Nan.{is-nan, no-nan}

@@ -1,3 +1,4 @@
+-- `near`: the definition, with what `abs` gives.
 use borrow.Author.Needs.{needs}
 use Rattle.geometry.specs.Rect.{nearOf}
 use Rattle.geometry.proofs.near.Statement.{statement}

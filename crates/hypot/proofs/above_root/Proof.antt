@@ -1,3 +1,4 @@
+-- Whether x lies above the root of s * s + n, by the square of x - s where both sides fit.
 use native.Mathlib.Omega.{arith}
 use mathlib.Core.Path.{sym}
 use Prim.Native.Nat.{_-_, _*_}

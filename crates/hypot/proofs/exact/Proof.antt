@@ -1,3 +1,4 @@
+-- An infinity, then a NaN, then the root of two finite numbers: the definition's cases in its order.
 use mathlib.Core.Path.{sym, _∙_}
 use denote.Floats.{passes}
 use native.Mathlib.Omega.{arith}
@@ -19,32 +20,33 @@ held-b c = passes _ (c .good .1 .0 .1)
 returns : tie.Need-returns
 returns c =
     let s = c .before .before .before in
-    inf-bits ∙ first-inf (s .args .a) (s .args .b) (held-a s) (sym (c .before .before .pattern .ensures) ∙ c .if1 .taken)
+    inf-bits ∙ first-inf (s .args .a) (s .args .b) (held-a s) (sym (c .before .before .unsigned-pattern .ensures) ∙ c .if1 .taken)
 
 returns-2 : tie.Need-returns-2
 returns-2 c =
     let s = c .before .before .before .before in
-    inf-bits ∙ first-inf (s .args .b) (s .args .a) (held-b s) (sym (c .before .before .pattern2 .ensures) ∙ c .if2 .taken) ∙ hypot-comm (s .args .b) (s .args .a)
+    inf-bits ∙ first-inf (s .args .b) (s .args .a) (held-b s) (sym (c .before .before .unsigned-pattern2 .ensures) ∙ c .if2 .taken) ∙ hypot-comm (s .args .b) (s .args .a)
 
 returns-3 : tie.Need-returns-3
 returns-3 c =
     let q = c .before .before .before in
     let s = q .before .before in
-    first-nan (s .args .a) (s .args .b) (held-a s) (omega (arith, q .before .pattern .ensures, c .if3 .taken)) (λ h. c .before .if2 .left (q .pattern2 .ensures ∙ h))
+    first-nan (s .args .a) (s .args .b) (held-a s) (omega (arith, q .before .unsigned-pattern .ensures, c .if3 .taken)) (λ h. c .before .if2 .left (q .unsigned-pattern2 .ensures ∙ h))
 
 returns-4 : tie.Need-returns-4
 returns-4 c =
     let q = c .before .before .before .before in
     let s = q .before .before in
-    first-nan (s .args .b) (s .args .a) (held-b s) (omega (arith, q .pattern2 .ensures, c .if4 .taken)) (λ h. c .before .before .before .if1 .left (q .before .pattern .ensures ∙ h))
+    first-nan (s .args .b) (s .args .a) (held-b s) (omega (arith, q .unsigned-pattern2 .ensures, c .if4 .taken)) (λ h. c .before .before .before .if1 .left (q .before .unsigned-pattern .ensures ∙ h))
     ∙ hypot-comm (s .args .b) (s .args .a)
 
 returns-5 : tie.Need-returns-5
 returns-5 c =
-    let q = c .before .before .before .before .before .before .before in
+    let larger = c .before .before in
+    let q = larger .before .before .before .before .before in
     let s = q .before .before in
     c .finite .ensures
-    ∙ finite-both (s .args .a) (s .args .b) (held-a s) (held-b s) _ _ _ _ (q .before .pattern .ensures) (q .pattern2 .ensures) (c .before .before .larger .ensures)
+    ∙ finite-both (s .args .a) (s .args .b) (held-a s) (held-b s) _ _ _ _ (q .before .unsigned-pattern .ensures) (q .unsigned-pattern2 .ensures) (larger .larger .ensures)
     (c .before .smaller .ensures) (omega arith) (omega arith)
 
 pub exact-spec : {M : Type 1} → statement M

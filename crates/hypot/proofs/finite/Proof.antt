@@ -3,27 +3,27 @@ use native.Mathlib.Omega.{arith}
 use mathlib.Core.Path.{_≡_}
 use mathlib.Core.Logic.{_⊎_}
 use Prim.Native.Nat.{ℕ, _+_, _-_, _*_, _^_, _<_, _≤_}
-use Rattle.hypot.specs.Pattern.{value}
+use Rattle.hypot.specs.Pattern.{patternValue}
 use Rattle.hypot.specs.Parts.{rootOf}
 use lib.Ieee.{binary32}
 use Rattle.float.proofs.Nan.{no-nan-bits}
-use Rattle.hypot.proofs.Ways.{far, near, shifted-lt, root-small}
+use Rattle.hypot.proofs.Ways.{far, near, times-power-lt, root-small}
 use borrow.Author.Needs.{needs}
 use Rattle.hypot.proofs.finite.Statement.{statement}
 use Rattle.hypot.proofs.finite.Tie as tie
 
 -- what is known of the two sides, counted in units of 2 ^ f
-small : (c : tie.After-shifted) → c .shifted .result < 0x10_0000_0000
+small : (c : tie.After-times-power) → c .times-power .result < 0x10_0000_0000
 small c =
     let a = c .before .significand .result in
     let d = c .before .before .before .before .exponent .result - c .before .before .before .exponent2 .result in
-    rw (c .shifted .ensures) (shifted-lt a d (omega arith) (c .before .before .if1 .left))
+    rw (c .times-power .ensures) (times-power-lt a d (omega arith) (c .before .before .if1 .left))
 
 abbrev sum : tie.After-significand2 → ℕ
-sum c = let a = c .before .before .before .before .before .before .args in value (a .p) * value (a .p) + value (a .q) * value (a .q)
+sum c = let exponents = c .before .before .before .before in let a = exponents .before .before .args in patternValue (a .p) * patternValue (a .p) + patternValue (a .q) * patternValue (a .q)
 
 abbrev scaled : tie.After-significand2 → ℕ
-scaled c = 2 * c .before .shifted .result * (2 * c .before .shifted .result) + 2 * c .significand2 .result * (2 * c .significand2 .result)
+scaled c = 2 * c .before .times-power .result * (2 * c .before .times-power .result) + 2 * c .significand2 .result * (2 * c .significand2 .result)
 
 abbrev place : tie.After-significand2 → ℕ
 place c = c .before .before .before .before .exponent2 .result
@@ -33,7 +33,7 @@ sides c =
     let e = c .before .before .before .before in
     let s = e .before .before in
     near (s .args .p) (s .args .q) _ _ _ _ _ (e .before .exponent .ensures) (e .exponent2 .ensures) (c .before .before .significand .ensures) (c .significand2 .ensures)
-    (c .before .shifted .ensures) (s .pre .0)
+    (c .before .times-power .ensures) (s .pre .0)
 
 returns : tie.Need-returns
 returns c =

@@ -1,21 +1,25 @@
--- `hypot` meets its contract: a settled candidate is the nearest f32.
+-- `hypot` meets its contract: a candidate that is sure is the nearest f32.
 use denote.Floats.{passes}
 use borrow.Author.Needs.{needs}
 use native.Mathlib.Omega.{arith}
 use lib.Ieee.{binary32}
-use Rattle.hypot.specs.Parts.{sumOfSquaresOf, Settled}
+use Rattle.hypot.specs.Parts.{sumOfSquaresOf, SurelyNearest}
 use Rattle.float.proofs.Nan.{no-nan, no-nan-bits}
-use Rattle.hypot.proofs.Midpoints.{settled}
+use Rattle.hypot.proofs.Midpoints.{sure-is-nearest}
 use Rattle.hypot.proofs.hypot.Statement.{statement}
 use Rattle.hypot.proofs.hypot.Tie as tie
 
-certain : (c : tie.Then3) → Settled (sumOfSquaresOf (c .before .before .before .before .before .before .before .args .a) (c .before .before .before .before .before .before .before .args .b)) (c .before .before .candidate .result)
-certain c = rw (c .before .before .before .before .sum-of-squares .ensures) at (c .before .settled .ensures (passes _ (c .if3 .taken)))
+-- the function's arguments, where the candidate was sure
+abbrev entered : tie.Then3 → tie.Start
+entered c = let summed = c .before .before .before .before in summed .before .before .before
+
+certain : (c : tie.Then3) → SurelyNearest (sumOfSquaresOf (entered c .args .a) (entered c .args .b)) (c .before .before .likely-pattern .result)
+certain c = rw (c .before .before .before .before .sum-of-squares .ensures) at (c .before .surely-nearest .ensures (passes _ (c .if3 .taken)))
 
 returns-3 : tie.Need-returns-3
 returns-3 c =
-    let s = c .before .before .before .before .before .before .before in
-    settled (s .args .a) (s .args .b) _ (passes _ (s .good .0 .1)) (passes _ (s .good .1 .0 .1)) (certain c)
+    let s = entered c in
+    sure-is-nearest (s .args .a) (s .args .b) _ (passes _ (s .good .0 .1)) (passes _ (s .good .1 .0 .1)) (certain c)
 
 pub hypot-spec : {M : Type 1} → statement M
 hypot-spec =

@@ -1,3 +1,4 @@
+-- The pattern of a midpoint is that of a number.
 use borrow.Author.Needs.{needs}
 use lib.Ieee.{binary64}
 use native.Mathlib.Omega.{arith}

@@ -1,3 +1,4 @@
+-- The pattern of exponent and fraction, or of the infinity where they are too large.
 use Prim.Native.Nat.{_+_, _*_}
 use borrow.Author.Needs.{needs}
 use native.Mathlib.Nat.{le-of-lt, min-eq-left, min-eq-right}

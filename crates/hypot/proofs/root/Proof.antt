@@ -1,3 +1,4 @@
+-- The whole root, and whether the exact one lies above its midpoint, is the root (`root-is`).
 use native.Mathlib.Omega.{arith}
 use mathlib.Core.Path.{sym, _∙_}
 use mathlib.Core.Bool.{true, false}

@@ -1,5 +1,6 @@
+-- The first i controls are in the row.
 use borrow.Author.Needs.{needs}
-use mathlib.Core.Path.{ap}
+use mathlib.Core.Path.{ap, _∙_}
 use lib.ListN.{getD}
 use Rattle.prelude.specs.Lists.{mapFirst}
 use Rattle.prelude.proofs.Loops.{sized, Done, all-done, mapFirst-zero, changes}
@@ -18,8 +19,8 @@ abbrev μ-loop : tie.MeasureT-loop
 
 loop-again : tie.Need-loop-again Inv-loop μ-loop
 loop-again c =
-    let l = c .before .before .before .loop in
-    changes _ _ anyControl (l .inv) (omega arith) (ap (withBounds (getD (l .out) (l .i) anyControl)) (c .place .ensures))
+    let l = c .before .before .before .before .loop in
+    changes _ _ anyControl (l .inv) (omega arith) (c .with-bounds .ensures ∙ ap (withBounds (getD (l .out) (l .i) anyControl)) (c .before .place-in-row .ensures))
 
 pub row-controls-spec : {M : Type 1} → statement M
 row-controls-spec =
@@ -30,6 +31,7 @@ row-controls-spec =
     (λ c. search (sized, mapFirst-zero, arith))
     (λ c. omega arith)
     (λ c. omega arith)
+    (λ c κs. search needs)
     (λ c κs. search needs)
     (λ c. omega arith)
     (λ c. omega arith)

@@ -1,3 +1,4 @@
+-- The left stick, and with two sticks the right one.
 use borrow.Author.Tests.{le-ltb, lt-ltb}
 use borrow.Author.Needs.{needs}
 use Rattle.landscape.specs.Landscape.{rowSticksOf}

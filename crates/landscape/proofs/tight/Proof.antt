@@ -1,3 +1,4 @@
+-- The three tests, in the definition's order.
 use Rattle.landscape.specs.Landscape.{tightOf}
 use Rattle.landscape.proofs.tight.Statement.{statement}
 use Rattle.landscape.proofs.tight.Tie as tie

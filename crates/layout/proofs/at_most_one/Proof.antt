@@ -1,3 +1,4 @@
+-- `at_most_one`: the one test.
 use borrow.Author.Tests.{le-ltb, lt-ltb}
 use Rattle.layout.specs.Psp.{atMostOneOf}
 use Rattle.layout.proofs.at_most_one.Statement.{statement}

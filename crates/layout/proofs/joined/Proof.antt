@@ -1,3 +1,4 @@
+-- `joined`: by whether one was found before.
 use borrow.Author.Needs.{needs}
 use Rattle.layout.proofs.joined.Statement.{statement}
 use Rattle.layout.proofs.joined.Tie as tie

@@ -1,5 +1,7 @@
+-- `set_bounds`: one control a turn gets the rectangle that follows.
+use borrow.Author.Needs.{needs}
 use native.Mathlib.Omega.{arith}
-use mathlib.Core.Path.{_≡_, sym}
+use mathlib.Core.Path.{_≡_, sym, _∙_}
 use Prim.Native.Nat.{_+_, _-_, _<_, suc}
 use mathlib.Core.List.{zipWith}
 use lib.ListN.{length, length-drop, drop, getD}
@@ -20,7 +22,7 @@ abbrev μ-loop : tie.MeasureT-loop
 
 loop-again : tie.Need-loop-again Inv-loop μ-loop
 loop-again c =
-    let l = c .before .before .before in
+    let l = c .before .before .before .before in
     let s = l .before in
     let i = l .loop .i in
     let cs = s .args .t1 in
@@ -31,7 +33,7 @@ loop-again c =
     let e : i + 1 ≡ 1 + i = omega arith in
     let v : getD (s .args .t3) (i + 1) anyRect ≡ getD rs i anyRect = rw e (sym (getD-drop 1 (s .args .t3) i anyRect)) in
     let h : i < length (zipWith withBounds cs rs) = length-zipWith withBounds (suc i) cs rs (omega arith) (omega arith) in
-    replaces (zipWith withBounds cs rs) cs anyControl (l .loop .inv) (omega arith) h (omega arith) (rw (v, getD-zipWith withBounds cs rs i anyControl anyRect anyControl))
+    replaces (zipWith withBounds cs rs) cs anyControl (l .loop .inv) (omega arith) h (omega arith) (c .with-bounds .ensures ∙ rw (v, getD-zipWith withBounds cs rs i anyControl anyRect anyControl))
 
 pub set-bounds-spec : {M : Type 1} → statement M
 set-bounds-spec =
@@ -45,6 +47,7 @@ set-bounds-spec =
     (λ c. omega arith)
     (λ c. omega arith)
     (λ c. omega arith)
+    (λ c κs. search needs)
     (λ c. omega arith)
     (λ c. omega arith)
     (λ c. omega arith)

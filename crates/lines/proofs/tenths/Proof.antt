@@ -1,4 +1,5 @@
-use Rattle.prelude.proofs.Signed.{stored, minus-fits, minus-is}
+-- `tenths` is the size, or minus the size where the first bit of the pattern is 1.
+use Rattle.prelude.proofs.Signed.{read-back, minus-fits, minus-is}
 use Rattle.numerics.proofs.Operations.{whole-not-nan}
 use Rattle.lines.proofs.Patterns.{exponent, size-is, tenths-plus, tenths-minus}
 use Prim.Native.Nat.{ℕ}
@@ -10,15 +11,15 @@ use Rattle.lines.proofs.tenths.Tie as tie
 
 returns : tie.Need-returns
 returns c =
-    let a = c .before .before in
-    let s = size-is (a .args .x) (search needs) (a .pre) (c .before .tenths-size .ensures) in
-    stored (s .1) (ap pos (s .0)) ∙ sym (tenths-plus (a .args .x) (search needs) (a .pre) (c .if1 .taken))
+    let entered = c .before .before in
+    let s = size-is (entered .args .x) (search needs) (entered .pre) (c .before .tenths-size .ensures) in
+    read-back (s .1) (ap pos (s .0)) ∙ sym (tenths-plus (entered .args .x) (search needs) (entered .pre) (c .if1 .taken))
 
 returns-2 : tie.Need-returns-2
 returns-2 c =
-    let a = c .before .before in
-    let s = size-is (a .args .x) (search needs) (a .pre) (c .before .tenths-size .ensures) in
-    minus-is (pos _) (s .1) ∙ ap (λ (n : ℕ). negℤ (pos n)) (s .0) ∙ sym (tenths-minus (a .args .x) (search needs) (a .pre) (c .if1 .left))
+    let entered = c .before .before in
+    let s = size-is (entered .args .x) (search needs) (entered .pre) (c .before .tenths-size .ensures) in
+    minus-is (pos _) (s .1) ∙ ap (λ (n : ℕ). negℤ (pos n)) (s .0) ∙ sym (tenths-minus (entered .args .x) (search needs) (entered .pre) (c .if1 .left))
 
 pub tenths-spec : {M : Type 1} → statement M
 tenths-spec =

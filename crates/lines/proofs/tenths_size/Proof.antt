@@ -1,5 +1,6 @@
+-- `tenths_size` is 0 below 2^-17, and else the sum that is shifted; the sum fits 64 bits.
 use Prim.Native.Nat.{_/_, _%_, _+_}
-use Rattle.lines.proofs.Patterns.{power, room, size-low, size-shifted}
+use Rattle.lines.proofs.Patterns.{power, sum-fits, size-low, size-shifted}
 use native.Mathlib.Omega.{arith}
 use borrow.Author.Needs.{needs}
 use Rattle.lines.proofs.tenths_size.Statement.{statement}
@@ -7,13 +8,13 @@ use Rattle.lines.proofs.tenths_size.Tie as tie
 
 add-result : tie.Need-add-result
 add-result c =
-    let a = c .before in
-    record { fits = room (0x80_0000 + a .args .n % 0x80_0000) (a .args .n % 0x8000_0000 / 0x80_0000) (omega arith) (c .if1 .left) }
+    let entered = c .before in
+    record { fits = sum-fits (0x80_0000 + entered .args .n % 0x80_0000) (entered .args .n % 0x8000_0000 / 0x80_0000) (omega arith) (c .if1 .left) }
 
 returns-2 : tie.Need-returns-2
 returns-2 c =
-    let a = c .before in
-    rw (power (a .args .n % 0x8000_0000 / 0x80_0000) (c .if1 .left)) (size-shifted (a .args .n) (a .fits .n .fits) (c .if1 .left) (a .pre))
+    let entered = c .before in
+    rw (power (entered .args .n % 0x8000_0000 / 0x80_0000) (c .if1 .left)) (size-shifted (entered .args .n) (entered .fits .n .fits) (c .if1 .left) (entered .pre))
 
 pub tenths-size-spec : {M : Type 1} → statement M
 tenths-size-spec =

@@ -1,3 +1,4 @@
+-- The array is opened from its end down to the place, where v is put.
 use mathlib.Core.Path.{_∙_, _≡_}
 use lib.Ieee.{nan}
 use lib.ListN.{length-set, length, getD}
@@ -18,14 +19,16 @@ loop-again c =
     let s = c .before .before .before in
     let l = c .before .before .loop in
     let k : length (s .args .a .now) ≡ 256 = s .pre .1 .1 in
-    ((omega arith, omega arith), (open-step (s .args .a .now) (s .args .n) (l .a) (l .j) (l .j - 1) nan (omega arith) (omega arith) (omega arith) (omega arith) (l .inv .1 .0), length-set (l .a) (l .j) (getD (l .a) (l .j - 1) nan) ∙ l .inv .1 .1))
+    let opened = open-step (s .args .a .now) (s .args .n) (l .a) (l .j) (l .j - 1) nan (omega arith) (omega arith) (omega arith) (omega arith) (l .inv .1 .0) in
+    ((omega arith, omega arith), (opened, length-set (l .a) (l .j) (getD (l .a) (l .j - 1) nan) ∙ l .inv .1 .1))
 
 returns : tie.Need-returns Inv-loop μ-loop
 returns c =
     let s = c .before .before in
     let l = c .before .loop in
     let e : s .args .at ≡ l .j = omega arith in
-    (open-put (s .args .a .now) (s .args .n) (l .a) (s .args .at) (s .args .v) (omega arith) (omega arith) (rw e (l .inv .1 .0)), length-set (l .a) (s .args .at) (s .args .v) ∙ l .inv .1 .1)
+    let put = open-put (s .args .a .now) (s .args .n) (l .a) (s .args .at) (s .args .v) (omega arith) (omega arith) (rw e (l .inv .1 .0)) in
+    (put, length-set (l .a) (s .args .at) (s .args .v) ∙ l .inv .1 .1)
 
 pub insert-at-spec : {M : Type 1} → statement M
 insert-at-spec =

@@ -1,3 +1,4 @@
+-- The definition's two cases, by the test of the sign's bit.
 use borrow.Author.Tests.{lt-ltb, le-ltb}
 use Rattle.moves.specs.Moves.{rankOf}
 use borrow.Author.Needs.{needs}

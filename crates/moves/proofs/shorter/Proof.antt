@@ -1,3 +1,4 @@
+-- Both ranks, by the calls' contracts.
 use Rattle.moves.specs.Moves.{shorterOf}
 use borrow.Author.Needs.{needs}
 use Rattle.moves.proofs.shorter.Statement.{statement}

@@ -1,8 +1,9 @@
+-- A refused order is refused; else its layout, of few counts, is written, and demand 3 holds of what is written.
 use mathlib.Core.Path.{sym}
 use borrow.Author.Needs.{needs}
 use Rattle.prelude.proofs.AnswerLaws.{never}
 use Rattle.reader.proofs.Accepted.{accepted-order}
-use Rattle.written.proofs.Owned.{layout-owned}
+use Rattle.written_layout.proofs.Owned.{layout-owned}
 use Rattle.order.specs.Orders.{orderLayout, layoutOf, layoutOutputOf}
 use Rattle.preset.proofs.PresetLabels.{settings-few}
 use Rattle.reader.proofs.Readings.{read-refused, read-accepted}
@@ -13,21 +14,23 @@ use Rattle.order.proofs.layout.Tie as tie
 returns : tie.Need-returns
 unfolding layoutOf layoutOutputOf orderLayout
 returns c =
-    let e = read-refused _ (c .before .before .read-order .ensures) (c .if1 .taken) in
-    (rw e, (rw e, λ s n r a k. absurd (never (sym a))))
+    let refused = read-refused _ (c .before .before .read-order .ensures) (c .if1 .taken) in
+    (rw refused, (rw refused, λ s n r a k. absurd (never (sym a))))
 
 write-requires : tie.Need-write-requires
 write-requires c κs =
-    let n = settings-few (c .before .before .before .before .read-order .result .settings) in
-    rw (c .before .settings-layout .ensures) (n .count, n .stickcount)
+    let read = c .before .before .before .before .read-order in
+    rw (c .before .settings-layout .ensures) (settings-few (read .result .settings))
 
 returns-2 : tie.Need-returns-2
 unfolding layoutOf layoutOutputOf orderLayout
 returns-2 c =
-    let e = read-accepted _ (c .before .before .before .before .before .before .before .read-order .ensures) (c .before .before .before .before .before .if1 .left) in
-    let l = c .before .before .before .before .settings-layout in
-    let w = c .before .before .write .ensures in
-    rw (w .0, w .1, l .ensures) (rw e, (rw e, order-widest _ e (rw (← l .ensures) (layout-owned _ _ (l .ok))) _))
+    let laying = c .before .before .before .before in
+    let laid = laying .settings-layout in
+    let right = laying .before in
+    let accepted = read-accepted _ (right .before .before .read-order .ensures) (right .if1 .left) in
+    let written = c .before .before .write .ensures in
+    rw (written .0, written .1, laid .ensures) (rw accepted, (rw accepted, order-widest _ accepted (rw (← laid .ensures) (layout-owned _ _ (laid .ok))) _))
 
 pub layout-spec : {M : Type 1} → statement M
 layout-spec =

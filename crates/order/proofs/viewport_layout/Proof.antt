@@ -1,49 +1,54 @@
+-- A refused order and tops off their limits are refused; else the viewport's layout, of few counts, is written.
 use mathlib.Core.Path.{sym, _∙_}
 use borrow.Author.Needs.{needs}
 use borrow.Author.Tests.{not-true, not-false}
 use Rattle.prelude.specs.Answer.{must}
 use Rattle.settings.proofs.Accepted.{tops-least}
 use Rattle.reader.proofs.Accepted.{accepted-order}
-use Rattle.order.specs.Orders.{orderViewport, viewportLayoutOf, viewportOutputOf}
+use Rattle.order.specs.Orders.{orderViewport, viewportOf, viewportOutputOf}
 use Rattle.preset.proofs.PresetLabels.{viewport-few}
 use Rattle.reader.proofs.Readings.{read-refused, read-accepted}
 use Rattle.order.proofs.viewport_layout.Statement.{statement}
 use Rattle.order.proofs.viewport_layout.Tie as tie
 
 returns : tie.Need-returns
-unfolding viewportLayoutOf viewportOutputOf orderViewport
+unfolding viewportOf viewportOutputOf orderViewport
 returns c =
-    let e = read-refused _ (c .before .before .read-order .ensures) (c .if1 .taken) in
-    (rw e, rw e)
+    let refused = read-refused _ (c .before .before .read-order .ensures) (c .if1 .taken) in
+    (rw refused, rw refused)
 
 returns-2 : tie.Need-returns-2
-unfolding viewportLayoutOf viewportOutputOf orderViewport must
+unfolding viewportOf viewportOutputOf orderViewport must
 returns-2 c =
-    let e = read-accepted _ (c .before .before .before .before .read-order .ensures) (c .before .before .if1 .left) in
-    let t = c .before .tops-in-limits .ensures in
-    let no = not-true (c .before .tops-in-limits .result) (c .if2 .taken) in
-    (rw (e, ← t, no), rw (e, ← t, no))
+    let tops = c .before .tops-in-limits in
+    let right = c .before .before in
+    let accepted = read-accepted _ (right .before .before .read-order .ensures) (right .if1 .left) in
+    let off = not-true (tops .result) (c .if2 .taken) in
+    (rw (accepted, ← tops .ensures, off), rw (accepted, ← tops .ensures, off))
 
 settings-viewport-requires : tie.Need-settings-viewport-requires
 settings-viewport-requires c κs =
-    let t = c .before .tops-in-limits in
-    (accepted-order _ (read-accepted _ (c .before .before .before .before .read-order .ensures) (c .before .before .if1 .left)), tops-least _ _ (sym (t .ensures) ∙ not-false (t .result) (c .if2 .left)))
+    let tops = c .before .tops-in-limits in
+    let right = c .before .before in
+    let accepted = read-accepted _ (right .before .before .read-order .ensures) (right .if1 .left) in
+    (accepted-order _ accepted, tops-least _ _ (sym (tops .ensures) ∙ not-false (tops .result) (c .if2 .left)))
 
 write-requires : tie.Need-write-requires
 write-requires c κs =
-    let s = c .before .before .before .before .before .before in
-    let n = viewport-few (s .read-order .result .settings) _ _ in
-    rw (c .before .settings-viewport .ensures) (n .count, n .stickcount)
+    let right = c .before .before .before .before in
+    rw (c .before .settings-viewport .ensures) (viewport-few (right .before .before .read-order .result .settings) _ _)
 
 returns-3 : tie.Need-returns-3
-unfolding viewportLayoutOf viewportOutputOf orderViewport must
+unfolding viewportOf viewportOutputOf orderViewport must
 returns-3 c =
-    let r = c .before .before .before .before .before .before .before .before .before in
-    let e = read-accepted _ (r .read-order .ensures) (c .before .before .before .before .before .before .before .if1 .left) in
-    let t = c .before .before .before .before .before .before .tops-in-limits .ensures in
-    let yes = not-false (c .before .before .before .before .before .before .tops-in-limits .result) (c .before .before .before .before .before .if2 .left) in
-    let w = rw (c .before .before .before .before .settings-viewport .ensures) at (c .before .before .write .ensures) in
-    (rw (e, ← t, yes) (w .0), rw (e, ← t, yes) (w .1))
+    let laid = c .before .before .before .before in
+    let tested = laid .before in
+    let right = tested .before .before in
+    let tops = tested .before .tops-in-limits in
+    let accepted = read-accepted _ (right .before .before .read-order .ensures) (right .if1 .left) in
+    let on = not-false (tops .result) (tested .if2 .left) in
+    let written = rw (laid .settings-viewport .ensures) at (c .before .before .write .ensures) in
+    (rw (accepted, ← tops .ensures, on) (written .0), rw (accepted, ← tops .ensures, on) (written .1))
 
 pub viewport-layout-spec : {M : Type 1} → statement M
 viewport-layout-spec =

@@ -1,3 +1,4 @@
+-- `placed` moves the controls and keeps the counts; the d-pad and the sticks are stored.
 use borrow.Author.Needs.{needs}
 use Rattle.picture.specs.Picture.{arrangeOf}
 use Rattle.picture.proofs.arrange.Statement.{statement}

@@ -1,3 +1,4 @@
+-- Each branch gives the default layout that `baseOf` names, of few counts.
 use native.Mathlib.Omega.{arith}
 use borrow.Author.Needs.{needs}
 use Rattle.picture.specs.Picture.{baseOf}
@@ -10,8 +11,8 @@ base-spec =
     tie.close
     (tie.spec
     (λ c κs. search needs)
-    (λ c. (rw (c .before .if1 .taken) (c .psp .ensures .0), omega arith, omega arith))
+    (λ c. (rw (c .before .if1 .taken) (c .psp .ensures .0), (omega arith, omega arith)))
     (λ c κs. search needs)
-    (λ c. (rw (c .before .before .if1 .left, c .before .if2 .taken) (c .analog-default .ensures .0), omega arith, omega arith))
+    (λ c. (rw (c .before .before .if1 .left, c .before .if2 .taken) (c .analog-default .ensures .0), (omega arith, omega arith)))
     (λ c κs. search needs)
-    (λ c. (rw (c .before .before .if1 .left, c .before .if2 .left) (c .arranged .ensures .0), omega arith, omega arith)))
+    (λ c. (rw (c .before .before .if1 .left, c .before .if2 .left) (c .arranged .ensures .0), (omega arith, omega arith))))

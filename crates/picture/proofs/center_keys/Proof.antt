@@ -1,3 +1,4 @@
+-- The four keys get a new x, by computation.
 use mathlib.Core.Path.{refl}
 use Rattle.picture.proofs.center_keys.Statement.{statement}
 use Rattle.picture.proofs.center_keys.Tie as tie

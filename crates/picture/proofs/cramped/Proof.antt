@@ -1,3 +1,4 @@
+-- The tests of `crampedOf`, as they stand.
 use mathlib.Core.Path.{refl}
 use Rattle.picture.specs.Picture.{crampedOf}
 use Rattle.picture.proofs.cramped.Statement.{statement}

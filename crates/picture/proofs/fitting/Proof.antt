@@ -1,3 +1,4 @@
+-- A layout that is there and fits.
 use borrow.Author.Needs.{needs}
 use Rattle.picture.proofs.fitting.Statement.{statement}
 use Rattle.picture.proofs.fitting.Tie as tie

@@ -1,3 +1,4 @@
+-- Each `pick` and `min` is a `cond` or a `minOf` of `measureRowOf`, in its order.
 use borrow.Author.Needs.{needs}
 use Rattle.picture.specs.Picture.{measureRowOf}
 use Rattle.picture.proofs.measure_row.Statement.{statement}
@@ -5,9 +6,15 @@ use Rattle.picture.proofs.measure_row.Tie as tie
 
 returns : tie.Need-returns
 unfolding measureRowOf
-returns c = rw (← c .before .before .before .before .before .before .before .before .before .before .before .before .pick .ensures, ← c .before .before .before .before .before .before .before .before .before .before .before .pick2 .ensures, ← c .before .before .before .before .before .before .before .before .before .before .pick3 .ensures, ← c .before .before .before .before .before .before .before .before .before .pick4 .ensures)
-    (rw (← c .before .before .before .before .before .before .before .before .pick5 .ensures, ← c .before .before .before .before .before .before .min .ensures, ← c .before .before .before .before .before .min2 .ensures)
-    (rw (← c .before .before .pick6 .ensures, ← c .before .pick7 .ensures, ← c .pick8 .ensures)))
+returns c =
+    let digital = c .before .before in
+    let well = digital .before .before .before in
+    let between = well .before .before .before in
+    let required = between .before .before in
+    let columns = required .before in
+    rw (← columns .before .pick .ensures, ← columns .pick2 .ensures, ← required .pick3 .ensures, ← between .before .pick4 .ensures)
+    (rw (← between .pick5 .ensures, ← well .before .min .ensures, ← well .min2 .ensures)
+    (rw (← digital .pick6 .ensures, ← c .before .pick7 .ensures, ← c .pick8 .ensures)))
 
 pub measure-row-spec : {M : Type 1} → statement M
 measure-row-spec =

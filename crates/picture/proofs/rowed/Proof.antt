@@ -1,11 +1,20 @@
+-- The places and the three squares of `rowedOf`; `arrange` keeps the counts.
 use borrow.Author.Needs.{needs}
-use native.Mathlib.Omega.{arith}
 use Rattle.picture.specs.Picture.{rowedOf}
 use Rattle.picture.proofs.rowed.Statement.{statement}
 use Rattle.picture.proofs.rowed.Tie as tie
 
-pub rowed-spec : {M : Type 1} → statement M
+returns : tie.Need-returns
 unfolding rowedOf
+returns c =
+    let dpad = c .before .before .before in
+    let made = c .arrange .ensures in (
+      rw (← dpad .before .row-places .ensures, ← dpad .new .ensures, ← c .before .before .new2 .ensures, ← c .before .new3 .ensures) (made .0),
+      made .1,
+      made .2,
+    )
+
+pub rowed-spec : {M : Type 1} → statement M
 rowed-spec =
     tie.close
     (tie.spec
@@ -14,4 +23,4 @@ rowed-spec =
     (λ c κs. search needs)
     (λ c κs. search needs)
     (λ c κs. search needs)
-    (λ c. (rw (← c .before .before .before .before .row-places .ensures, ← c .before .before .before .new .ensures, ← c .before .before .new2 .ensures, ← c .before .new3 .ensures, ← c .arrange .ensures .0), omega arith, omega arith)))
+    returns)

@@ -1,3 +1,4 @@
+-- The square of `squareOf`, in one call.
 use borrow.Author.Needs.{needs}
 use Rattle.picture.proofs.square.Statement.{statement}
 use Rattle.picture.proofs.square.Tie as tie

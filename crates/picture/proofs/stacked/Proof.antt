@@ -1,16 +1,29 @@
+-- The squares, the caps and the keys are those of `stackedOf`; `arrange` keeps the counts.
 use borrow.Author.Needs.{needs}
 use Rattle.picture.specs.Picture.{stackedOf}
 use Rattle.picture.proofs.stacked.Statement.{statement}
 use Rattle.picture.proofs.stacked.Tie as tie
 
+arrange-requires : tie.Need-arrange-requires
+arrange-requires c κs =
+    let faces = c .before .before .before .before in
+    let digital = faces .before .before in
+    let entered = digital .before .before .before .before .before in
+    entered .pre
+
 returns : tie.Need-returns
 unfolding stackedOf
-returns c = (
-  rw (← c .before .before .before .before .before .before .before .pick .ensures, ← c .before .before .before .before .before .before .square .ensures, ← c .before .before .before .before .before .diamond .ensures, ← c .before .before .before .before .auxiliary .ensures)
-      (rw (← c .before .before .before .square2 .ensures, ← c .before .before .square3 .ensures, ← c .before .square4 .ensures) (c .arrange .ensures .0)),
-  c .arrange .ensures .1,
-  c .arrange .ensures .2,
-)
+returns c =
+    let dpad = c .before .before .before in
+    let keys = dpad .before in
+    let faces = keys .before in
+    let digital = faces .before .before in
+    let made = c .arrange .ensures in (
+      rw (← digital .pick .ensures, ← faces .before .square .ensures, ← faces .diamond .ensures, ← keys .auxiliary .ensures)
+          (rw (← dpad .square2 .ensures, ← c .before .before .square3 .ensures, ← c .before .square4 .ensures) (made .0)),
+      made .1,
+      made .2,
+    )
 
 pub stacked-spec : {M : Type 1} → statement M
 stacked-spec =
@@ -23,5 +36,5 @@ stacked-spec =
     (λ c κs. search needs)
     (λ c κs. search needs)
     (λ c κs. search needs)
-    (λ c κs. c .before .before .before .before .before .before .before .before .before .before .before .pre)
+    arrange-requires
     returns)

@@ -1,17 +1,26 @@
+-- Each step's layout has the labels of its mode, and so few counts; with every call replaced by its definition this is `laidOutOf`.
 use mathlib.Core.Path.{_≡_}
 use mathlib.Core.Bool.{cond}
+use Prim.Native.Nat.{_≤_}
+use lib.Dec.{T}
+use lib.Ieee.{le}
+use lib.ListN.{length}
+use Rattle.float.specs.Float.{k0}
 use Rattle.float.proofs.Ends.{zero-le-max}
 use Rattle.layout.specs.declared.Layout.{Layout}
+use Rattle.layout.specs.Actions.{actionElementsOf}
 use Rattle.layout.specs.Labels.{OfMode}
-use Rattle.layout.specs.Layout.{cutoutList}
+use Rattle.layout.specs.Layout.{Few, cutoutList}
+use Rattle.layout.proofs.LabelLaws.{few, few-faces}
 use Rattle.search.specs.Search.{placeGameInAspectOf}
 use Rattle.settings.specs.declared.Preset.{Preset}
 use Rattle.toolbar.specs.Toolbar.{anchorToolbarOf}
+use Rattle.cutouts.proofs.CutoutLabels.{avoid-mode}
 use Rattle.landscape.specs.Landscape.{fitLandscapeControlsOf}
-use Rattle.chosen.proofs.Keys.{first-area}
-use Rattle.chosen.proofs.ChosenLabels.{few, avoid-mode, arrangement-mode}
+use Rattle.arrangement_choice.proofs.Keys.{first-area}
+use Rattle.arrangement_choice.proofs.ChoiceLabels.{arrangement-mode}
 use Rattle.preset.proofs.PresetLabels.{saved-mode}
-use Rattle.preset.specs.Preset.{settledOf, hasSticks, rowAllowedOf, laidOutOf}
+use Rattle.preset.specs.Preset.{settledOf, analogOf, rowAllowedOf, laidOutOf}
 use borrow.Author.Needs.{needs}
 use Rattle.preset.proofs.laid_out.Statement.{statement}
 use Rattle.preset.proofs.laid_out.Tie as tie
@@ -28,16 +37,16 @@ entry-placed c = entry-top (c .before .before .before .before)
 
 -- ---- each layout has the labels of its mode
 abbrev Mode : Preset → Layout → Type 0
-Mode p l = OfMode (hasSticks p) (p .psp) l
+Mode p l = OfMode (analogOf p) (p .psp) l
 
 arranged : (c : tie.After-saved) → Mode (entry (c .before .before) .args .p) (c .before .arrangement .result)
 arranged c = rw (c .before .arrangement .ensures) (arrangement-mode _ _ _ _ _ _ _ _ _)
 
 restored : (c : tie.After-with-saved) → Mode (entry (c .before .before .before) .args .p) (c .with-saved .result)
-restored c = let p = entry (c .before .before .before) .args .p in rw (c .with-saved .ensures) (saved-mode (hasSticks p) (p .psp) _ (arranged (c .before)) _ _ _)
+restored c = let p = entry (c .before .before .before) .args .p in rw (c .with-saved .ensures) (saved-mode (analogOf p) (p .psp) _ (arranged (c .before)) _ _ _)
 
 cleared : (c : tie.After-reusable-top) → Mode (entry (c .before .before .before .before .before) .args .p) (c .before .avoid-cutouts .result)
-cleared c = let p = entry-top c .args .p in rw (c .before .avoid-cutouts .ensures) (avoid-mode (hasSticks p) (p .psp) _ (restored (c .before .before)) _ _ _)
+cleared c = let p = entry-top c .args .p in rw (c .before .avoid-cutouts .ensures) (avoid-mode (analogOf p) (p .psp) _ (restored (c .before .before)) _ _ _)
 
 anchored : (c : tie.After-struct-known) → Mode (entry-top (c .before .before .before) .args .p) (c .before .before .anchor-toolbar .result)
 unfolding anchorToolbarOf
@@ -51,52 +60,65 @@ placed c = rw (c .place-game-in-aspect .ensures) (anchored (c .before))
 with-saved-requires : tie.Need-with-saved-requires
 with-saved-requires c κs =
     let s = entry (c .before .before) in
-    let n = few (hasSticks (s .args .p)) (s .args .p .psp) (c .before .arrangement .result) (arranged c) in
-    (s .pre .0, n .count, n .stickcount, s .pre .2, s .pre .3)
+    let p = s .args .p in
+    (s .pre .0, few (analogOf p) (p .psp) (c .before .arrangement .result) (arranged c), s .pre .2, s .pre .3)
 
 avoid-cutouts-requires : tie.Need-avoid-cutouts-requires
 avoid-cutouts-requires c κs =
     let s = entry (c .before .before .before) in
-    let n = few (hasSticks (s .args .p)) (s .args .p .psp) (c .with-saved .result) (restored c) in
-    ((n .count, n .stickcount), (s .pre .1, n .faces))
+    let p = s .args .p in
+    let l = c .with-saved .result in
+    let counts : Few l = few (analogOf p) (p .psp) l (restored c) in
+    let faces : length (actionElementsOf l) ≤ 4 = few-faces (analogOf p) (p .psp) l (restored c) in
+    let holes = s .pre .1 in
+    search needs
 
 anchor-toolbar-requires : tie.Need-anchor-toolbar-requires
 anchor-toolbar-requires c κs =
     let s = entry-top c in
-    let n = few (hasSticks (s .args .p)) (s .args .p .psp) (c .before .avoid-cutouts .result) (cleared c) in
-    (s .pre .1, n .count, n .stickcount, rw (c .reusable-top .ensures) (zero-le-max _))
+    let p = s .args .p in
+    let l = c .before .avoid-cutouts .result in
+    let counts : Few l = few (analogOf p) (p .psp) l (cleared c) in
+    let top : T (le k0 (c .reusable-top .result)) = rw (c .reusable-top .ensures) (zero-le-max _) in
+    let holes = s .pre .1 in
+    search needs
 
 place-requires : tie.Need-place-game-in-aspect-requires
 place-requires c κs =
     let p = entry-top (c .before .before .before) .args .p in
-    let n = few (hasSticks p) (p .psp) (c .before .before .anchor-toolbar .result) (anchored c) in
-    (n .count, n .stickcount)
+    few (analogOf p) (p .psp) (c .before .before .anchor-toolbar .result) (anchored c)
 
 fit-requires : tie.Need-fit-landscape-controls-requires
 fit-requires c κs =
     let g = c .before .before in
     let p = entry-placed g .args .p in
-    let n = few (hasSticks p) (p .psp) (g .place-game-in-aspect .result) (placed g) in
-    (n .count, n .stickcount)
+    few (analogOf p) (p .psp) (g .place-game-in-aspect .result) (placed g)
 
 -- ---- the layout, from where its game is placed
-game-placed : (g : tie.After-place-game-in-aspect) → let t = g .before .before .before .before in let r = t .before .before .before .before .before in let a = entry r .args in let l = g .place-game-in-aspect .result in
-    laidOutOf (a .p) (a .w) (a .h) (cutoutList (a .cutouts)) (a .picture) ≡ cond (rowAllowedOf (a .p) (cutoutList (a .cutouts))) (fitLandscapeControlsOf l (a .w) (a .h) (r .area .result) (g .before .before .aspect .result)) l
+abbrev topped : tie.After-place-game-in-aspect → tie.After-reusable-top
+topped g = g .before .before .before .before
+
+abbrev area-known : tie.After-place-game-in-aspect → tie.After-area
+area-known g = topped g .before .before .before .before .before
+
+game-placed : (g : tie.After-place-game-in-aspect) → let a = entry-placed g .args in let l = g .place-game-in-aspect .result in
+    laidOutOf (a .p) (a .w) (a .h) (cutoutList (a .cutouts)) (a .picture)
+    ≡ cond (rowAllowedOf (a .p) (cutoutList (a .cutouts))) (fitLandscapeControlsOf l (a .w) (a .h) (area-known g .area .result) (g .before .before .aspect .result)) l
 unfolding laidOutOf settledOf
 game-placed g =
-    let t = g .before .before .before .before in
-    let v = t .before .before in
-    let r = v .before .before .before in
-    let m = r .before .before in
-    let a = entry r .args in
-    let area = first-area (a .w) (a .h) (cutoutList (a .cutouts)) (a .picture) (a .p .psp) (a .p .analog) (m .is-maximum .result) (r .area .ensures) in
+    let t = topped g in
+    let restored = t .before .before in
+    let known = area-known g in
+    let maximum = known .before .before in
+    let a = entry known .args in
+    let area = first-area (a .w) (a .h) (cutoutList (a .cutouts)) (a .picture) (a .p .analog) (a .p .psp) (maximum .is-maximum .result) (known .area .ensures) in
     rw (
-      ← m .before .picture-fit .ensures,
-      ← m .is-maximum .ensures,
-      ← r .before .plain .ensures,
+      ← maximum .before .picture-fit .ensures,
+      ← maximum .is-maximum .ensures,
+      ← known .before .plain .ensures,
       ← area,
-      ← v .before .before .arrangement .ensures,
-      ← v .with-saved .ensures,
+      ← restored .before .before .arrangement .ensures,
+      ← restored .with-saved .ensures,
       ← t .before .avoid-cutouts .ensures,
       ← t .reusable-top .ensures,
       ← g .before .before .before .anchor-toolbar .ensures,

@@ -1,3 +1,4 @@
+-- A finite side raised to 1 is finite and at least 0, as `laid_out` asks.
 use lib.Dec.{T}
 use lib.Ieee.{Float, lt, le, ne, isNan, ofBits}
 use lib.Ieee.Scale.{finite}

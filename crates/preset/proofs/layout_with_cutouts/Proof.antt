@@ -1,3 +1,4 @@
+-- The picture is the whole screen, of 1 by 1 at least.
 use borrow.Author.Needs.{needs}
 use Rattle.preset.proofs.layout_with_cutouts.Statement.{statement}
 use Rattle.preset.proofs.layout_with_cutouts.Tie as tie

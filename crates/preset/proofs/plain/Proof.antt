@@ -1,3 +1,4 @@
+-- Nothing is counted exactly where the list of saved rectangles is empty.
 use lib.ListN.{length}
 use native.Mathlib.Omega.{arith}
 use Rattle.prelude.proofs.Loops.{sized}

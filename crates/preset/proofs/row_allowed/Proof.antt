@@ -1,3 +1,4 @@
+-- No cutout is counted exactly where the list of them is empty; the other tests are those of `rowAllowedOf`.
 use Rattle.preset.specs.Preset.{rowAllowedOf}
 use lib.ListN.{length}
 use native.Mathlib.Omega.{arith}
@@ -11,9 +12,12 @@ use Rattle.preset.proofs.row_allowed.Tie as tie
 returns : tie.Need-returns
 unfolding rowAllowedOf
 returns c =
-    let s = c .before .before .before .before .before .before in
-    let at : length (s .args .cutouts .at) ≡ 16 = search sized in
-    rw (← c .before .before .before .before .before .plain .ensures, ← c .before .before .before .before .picture-fit .ensures, ← c .before .before .before .is-maximum .ensures, ← c .before .untouched .ensures, none-counted (s .args .cutouts .count) (s .args .cutouts .at) (omega arith))
+    let maximum = c .before .before .before in
+    let plain = maximum .before .before in
+    let cutouts = plain .before .args .cutouts in
+    let at : length (cutouts .at) ≡ 16 = search sized in
+    let none = none-counted (cutouts .count) (cutouts .at) (omega arith) in
+    rw (← plain .plain .ensures, ← maximum .before .picture-fit .ensures, ← maximum .is-maximum .ensures, ← c .before .untouched .ensures, none)
 
 pub row-allowed-spec : {M : Type 1} → statement M
 row-allowed-spec =

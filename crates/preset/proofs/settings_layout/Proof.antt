@@ -1,3 +1,4 @@
+-- Accepted settings have few rectangles and a finite screen.
 use lib.Ieee.{ofBits}
 use borrow.Author.Needs.{needs}
 use Rattle.preset.specs.Preset.{settingsLayoutOf}

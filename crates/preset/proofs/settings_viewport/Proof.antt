@@ -1,3 +1,4 @@
+-- Accepted settings have few rectangles and a finite screen; the reusable top is given.
 use Rattle.preset.specs.Preset.{settingsViewportOf}
 use Rattle.settings.proofs.Accepted.{few-settings, finite-screen}
 use Rattle.preset.proofs.settings_viewport.Statement.{statement}

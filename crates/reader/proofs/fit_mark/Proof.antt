@@ -1,3 +1,4 @@
+-- Arm by arm, by what the match tells of the byte.
 use borrow.Author.Tests.{ne-eqb}
 use Rattle.reader.specs.Order.{fitMarkOf}
 use Rattle.reader.proofs.fit_mark.Statement.{statement}

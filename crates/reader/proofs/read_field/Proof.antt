@@ -1,3 +1,4 @@
+-- Tag by tag, what the field's own function gives.
 use Rattle.reader.specs.Order.{readFieldOf}
 use borrow.Author.Needs.{needs}
 use Rattle.reader.proofs.read_field.Statement.{statement}

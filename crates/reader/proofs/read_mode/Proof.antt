@@ -1,3 +1,4 @@
+-- A refusal for each test that fails, else the preset with the byte's three bits: `test-bit`.
 use borrow.Author.Tests.{ne-eqb, eq-eqb}
 use mathlib.Core.Path.{_∙_}
 use Rattle.prelude.specs.Answer.{must}
@@ -8,11 +9,14 @@ use borrow.Author.Needs.{needs}
 use Rattle.reader.proofs.read_mode.Statement.{statement}
 use Rattle.reader.proofs.read_mode.Tie as tie
 
-returns-3 : tie.Need-returns-3
+accepted : tie.Need-returns-3
 unfolding readModeOf must
-returns-3 c =
-    let b = getD (c .before .before .before .before .before .before .args .value .now) 0 0 in
-    c .accept-preset .ensures ∙ rw (eq-eqb _ _ (c .before .before .before .before .if1 .left), eq-eqb _ _ (c .before .before .if2 .left), ← test-bit b 0, ← test-bit b 1, ← test-bit b 2)
+accepted c =
+    let three = c .before .before in
+    let one = three .before .before in
+    let b = getD (one .before .before .args .value .now) 0 0 in
+    c .accept-preset .ensures
+    ∙ rw (eq-eqb _ _ (one .if1 .left), eq-eqb _ _ (three .if2 .left), ← test-bit b 0, ← test-bit b 1, ← test-bit b 2)
 
 pub read-mode-spec : {M : Type 1} → statement M
 unfolding readModeOf must
@@ -25,4 +29,4 @@ read-mode-spec =
     (λ c κs. search needs)
     (λ c. c .refuse2 .ensures ∙ rw (eq-eqb _ _ (c .before .before .before .if1 .left), ne-eqb _ _ (c .before .if2 .taken)))
     (λ c κs. search needs)
-    returns-3)
+    accepted)

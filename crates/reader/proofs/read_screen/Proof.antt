@@ -1,3 +1,4 @@
+-- A refusal for each test that fails, else the settings with the screen: each number is what its call gave.
 use borrow.Author.Tests.{ne-eqb, eq-eqb, not-true, not-false}
 use mathlib.Core.Path.{_∙_}
 use Rattle.prelude.specs.Answer.{must}
@@ -5,6 +6,38 @@ use Rattle.reader.specs.Order.{readScreenOf}
 use borrow.Author.Needs.{needs}
 use Rattle.reader.proofs.read_screen.Statement.{statement}
 use Rattle.reader.proofs.read_screen.Tie as tie
+
+off-the-scale : tie.Need-returns-2
+unfolding readScreenOf must
+off-the-scale c =
+    let tested = c .before .before in
+    let test = tested .screen-in-limits in
+    let h = tested .before in
+    let w = h .before in
+    c .refuse2 .ensures
+    ∙ rw (eq-eqb _ _ (w .before .if1 .left), ← w .number-at .ensures, ← h .number-at2 .ensures, ← test .ensures, not-true (test .result) (c .before .if2 .taken))
+
+accepted : tie.Need-returns-3
+unfolding readScreenOf must
+accepted c =
+    let made = c .before in
+    let high = made .before in
+    let wide = high .before in
+    let tested = wide .before .before in
+    let test = tested .screen-in-limits in
+    let h = tested .before in
+    let w = h .before in
+    c .accept .ensures
+    ∙ rw (
+      eq-eqb _ _ (w .before .if1 .left),
+      ← w .number-at .ensures,
+      ← h .number-at2 .ensures,
+      ← test .ensures,
+      not-false (test .result) (wide .before .if2 .left),
+      ← wide .max .ensures,
+      ← high .max2 .ensures,
+      ← made .new .ensures,
+    )
 
 pub read-screen-spec : {M : Type 1} → statement M
 unfolding readScreenOf must
@@ -17,9 +50,9 @@ read-screen-spec =
     (λ c κs. search needs)
     (λ c κs. search needs)
     (λ c κs. search needs)
-    (λ c. c .refuse2 .ensures ∙ rw (eq-eqb _ _ (c .before .before .before .before .before .if1 .left), ← c .before .before .before .before .number-at .ensures, ← c .before .before .before .number-at2 .ensures, ← c .before .before .screen-in-limits .ensures, not-true (c .before .before .screen-in-limits .result) (c .before .if2 .taken)))
+    off-the-scale
     (λ c κs. search needs)
     (λ c κs. search needs)
     (λ c κs. search needs)
     (λ c κs. search needs)
-    (λ c. c .accept .ensures ∙ rw (eq-eqb _ _ (c .before .before .before .before .before .before .before .before .if1 .left), ← c .before .before .before .before .before .before .before .number-at .ensures, ← c .before .before .before .before .before .before .number-at2 .ensures, ← c .before .before .before .before .before .screen-in-limits .ensures, not-false (c .before .before .before .before .before .screen-in-limits .result) (c .before .before .before .before .if2 .left), ← c .before .before .before .max .ensures, ← c .before .before .max2 .ensures, ← c .before .new .ensures)))
+    accepted)

@@ -1,3 +1,4 @@
+-- What was loaded is counted within the buffer.
 use borrow.Author.Needs.{needs}
 use Rattle.replay.proofs.Counting.{counts}
 use Rattle.replay.proofs.load.Statement.{statement}

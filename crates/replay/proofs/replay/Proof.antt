@@ -1,3 +1,4 @@
+-- The counter rises to its bound; the buffers keep their lengths, and the order's count stays within its own.
 use mathlib.Core.Logic.{⊎-elim}
 use mathlib.Core.Path.{_≡_}
 use Prim.Native.Nat.{_≤_, _-_}

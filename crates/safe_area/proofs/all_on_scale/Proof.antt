@@ -1,3 +1,4 @@
+-- `all_on_scale`: the three lists in turn.
 use Rattle.safe_area.specs.Safe.{allOnScaleOf}
 use borrow.Author.Needs.{needs}
 use Rattle.safe_area.proofs.all_on_scale.Statement.{statement}

@@ -1,3 +1,4 @@
+-- `current_edges`: by whether the sizes are the same.
 use Rattle.safe_area.specs.Safe.{currentEdgesOf}
 use borrow.Author.Needs.{needs}
 use Rattle.safe_area.proofs.current_edges.Statement.{statement}

@@ -1,14 +1,16 @@
+-- `on_scale`: the numbers passed leave the answer to those after them.
 use borrow.Author.Tests.{not-true, not-false}
 use borrow.Author.Needs.{needs}
 use native.Mathlib.Omega.{arith}
-use mathlib.Core.Path.{ap}
+use mathlib.Core.Path.{_≡_, ap}
 use Prim.Native.Nat.{_-_}
 use lib.IntN.{pos}
+use lib.ListN.{getD}
 use lib.Seq.{take-length}
 use Rattle.prelude.specs.Lists.{allOf}
 use Rattle.prelude.proofs.Loops.{Rest, stops, goes-on, runs-out}
 use Rattle.prelude.proofs.Signed.{kept}
-use Rattle.safe_area.specs.Safe.{onScaleOf}
+use Rattle.safe_area.specs.Safe.{withinLimitsOf, onScaleOf}
 use Rattle.safe_area.proofs.on_scale.Statement.{statement}
 use Rattle.safe_area.proofs.on_scale.Tie as tie
 
@@ -17,6 +19,24 @@ Inv-loop numbers i₀ i-end i = Rest onScaleOf numbers i-end (onScaleOf numbers)
 
 abbrev μ-loop : tie.MeasureT-loop
 μ-loop numbers i₀ i-end i = i-end - i
+
+-- what `within_limits` says of the number itself
+within : (c : tie.After-within-limits Inv-loop μ-loop) → c .within-limits .result ≡ withinLimitsOf (getD (c .before .before .before .before .args .numbers .now) (c .before .before .before .loop .i) (pos 0))
+within c = rw (kept _ (c .before .within-limits-arg .given)) at (c .within-limits .ensures)
+
+returns : tie.Need-returns Inv-loop μ-loop
+unfolding allOf
+returns c =
+    let asked = c .before in
+    let entered = asked .before .before in
+    stops (pos 0) (entered .before .loop .inv) (entered .loop-test .taken) (rw (← within asked, not-true (asked .within-limits .result) (c .if1 .taken)))
+
+loop-again : tie.Need-loop-again Inv-loop μ-loop
+unfolding allOf
+loop-again c =
+    let asked = c .before in
+    let entered = asked .before .before in
+    goes-on (pos 0) (entered .before .loop .inv) (entered .loop-test .taken) (rw (← within asked, not-false (asked .within-limits .result) (c .if1 .left)))
 
 pub on-scale-spec : {M : Type 1} → statement M
 unfolding allOf
@@ -29,8 +49,8 @@ on-scale-spec =
     (λ c. omega arith)
     (λ c. omega arith)
     (λ c κs. search needs)
-    (λ c. stops (pos 0) (c .before .before .before .before .loop .inv) (c .before .before .before .loop-test .taken) (rw (← rw (kept _ (c .before .before .within-limits-arg .given)) at (c .before .within-limits .ensures), not-true (c .before .within-limits .result) (c .if1 .taken))))
+    returns
     (λ c. omega arith)
     (λ c. omega arith)
-    (λ c. goes-on (pos 0) (c .before .before .before .before .loop .inv) (c .before .before .before .loop-test .taken) (rw (← rw (kept _ (c .before .before .within-limits-arg .given)) at (c .before .within-limits .ensures), not-false (c .before .within-limits .result) (c .if1 .left))))
+    loop-again
     (λ c. runs-out (c .before .loop .inv) (c .loop-test .left)))

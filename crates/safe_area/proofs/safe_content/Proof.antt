@@ -1,3 +1,4 @@
+-- `safe_content`: by whether all numbers are on the scale.
 use Rattle.safe_area.proofs.Scale.{sizes-and-edges}
 use Rattle.prelude.specs.Answer.{must}
 use Rattle.safe_area.specs.Safe.{safeContentOf}

@@ -1,3 +1,4 @@
+-- `safe_edges`: by whether all numbers are on the scale.
 use Rattle.prelude.specs.Answer.{must}
 use Rattle.safe_area.specs.Safe.{safeEdgesOf}
 use borrow.Author.Needs.{needs}

@@ -1,3 +1,4 @@
+-- `within_limits`: the two tests of the definition, of the number as it was stored.
 use mir.Facts.{toZ-ofZ}
 use Rattle.safe_area.specs.Safe.{withinLimitsOf}
 use Rattle.safe_area.proofs.within_limits.Statement.{statement}

@@ -1,3 +1,4 @@
+-- The first rectangles are those that `captured` made, the other fields the preset's.
 use Rattle.saved.specs.Saved.{captureOf}
 use borrow.Author.Needs.{needs}
 use Rattle.saved.proofs.capture.Statement.{statement}

@@ -1,3 +1,4 @@
+-- After i turns the first i places hold parts of the screen.
 use Rattle.saved.proofs.Turns.{mapped-front}
 use Rattle.saved.specs.Saved.{partOf}
 use mathlib.Core.Path.{sym, _∙_, _≡_}
@@ -20,16 +21,19 @@ abbrev μ-loop : tie.MeasureT-loop
 μ-loop w h at n out₀ i₀ out i = n - i
 
 loop-again : tie.Need-loop-again Inv-loop μ-loop
-loop-again c = let l = c .before .before .before in
-    let a = l .before .before .args in
+loop-again c =
+    let headed = c .before .before .before in
+    let loop = headed .loop in
+    let a = headed .before .before .args in
     let at = a .elements .at in
-    let m : length at ≡ 19 = search sized in
-    let k : length (a .saved) ≡ 32 = search sized in
-    let j = length-map at (partOf (a .w) (a .h)) in
-    replaces _ _ _ (l .loop .inv) (omega arith) (omega arith) (omega arith) (c .part .ensures ∙ sym (List·getD-map (partOf (a .w) (a .h)) at (l .loop .i) anyRect))
+    let room : length at ≡ 19 = search sized in
+    let size : length (a .saved) ≡ 32 = search sized in
+    let parts = length-map at (partOf (a .w) (a .h)) in
+    replaces _ _ _ (loop .inv) (omega arith) (omega arith) (omega arith) (c .part .ensures ∙ sym (List·getD-map (partOf (a .w) (a .h)) at (loop .i) anyRect))
 
 returns : tie.Need-returns Inv-loop μ-loop
-returns c = let a = c .before .before .before .args in
+returns c =
+    let a = c .before .before .before .args in
     all-done (c .before .loop .inv) (c .loop-test .left) ∙ mapped-front (partOf (a .w) (a .h)) (a .elements .count) (a .elements .at) (a .saved)
 
 pub captured-spec : {M : Type 1} → statement M

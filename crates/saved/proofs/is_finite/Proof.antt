@@ -1,3 +1,4 @@
+-- The test of `isFiniteOf`, below infinity.
 use borrow.Author.Needs.{needs}
 use Rattle.saved.proofs.is_finite.Statement.{statement}
 use Rattle.saved.proofs.is_finite.Tie as tie

@@ -1,3 +1,4 @@
+-- The part of `partOf`, in one call.
 use borrow.Author.Needs.{needs}
 use Rattle.saved.specs.Saved.{partOf}
 use Rattle.saved.proofs.part.Statement.{statement}

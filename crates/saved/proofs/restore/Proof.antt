@@ -1,3 +1,4 @@
+-- What is usable goes on the screen, and what is not stays.
 use borrow.Author.Needs.{needs}
 use Rattle.saved.proofs.restore.Statement.{statement}
 use Rattle.saved.proofs.restore.Tie as tie

@@ -1,3 +1,4 @@
+-- After i turns the first i saved rectangles have been put in place, as far as there are elements.
 use lib.ListN.{length, take}
 use lib.Seq.{getD-take, length-take-le}
 use Rattle.saved.specs.Saved.{restoredOf}
@@ -19,21 +20,26 @@ abbrev μ-loop : tie.MeasureT-loop
 μ-loop w h n saved count at₀ i₀ at i = count - i
 
 loop-again : tie.Need-loop-again Inv-loop μ-loop
-loop-again c = let l = c .before .before in
-    let a = l .before .before .args in
-    let k : length (a .t3) ≡ 32 = search sized in
-    let m : length (a .elements .at) ≡ 19 = search sized in
-    let i = l .loop .i in
+loop-again c =
+    let headed = c .before .before in
+    let loop = headed .loop in
+    let a = headed .before .before .args in
+    let size : length (a .t3) ≡ 32 = search sized in
+    let room : length (a .elements .at) ≡ 19 = search sized in
     let rs = take (a .n) (a .t3) in
-    let z : length rs ≡ a .n = length-take-le (a .n) (a .t3) (omega arith) in
+    let all : length rs ≡ a .n = length-take-le (a .n) (a .t3) (omega arith) in
     ⊎-elim
-    (λ t. rw (t .4) (does _ (l .loop .inv) (omega arith) (restored-turn (a .w) (a .h) i rs (a .elements .at) (l .loop .at) anyRect (omega arith) (omega arith) (l .loop .inv .is) (rw (getD-take (a .n) (a .t3) i anyRect (t .0 .taken)) (t .3 .ensures)))))
-    (λ t. rw (t .1) (record { most = omega arith; size = l .loop .inv .size; is = restored-past (a .w) (a .h) i rs (a .elements .at) (l .loop .at) (omega (arith, t .0 .left, z)) (l .loop .inv .is) }))
+    (λ t. rw (t .4) (does _ (loop .inv) (omega arith)
+    (restored-turn (a .w) (a .h) (loop .i) rs (a .elements .at) (loop .at) anyRect (omega arith) (omega arith) (loop .inv .is) (rw (getD-take (a .n) (a .t3) (loop .i) anyRect (t .0 .taken)) (t .3 .ensures)))))
+    (λ t. rw (t .1)
+    (record { most = omega arith; size = loop .inv .size; is = restored-past (a .w) (a .h) (loop .i) rs (a .elements .at) (loop .at) (omega (arith, t .0 .left, all)) (loop .inv .is) }))
     (c .if1 .came)
 
 returns : tie.Need-returns Inv-loop μ-loop
-returns c = let a = c .before .before .before .args in
-    (ap (take (a .elements .count)) (all-done (c .before .loop .inv) (c .loop-test .left)) ∙ restored-front (a .w) (a .h) (a .elements .count) (take (a .n) (a .t3)) (a .elements .at), refl)
+returns c =
+    let a = c .before .before .before .args in
+    let front = restored-front (a .w) (a .h) (a .elements .count) (take (a .n) (a .t3)) (a .elements .at) in
+    (ap (take (a .elements .count)) (all-done (c .before .loop .inv) (c .loop-test .left)) ∙ front, refl)
 
 pub restored-spec : {M : Type 1} → statement M
 unfolding restoredOf

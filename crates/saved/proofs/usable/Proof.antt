@@ -1,3 +1,4 @@
+-- The four tests of `usableOf`.
 use borrow.Author.Needs.{needs}
 use Rattle.saved.proofs.usable.Statement.{statement}
 use Rattle.saved.proofs.usable.Tie as tie

@@ -1,3 +1,4 @@
+-- Where nothing is counted nothing changes; else the restored elements are set.
 use Rattle.saved.specs.Saved.{withSavedOf}
 use lib.ListN.{length}
 use native.Mathlib.Omega.{arith}
@@ -9,13 +10,33 @@ use borrow.Author.Needs.{needs}
 use Rattle.saved.proofs.with_saved.Statement.{statement}
 use Rattle.saved.proofs.with_saved.Tie as tie
 
-pub with-saved-spec : {M : Type 1} → statement M
+returns : tie.Need-returns
 unfolding withSavedOf
+returns c =
+    let entered = c .before in
+    let a = entered .args in
+    let most = entered .pre .0 in
+    let size : length (a .saved) ≡ 32 = search sized in
+    rw (none-counted (a .n) (a .saved) (omega arith), c .if1 .taken)
+
+returns-2 : tie.Need-returns-2
+unfolding withSavedOf
+returns-2 c =
+    let entered = c .before .before .before .before in
+    let a = entered .args in
+    let most = entered .pre .0 in
+    let good = entered .good in
+    let size : length (a .saved) ≡ 32 = search sized in
+    let listed = c .before .before in
+    let tested = listed .before in
+    rw (none-counted (a .n) (a .saved) (omega arith), ne-eqb _ _ (tested .if1 .left), ← listed .elements .ensures .0, ← c .before .restored .ensures .0) (c .set-elements .ensures)
+
+pub with-saved-spec : {M : Type 1} → statement M
 with-saved-spec =
     tie.close
     (tie.spec
-    (λ c. let a = c .before .args in let p = c .before .pre .0 in let k : length (a .saved) ≡ 32 = search sized in rw (none-counted (a .n) (a .saved) (omega arith), c .if1 .taken))
+    returns
     (λ c κs. search needs)
     (λ c κs. search needs)
     (λ c κs. search needs)
-    (λ c. let s = c .before .before .before .before in let a = s .args in let p = s .pre .0 in let g = s .good in let k : length (a .saved) ≡ 32 = search sized in rw (none-counted (a .n) (a .saved) (omega arith), ne-eqb _ _ (c .before .before .before .if1 .left), ← c .before .before .elements .ensures .0, ← c .before .restored .ensures .0) (c .set-elements .ensures)))
+    returns-2)

@@ -1,3 +1,4 @@
+-- The definition's test: wider, or as wide and higher up.
 use borrow.Author.Needs.{needs}
 use mathlib.Core.Path.{sym, _∙_}
 use mathlib.Core.Logic.{⊎-elim}

@@ -11,7 +11,7 @@ use Rattle.float.specs.Float.{_⊖_, _⊘_, k2}
 use Rattle.geometry.specs.Rect.{emptyRect}
 use Rattle.layout.specs.Layout.{anyRect}
 use Rattle.search.specs.Search.{bottomOf, bottoms, narrowOf, widthAt, tryAt, centeredOf}
-use Rattle.search.proofs.Narrower.{narrow-below, settled}
+use Rattle.search.proofs.Narrower.{narrow-below, turn-is-full}
 use Rattle.search.proofs.Steps.{first-start, later-start}
 use Prim.Native.Nat.{_+_, _-_, _<_, _≤_, zero-le}
 use Rattle.search.proofs.centered.Statement.{statement}
@@ -50,7 +50,7 @@ loop-again c =
           (b .before .if1 .came))
           (⊎-elim
           (λ t. cond-yes _ _ _ (b .within .ensures) (t .0 .taken)
-          (t .6 ∙ t .5 .ensures ∙ settled _ (narrow-below _ _ _ _) (λ width. (s .args .w ⊖ width) ⊘ k2) _ _ (t .3 .inv)
+          (t .6 ∙ t .5 .ensures ∙ turn-is-full _ (narrow-below _ _ _ _) (λ width. (s .args .w ⊖ width) ⊘ k2) _ _ (t .3 .inv)
           (⊎-map (λ u. u .left) (λ u. u .2 .taken) (t .4 .came))))
           (λ t. cond-no _ _ _ (b .within .ensures) (t .0 .left) (t .1))
           (c .if2 .came)),

@@ -1,3 +1,4 @@
+-- The centred picture, or if that is empty the one at a side.
 use borrow.Author.Needs.{needs}
 use Rattle.search.specs.Search.{clearPictureAspectOf}
 use Rattle.search.proofs.clear_picture_aspect.Statement.{statement}

@@ -1,3 +1,4 @@
+-- The obstacles, the picture and the three clamped numbers by the calls' contracts.
 use mathlib.Core.Path.{_∙_}
 use mathlib.Core.Logic.{⊎-elim}
 use Rattle.search.proofs.Steps.{game-returned}
@@ -8,14 +9,15 @@ use Rattle.search.proofs.game.Tie as tie
 
 returns : tie.Need-returns
 returns c =
-    let clamps = c .before .before .before .before .before .before .before .before .before in
-    let b = clamps .before .before .before in
+    let read = c .before .before .before .before .before in
+    let clamps = read .before .before .before .before in
+    let found = clamps .before .before .before in
     c .new .ensures ∙ game-returned _ _ _ _ _
-    (b .before .obstacles .ensures .0)
+    (found .before .obstacles .ensures .0)
     (⊎-elim
     (λ t. rw (t .0 .taken, t .2) (t .1 .ensures))
     (λ t. rw (t .0 .left, t .2) (t .1 .ensures))
-    (b .if1 .came))
+    (found .if1 .came))
     (clamps .before .before .clamp .ensures)
     (clamps .before .clamp2 .ensures)
     (clamps .clamp3 .ensures)

@@ -22,11 +22,17 @@ abbrev μ-loop : tie.MeasureT-loop
 loop-again : tie.Need-loop-again Inv-loop μ-loop
 unfolding obstaclesOf
 loop-again c =
-    let b = c .before .before .before in
-    let l = b .before .loop in
+    let turn = c .before .before .before in
+    let l = turn .before .loop in
+    let h = turn .loop-test .taken in
+    let met = c .before .overlaps .ensures in
     ⊎-elim
-    (λ t. (omega arith, rw (t .6, length-set) (l .inv .1), rw (t .6, t .7, t .5 .ensures) (goes-on anyRect (l .inv .2) (b .loop-test .taken) (rw (← c .before .overlaps .ensures, t .0 .taken) (sym (put-rest (l .at) (l .count) _ _ (omega arith)))))))
-    (λ t. (omega arith, rw (t .1) (l .inv .1), rw (t .1, t .2) (goes-on anyRect (l .inv .2) (b .loop-test .taken) (rw (← c .before .overlaps .ensures, t .0 .left)))))
+    (λ t. (
+      omega arith,
+      rw (t .6, length-set) (l .inv .1),
+      rw (t .6, t .7, t .5 .ensures) (goes-on anyRect (l .inv .2) h (rw (← met, t .0 .taken) (sym (put-rest (l .at) (l .count) _ _ (omega arith))))),
+    ))
+    (λ t. (omega arith, rw (t .1) (l .inv .1), rw (t .1, t .2) (goes-on anyRect (l .inv .2) h (rw (← met, t .0 .left)))))
     (c .if1 .came)
 
 pub obstacles-spec : {M : Type 1} → statement M

@@ -1,3 +1,4 @@
+-- By the calls' contracts.
 use borrow.Author.Needs.{needs}
 use Rattle.search.proofs.place_game.Statement.{statement}
 use Rattle.search.proofs.place_game.Tie as tie

@@ -1,3 +1,4 @@
+-- By the calls' contracts.
 use borrow.Author.Needs.{needs}
 use Rattle.search.specs.Search.{placeGameInAspectOf}
 use Rattle.search.proofs.place_game_in_aspect.Statement.{statement}

@@ -10,7 +10,7 @@ use Rattle.prelude.proofs.Loops.{sized, fold-next, take-first, in-array, Rest, 
 use Rattle.geometry.specs.Rect.{emptyRect}
 use Rattle.layout.specs.Layout.{anyRect}
 use Rattle.search.specs.Search.{bottomOf, rightOf, bottoms, rights, narrowSideOf, sideWidthAt, trySideAt, tryColumn, sideOf}
-use Rattle.search.proofs.Narrower.{narrow-side-below, settled}
+use Rattle.search.proofs.Narrower.{narrow-side-below, turn-is-full}
 use Rattle.search.proofs.Steps.{first-start, later-start}
 use Prim.Native.Nat.{_+_, _-_, _<_, _≤_, zero-le}
 use Rattle.search.proofs.side.Statement.{statement}
@@ -44,7 +44,8 @@ unfolding trySideAt
 loop2-again c =
     let b = c .before in
     let l = b .before .before .before in
-    let s = l .before .before .before .before .before .before in
+    let column = l .before .before .before in
+    let s = column .before .before .before in
     let n : length (s .args .t3) ≡ 19 = search sized in
     let h : l .loop2 .j < length (bottoms (s .args .t3)) = simp length-map (omega arith) in (
       omega arith,
@@ -56,7 +57,7 @@ loop2-again c =
           (b .before .if3 .came))
           (⊎-elim
           (λ t. cond-yes _ _ _ (b .within2 .ensures) (t .0 .taken)
-          (t .6 ∙ t .5 .ensures ∙ settled _ (narrow-side-below _ _ _ _) (λ _. l .before .before .before .if1 .x) _ _ (t .3 .inv)
+          (t .6 ∙ t .5 .ensures ∙ turn-is-full _ (narrow-side-below _ _ _ _) (λ _. column .if1 .x) _ _ (t .3 .inv)
           (⊎-map (λ u. u .left) (λ u. u .2 .taken) (t .4 .came))))
           (λ t. cond-no _ _ _ (b .within2 .ensures) (t .0 .left) (t .1))
           (c .if4 .came)),

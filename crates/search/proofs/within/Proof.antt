@@ -1,3 +1,4 @@
+-- The two tests, in the definition's order.
 use Rattle.search.specs.Search.{withinOf}
 use Rattle.search.proofs.within.Statement.{statement}
 use Rattle.search.proofs.within.Tie as tie

@@ -1,3 +1,4 @@
+-- The loop stops at the first cutout off its limits; else all are within.
 use borrow.Author.Tests.{not-true, not-false}
 use lib.ListN.{take}
 use Rattle.prelude.specs.Lists.{allOf}
@@ -16,6 +17,22 @@ Inv-loop n at i₀ i = Rest (allOf (rectInLimitsOf least)) at n (allOf (rectInLi
 abbrev μ-loop : tie.MeasureT-loop
 μ-loop n at i₀ i = n - i
 
+one-off : tie.Need-returns Inv-loop μ-loop
+unfolding cutoutsInLimitsOf allOf
+one-off c =
+    let tested = c .before in
+    let entered = tested .before .before in
+    let test = tested .rect-in-limits in
+    stops anyRect (entered .before .loop .inv) (entered .loop-test .taken) (rw (← test .ensures, not-true (test .result) (c .if1 .taken)))
+
+loop-again : tie.Need-loop-again Inv-loop μ-loop
+unfolding allOf
+loop-again c =
+    let tested = c .before in
+    let entered = tested .before .before in
+    let test = tested .rect-in-limits in
+    goes-on anyRect (entered .before .loop .inv) (entered .loop-test .taken) (rw (← test .ensures, not-false (test .result) (c .if1 .left)))
+
 pub cutouts-in-limits-spec : {M : Type 1} → statement M
 unfolding cutoutsInLimitsOf allOf
 cutouts-in-limits-spec =
@@ -27,8 +44,8 @@ cutouts-in-limits-spec =
     (λ c. omega arith)
     (λ c. omega arith)
     (λ c κs. search needs)
-    (λ c. stops anyRect (c .before .before .before .before .loop .inv) (c .before .before .before .loop-test .taken) (rw (← c .before .rect-in-limits .ensures, not-true (c .before .rect-in-limits .result) (c .if1 .taken))))
+    one-off
     (λ c. omega arith)
     (λ c. omega arith)
-    (λ c. goes-on anyRect (c .before .before .before .before .loop .inv) (c .before .before .before .loop-test .taken) (rw (← c .before .rect-in-limits .ensures, not-false (c .before .rect-in-limits .result) (c .if1 .left))))
+    loop-again
     (λ c. runs-out (c .before .loop .inv) (c .loop-test .left)))

@@ -1,3 +1,4 @@
+-- Test by test, each `&&` a branch.
 use Rattle.settings.specs.Settings.{inLimitsOf}
 use Rattle.settings.proofs.in_limits.Statement.{statement}
 use Rattle.settings.proofs.in_limits.Tie as tie

@@ -1,3 +1,4 @@
+-- Test by test, each `&&` a branch on what `in_limits` gave.
 use borrow.Author.Needs.{needs}
 use Rattle.settings.specs.Settings.{topsInLimitsOf}
 use Rattle.settings.proofs.tops_in_limits.Statement.{statement}

@@ -1,93 +1,51 @@
--- `layout_sheet` puts the header and the lines one after the other, and the text that they make fits.
-use Rattle.lines.proofs.Puts.{after, ends, same}
+-- `layout_sheet` puts the header and the lines of the layout, and the text that they make fits.
+use Prim.Native.Nat.{_+_, _≤_}
 use native.Mathlib.Omega.{arith}
-use Rattle.sheet.proofs.SheetLaws.{element-printable, game-printable}
-use Rattle.sheet.proofs.Lines.{sheet-room, sheet-is}
+use lib.ListN.{length}
 use borrow.Author.Needs.{needs}
+use Rattle.lines.proofs.Puts.{put-after, put-ends, put-length}
+use Rattle.lines.specs.Line.{headText}
+use Rattle.sheet.specs.Sheet.{linesOf, linesText, film}
+use Rattle.sheet.proofs.SheetLaws.{few-lines}
+use Rattle.sheet.proofs.Lines.{sheet-room, sheet-is}
 use Rattle.sheet.proofs.layout_sheet.Statement.{statement}
 use Rattle.sheet.proofs.layout_sheet.Tie as tie
 
+room : (s : tie.Start) → let ls = linesOf (s .args .l) in length (headText film (length ls)) + length (linesText ls) ≤ 1024
+room s = sheet-room (s .args .l) (s .pre .0) (s .pre .1) (s .pre .2)
+
 put-head-requires : tie.Need-put-head-requires
 put-head-requires c κs =
-    let s = c .before .before .before .before .before in
-    omega (arith, sheet-room (s .args .l) (s .pre .0) (s .pre .1) (s .pre .2) (s .pre .3) (c .line-count .ensures))
-
-put-line-requires : tie.Need-put-line-requires
-put-line-requires c κs =
-    let counted = c .before .before .before .before in
-    let s = counted .before .before .before .before .before in
-    (game-printable (s .pre .3), omega (arith, ends, sheet-room (s .args .l) (s .pre .0) (s .pre .1) (s .pre .2) (s .pre .3) (counted .line-count .ensures)))
-
-put-line-requires-2 : tie.Need-put-line-requires-2
-put-line-requires-2 c κs =
     let lined = c .before .before .before in
-    let counted = lined .before .before .before .before .before in
-    let s = counted .before .before .before .before .before in
-    (element-printable (s .pre .2 .dpad), omega (arith, ends, sheet-room (s .args .l) (s .pre .0) (s .pre .1) (s .pre .2) (s .pre .3) (counted .line-count .ensures)))
+    rw (lined .layout-lines .ensures .1) (omega (arith, room (lined .before)))
 
-put-controls-requires : tie.Need-put-controls-requires
-put-controls-requires c κs =
-    let lined2 = c .before .before in
-    let lined = lined2 .before .before .before .before in
-    let headed = lined .before .before .before .before in
-    let counted = headed .before in
-    let s = counted .before .before .before .before .before in
-    let h = headed .put-head .ensures in
-    (s .pre .0, s .pre .2 .controls, omega (arith, ends, same, sheet-room (s .args .l) (s .pre .0) (s .pre .1) (s .pre .2) (s .pre .3) (counted .line-count .ensures)))
-
-put-toolbar-requires : tie.Need-put-toolbar-requires
-put-toolbar-requires c κs =
-    let lined2 = c .before .before .before .before .before in
-    let lined = lined2 .before .before .before .before in
-    let headed = lined .before .before .before .before in
-    let counted = headed .before in
-    let s = counted .before .before .before .before .before in
-    let h = headed .put-head .ensures in
-    let g = lined .put-line .ensures in
-    (s .pre .2, omega (arith, ends, same, sheet-room (s .args .l) (s .pre .0) (s .pre .1) (s .pre .2) (s .pre .3) (counted .line-count .ensures)))
-
-put-sticks-requires : tie.Need-put-sticks-requires
-put-sticks-requires c κs =
-    let controlled = c .before .before .before .before .before in
-    let lined2 = controlled .before .before .before in
-    let lined = lined2 .before .before .before .before in
-    let headed = lined .before .before .before .before in
-    let counted = headed .before in
-    let s = counted .before .before .before .before .before in
-    let h = headed .put-head .ensures in
-    let g = lined .put-line .ensures in
-    (s .pre .1, s .pre .2 .sticks, omega (arith, ends, same, sheet-room (s .args .l) (s .pre .0) (s .pre .1) (s .pre .2) (s .pre .3) (counted .line-count .ensures)))
+put-lines-requires : tie.Need-put-lines-requires
+put-lines-requires c κs =
+    let headed = c .before .before in
+    let lined = headed .before .before .before .before in
+    let s = lined .before in
+    let made = lined .layout-lines .ensures in
+    let h = rw (made .1) at (headed .put-head .ensures) in
+    (rw (made .1) (few-lines (s .args .l) (s .pre .0)), made .2, rw (made .0) (omega (arith, put-ends _ _ _ h, put-length _ _ _ h, room s)))
 
 returns : tie.Need-returns
 returns c =
-    let keyed = c .before .before .before .before in
-    let controlled = keyed .before .before .before in
-    let lined2 = controlled .before .before .before in
-    let lined = lined2 .before .before .before .before in
-    let headed = lined .before .before .before .before in
-    let counted = headed .before in
-    let s = counted .before .before .before .before .before in
-    sheet-is (s .args .l) (s .pre .0) (s .pre .1) (s .pre .2) (s .pre .3) (counted .line-count .ensures)
-    (after _ _ _ _ (headed .put-head .ensures) (after _ _ _ _ (lined .put-line .ensures) (after _ _ _ _ (lined2 .put-line2 .ensures) (after _ _ _ _ (controlled .put-controls .ensures) (after _ _ _ _ (keyed .put-toolbar .ensures) (c .before .put-sticks .ensures))))))
+    let headed = c .before .before .before .before in
+    let lined = headed .before .before .before .before in
+    let s = lined .before in
+    let made = lined .layout-lines .ensures in
+    sheet-is (s .args .l) (s .pre .0) (s .pre .1) (s .pre .2)
+    (put-after _ _ _ _ (rw (made .1) at (headed .put-head .ensures)) (rw (made .0) at (c .before .put-lines .ensures)))
 
 pub layout-sheet-spec : {M : Type 1} → statement M
 layout-sheet-spec =
     tie.close
     (tie.spec
-    (λ c. search needs)
-    (λ c. search needs)
     (λ c κs. search needs)
+    (λ c. search needs)
+    (λ c. search needs)
+    (λ c. let lined = c .before .before .before in omega (arith, lined .layout-lines .ensures .1, few-lines (lined .before .args .l) (lined .before .pre .0)))
     put-head-requires
     (λ c. search needs)
-    (λ c. search needs)
-    put-line-requires
-    (λ c. search needs)
-    (λ c. search needs)
-    put-line-requires-2
-    (λ c. search needs)
-    put-controls-requires
-    (λ c. search needs)
-    put-toolbar-requires
-    (λ c. search needs)
-    put-sticks-requires
+    put-lines-requires
     returns)

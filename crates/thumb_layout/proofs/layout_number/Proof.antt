@@ -1,8 +1,9 @@
+-- A length of 353 at most fits, and minus a refusal does.
 use native.Mathlib.Omega.{arith}
 use mir.Syntax.{w32}
 use mir.Facts.{toZ-pos}
 use borrow.Author.Needs.{sfits-of, needs}
-use Rattle.prelude.proofs.Signed.{stored}
+use Rattle.prelude.proofs.Signed.{read-back}
 use Rattle.thumb_layout.proofs.layout_number.Statement.{statement}
 use Rattle.thumb_layout.proofs.layout_number.Tie as tie
 
@@ -25,4 +26,4 @@ layout-number-spec =
     (λ c. search needs)
     (λ c κs. search needs)
     returns
-    (λ c. rw (c .before .before .answer2 .given .1) (stored (c .minus .ok) (c .minus .ensures))))
+    (λ c. rw (c .before .before .answer2 .given .1) (read-back (c .minus .ok) (c .minus .ensures))))

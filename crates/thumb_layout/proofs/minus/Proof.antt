@@ -1,3 +1,4 @@
+-- Minus the number of a refusal fits.
 use borrow.Author.Needs.{needs}
 use native.Mathlib.Omega.{arith}
 use lib.IntN.{pos}

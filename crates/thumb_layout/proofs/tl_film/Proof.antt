@@ -1,3 +1,4 @@
+-- The text's length, 788 at most, fits (`film-fits`); the sheet is that of `film_sheet`.
 use Prim.Native.Nat.{_≤_}
 use native.Mathlib.Omega.{arith}
 use mir.Syntax.{w32}

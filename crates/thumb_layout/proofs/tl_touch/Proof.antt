@@ -1,7 +1,8 @@
+-- A mask fits, and minus a refusal does.
 use mathlib.Core.Path.{ap, _∙_}
 use mir.Syntax.{w32}
 use mir.Facts.{toZ-pos}
-use Rattle.prelude.proofs.Signed.{stored}
+use Rattle.prelude.proofs.Signed.{read-back}
 use Rattle.thumb_layout.specs.Interface.{numberOf, tlTouchOf}
 use borrow.Author.Needs.{needs}
 use Rattle.thumb_layout.proofs.tl_touch.Statement.{statement}
@@ -17,7 +18,7 @@ returns-2 : tie.Need-returns-2
 unfolding tlTouchOf
 returns-2 c =
     let e = rw (c .before .before .n .given .1) at (c .before .before .before .before .touch .ensures) in
-    stored (c .minus .ok) (c .minus .ensures ∙ ap numberOf e)
+    read-back (c .minus .ok) (c .minus .ensures ∙ ap numberOf e)
 
 pub tl-touch-spec : {M : Type 1} → statement M
 tl-touch-spec =

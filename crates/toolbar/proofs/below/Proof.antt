@@ -1,3 +1,4 @@
+-- By the calls' contracts.
 use borrow.Author.Needs.{needs}
 use Rattle.toolbar.specs.Toolbar.{belowOf}
 use Rattle.toolbar.proofs.below.Statement.{statement}

@@ -1,3 +1,4 @@
+-- The obstacles, and behind them the first i elements.
 use native.Mathlib.Omega.{arith}
 use mathlib.Core.Path.{_≡_}
 use mathlib.Core.List.{_++_, append-assoc, append-nil}
@@ -28,8 +29,12 @@ loop-again c =
     let l = c .before .before in
     let a = l .before .before .before .args in
     let k : length (a .elements .at) ≡ 19 = search sized in
-    let e : a .obstacles .count + (l .loop .i + 1) ≡ a .obstacles .count + l .loop .i + 1 = omega arith in
-    (omega arith, rw length-set (l .loop .inv .1), rw e (put-more (l .loop .at) (a .obstacles .count + l .loop .i) _ (omega arith) (l .loop .inv .2) (rw (add-one, take-suc (a .elements .at) (l .loop .i) anyRect (omega arith), append-assoc))))
+    let e : a .obstacles .count + (l .loop .i + 1) ≡ a .obstacles .count + l .loop .i + 1 = omega arith in (
+      omega arith,
+      rw length-set (l .loop .inv .1),
+      rw e (put-more (l .loop .at) (a .obstacles .count + l .loop .i) _ (omega arith) (l .loop .inv .2)
+          (rw (add-one, take-suc (a .elements .at) (l .loop .i) anyRect (omega arith), append-assoc))),
+    )
 
 returns : tie.Need-returns Inv-loop μ-loop
 returns c =

@@ -3,27 +3,31 @@ use borrow.Author.Needs.{needs}
 use native.Mathlib.Omega.{arith}
 use mathlib.Core.Path.{_≡_, refl, sym, ap, _∙_}
 use mathlib.Core.Logic.{⊎-elim}
+use mathlib.Core.List.{List}
 use native.Mathlib.Nat.{sub-zero}
 use lib.Seq.{length-take-le}
 use borrow.Author.Tests.{not-true, not-false}
 use Rattle.toolbar.proofs.Scan.{Scanned, scan-open, scan-met, scan-next, scan-end, scan-first}
 use lib.ListN.{take, length}
+use Rattle.geometry.specs.declared.Rect.{Rect}
 use Rattle.geometry.specs.Rect.{overlapsOf}
-use Rattle.toolbar.specs.Toolbar.{belowOf, moved, pass, pairOf}
+use Rattle.toolbar.specs.Toolbar.{belowOf, movedBar, pass, pairOf}
 use Prim.Native.Nat.{suc, _+_, _-_, _≤_, zero-le}
 use Rattle.toolbar.proofs.pair.Statement.{statement}
 use Rattle.toolbar.proofs.pair.Tie as tie
 
 abbrev Inv-loop2 : tie.InvT-loop2
 Inv-loop2 x left width top height w h n obstacles bar c₀ met₀ i₀ counter end c met i =
-    Scanned (overlapsOf bar) (λ c. pass left w h (take n obstacles) (n - counter) (moved left w h (take n obstacles) bar c)) bar obstacles n (pairOf x left width top height w h (take n obstacles)) i (pass left w h (take n obstacles) (n - counter) (moved left w h (take n obstacles) bar c)) met
+    let all : List Rect = take n obstacles in
+    let after : Rect → Rect = λ c. pass left w h all (n - counter) (movedBar left w h all bar c) in
+    Scanned (overlapsOf bar) after bar obstacles n (pairOf x left width top height w h all) i (after c) met
 
 abbrev μ-loop2 : tie.MeasureT-loop2
 μ-loop2 x left width top height w h n obstacles bar c₀ met₀ i₀ counter end c met i = n - i
 
 abbrev Inv-loop3 : tie.InvT-loop3
 Inv-loop3 x left width top height w h n obstacles bar c met i candidate blocked₀ j₀ counter end blocked j =
-    Scanned (overlapsOf candidate) (λ _. belowOf bar h c) candidate obstacles n (moved left w h (take n obstacles) bar c) j (belowOf bar h c) blocked
+    Scanned (overlapsOf candidate) (λ _. belowOf bar h c) candidate obstacles n (movedBar left w h (take n obstacles) bar c) j (belowOf bar h c) blocked
 
 abbrev μ-loop3 : tie.MeasureT-loop3
 μ-loop3 x left width top height w h n obstacles bar c met i candidate blocked₀ j₀ counter end blocked j =
@@ -57,9 +61,11 @@ loop2-again c =
     scan-next _ (t .before .loop2 .inv) (t .loop2-test .taken) (c .overlaps .ensures)
 
 loop3-holds : tie.Need-loop3-holds Inv-loop2 μ-loop2 Inv-loop3 μ-loop3 Inv-loop μ-loop
-unfolding moved
+unfolding movedBar
 loop3-holds c =
-    record { rest = record { most = zero-le; size = c .before .before .before .before .loop2 .inv .rest .size; left = rw (← c .before .candidate .ensures, ← c .room .ensures) (scan-first (overlapsOf (c .before .candidate .result)) _ _ _ (c .room .result)) } }
+    let size = c .before .before .before .before .loop2 .inv .rest .size in
+    let candidate = c .before .candidate in
+    record { rest = record { most = zero-le; size = size; left = rw (← candidate .ensures, ← c .room .ensures) (scan-first (overlapsOf (candidate .result)) _ _ _ (c .room .result)) } }
 
 loop3-again : tie.Need-loop3-again Inv-loop2 μ-loop2 Inv-loop3 μ-loop3 Inv-loop μ-loop
 loop3-again c =
@@ -68,15 +74,20 @@ loop3-again c =
 
 loop-again : tie.Need-loop-again Inv-loop2 μ-loop2 Inv-loop3 μ-loop3 Inv-loop μ-loop
 loop-again c =
-    let b = c .before .before in
-    let m = b .before .before .before .before .before in
-    let s = m .before .before .before .before in
-    let e : s .args .n + 1 - (m .before .before .loop .counter + 1) ≡ s .args .n - m .before .before .loop .counter = omega arith in (
+    let tried = c .before .before in
+    let scanned = tried .before .before .before .before .before in
+    let l = scanned .before .before .loop in
+    let s = scanned .before .before .before .before in
+    let e : s .args .n + 1 - (l .counter + 1) ≡ s .args .n - l .counter = omega arith in (
       omega arith,
       refl,
-      m .before .before .loop .inv .2,
-      rw e (scan-met (m .loop2 .inv) (not-false _ (b .before .before .before .if1 .left))
-          ∙ ap (pass _ _ _ _ _) (⊎-elim (λ t. scan-met (b .loop3 .inv) (t .0 .taken) ∙ sym (t .1 .ensures) ∙ sym (t .2)) (λ t. scan-end (b .loop3 .inv) (c .before .loop3-test .left) (t .0 .left) ∙ sym (t .1)) (c .if2 .came))),
+      l .inv .2,
+      rw e (scan-met (scanned .loop2 .inv) (not-false _ (tried .before .before .before .if1 .left))
+          ∙ ap (pass _ _ _ _ _)
+          (⊎-elim
+          (λ t. scan-met (tried .loop3 .inv) (t .0 .taken) ∙ sym (t .1 .ensures) ∙ sym (t .2))
+          (λ t. scan-end (tried .loop3 .inv) (c .before .loop3-test .left) (t .0 .left) ∙ sym (t .1))
+          (c .if2 .came))),
     )
 
 returns : tie.Need-returns Inv-loop2 μ-loop2 Inv-loop3 μ-loop3 Inv-loop μ-loop

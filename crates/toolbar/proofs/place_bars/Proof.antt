@@ -1,3 +1,4 @@
+-- The three cases: controls among the obstacles, no obstacle, cutouts alone.
 use native.Mathlib.Omega.{arith}
 use borrow.Author.Needs.{needs}
 use mathlib.Core.Path.{_≡_, refl}

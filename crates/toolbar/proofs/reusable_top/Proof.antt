@@ -1,3 +1,4 @@
+-- By the call's contract.
 use borrow.Author.Needs.{needs}
 use Rattle.toolbar.proofs.reusable_top.Statement.{statement}
 use Rattle.toolbar.proofs.reusable_top.Tie as tie

@@ -1,3 +1,4 @@
+-- The tests, in the definition's order.
 use Rattle.toolbar.specs.Toolbar.{roomOf}
 use Rattle.toolbar.proofs.room.Statement.{statement}
 use Rattle.toolbar.proofs.room.Tie as tie

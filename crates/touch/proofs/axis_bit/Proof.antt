@@ -1,3 +1,4 @@
+-- `axis_bit`: the definition, by its two tests.
 use borrow.Author.Needs.{needs}
 use Rattle.touch.specs.Touch.{axisBitOf}
 use Rattle.touch.proofs.axis_bit.Statement.{statement}

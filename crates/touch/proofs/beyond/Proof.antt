@@ -1,3 +1,4 @@
+-- `beyond`: the two tests, with what `abs` gives.
 use borrow.Author.Needs.{needs}
 use Rattle.touch.proofs.beyond.Statement.{statement}
 use Rattle.touch.proofs.beyond.Tie as tie

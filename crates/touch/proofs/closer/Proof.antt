@@ -1,3 +1,4 @@
+-- `closer`: the one test.
 use Rattle.touch.proofs.closer.Statement.{statement}
 use Rattle.touch.proofs.closer.Tie as tie
 

@@ -1,3 +1,4 @@
+-- `face_mask`: where both buttons are the same, it does not matter whether the space is free.
 use borrow.Author.Needs.{needs}
 use mathlib.Core.Path.{_≡_, refl, sym}
 use Rattle.prelude.proofs.Booleans.{either}

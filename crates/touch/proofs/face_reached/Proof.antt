@@ -1,3 +1,4 @@
+-- `face_reached`: the two tests in turn.
 use borrow.Author.Needs.{needs}
 use Rattle.touch.proofs.face_reached.Statement.{statement}
 use Rattle.touch.proofs.face_reached.Tie as tie

@@ -6,12 +6,13 @@ use mathlib.Core.Bool.{Bool, true, false, cond}
 use Prim.Native.Nat.{_-_, _<_, _≤_}
 use lib.Bits.{bitOr}
 use lib.Ieee.{nanBits}
-use lib.ListN.{length, take, length-map}
-use Rattle.prelude.proofs.Booleans.{both}
+use lib.ListN.{length, take}
 use Rattle.prelude.proofs.Loops.{fold-next}
 use Rattle.layout.specs.Layout.{controlList}
+use Rattle.layout.proofs.ArrayLaws.{array-lengths}
 use Rattle.touch.specs.declared.Face.{Face}
-use Rattle.touch.specs.Touch.{othersMaskOf, outsideOf, isFreeOf, nearest, maskNearOf}
+use Rattle.touch.specs.Touch.{othersMaskOf, isFreeOf, nearest, maskNearOf}
+use Rattle.touch.proofs.Blockers.{free-outside}
 use Rattle.touch.proofs.mask_near.Statement.{statement}
 use Rattle.touch.proofs.mask_near.Tie as tie
 
@@ -29,10 +30,12 @@ loop-again : tie.Need-loop-again Inv-loop μ-loop
 unfolding othersMaskOf nearest
 loop-again c =
     let l = c .before .before .before .before in
-    let k : length (l .before .before .before .args .l .controls) ≡ 12 = rw length-map at (l .before .before .before .good .0 .1 .1 .1 .1 .0 .1 .0 .1) in
-    let h : l .loop .i < length (l .before .before .before .args .l .controls) = omega arith in
+    let s = l .before .before .before in
+    let arrays = array-lengths (s .args .l) (s .good .0) in
+    let h : l .loop .i < length (s .args .l .controls) = omega arith in
     let v = l .loop .inv in
-    (omega arith, fold-next _ _ _ _ _ h (v .1) refl (c .before .join .ensures), fold-next _ _ _ _ _ h (v .2) refl (c .nearer .ensures .0), fold-next _ _ _ _ _ h (v .3) refl (c .nearer .ensures .1))
+    let others = fold-next _ _ _ _ _ h (v .1) refl (c .before .add-other .ensures) in
+    (omega arith, others, fold-next _ _ _ _ _ h (v .2) refl (c .nearer .ensures .0), fold-next _ _ _ _ _ h (v .3) refl (c .nearer .ensures .1))
 
 -- the nearest of each kind, for the kind of space that it is
 by-space : (free outside : Bool) (f : Bool → Face) {p q : Face} → (free ≡ true → outside ≡ true) → p ≡ f outside → q ≡ f false → cond free (p .mask) (q .mask) ≡ f free .mask
@@ -40,14 +43,15 @@ by-space true outside f o e k = ap (λ (x : Face). x .mask) (e ∙ ap f (o refl)
 by-space false outside f o e k = ap (λ (x : Face). x .mask) k
 
 returns : tie.Need-returns Inv-loop μ-loop
-unfolding maskNearOf isFreeOf
+unfolding maskNearOf
 returns c =
     let l = c .before .before .before in
     let s = l .before .before .before .args in
     let e : l .loop .i ≡ s .l .count = omega arith in
     let v = rw e at (l .loop .inv) in
     let o = l .before .before .outside in
-    let f = by-space (isFreeOf (s .l) (s .x) (s .y)) (o .result) (λ b. nearest (s .x) (s .y) b (s .previous) (controlList (s .l))) (λ h. o .ensures ∙ both (outsideOf (s .l) (s .x) (s .y)) _ h .0) (v .2) (v .3) in
+    let face : Bool → Face = λ b. nearest (s .x) (s .y) b (s .previous) (controlList (s .l)) in
+    let f = by-space (isFreeOf (s .l) (s .x) (s .y)) (o .result) face (λ h. o .ensures ∙ free-outside (s .l) (s .x) (s .y) h) (v .2) (v .3) in
     rw (← c .before .dpad-mask .ensures, ← v .1) (ap (bitOr (bitOr (c .before .dpad-mask .result) (l .loop .others))) (c .face-mask .ensures ∙ f))
 
 pub mask-near-spec : {M : Type 1} → statement M

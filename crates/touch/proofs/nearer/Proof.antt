@@ -49,9 +49,10 @@ returns c =
     let s = i .before .before .args in
     let t = i .before .face-reached .ensures in
     let k = d .before .contains .ensures in
-    let m = d .before .before .mask .ensures in (
+    let m = d .before .before .mask .ensures in
+    let b = bare (s .x) (s .y) (s .c) (s .outside) t k in (
       turn (s .x) (s .y) (s .previous) (s .best .free) (s .c) (s .outside) t (i .if1 .taken) m (d .distance .ensures) (c .before .before .before .closer .ensures),
-      turn (s .x) (s .y) (s .previous) (s .best .taken) (s .c) false (bare (s .x) (s .y) (s .c) (s .outside) t k) (rw (i .if1 .taken, c .before .if2 .taken)) m (d .distance .ensures) (c .closer2 .ensures),
+      turn (s .x) (s .y) (s .previous) (s .best .taken) (s .c) false b (rw (i .if1 .taken, c .before .if2 .taken)) m (d .distance .ensures) (c .closer2 .ensures),
     )
 
 returns-2 : tie.Need-returns-2

@@ -9,12 +9,12 @@ use Rattle.prelude.proofs.Booleans.{both}
 use Rattle.float.specs.MinMax.{absOf}
 use Rattle.hypot.specs.Hypot.{hypotOf}
 use Rattle.hypot.proofs.Cases.{hypot-comm}
-use Rattle.hypot.proofs.AtLeast.{at-least}
+use Rattle.hypot.proofs.AtLeast.{hypot-at-least}
 use Rattle.touch.proofs.off_centre.Statement.{statement}
 use Rattle.touch.proofs.off_centre.Tie as tie
 
 over : (t a b : Float) {r : Bool} → T (fits binary32 a) → T (fits binary32 b) → r ≡ (lt t (absOf a) && eq b b) → r ≡ true → true ≡ lt t (hypotOf a b)
-over t a b A B p q = let h = both (lt t (absOf a)) (eq b b) (sym p ∙ q) in sym (is-true (lt t (hypotOf a b)) (at-least t a b A B (passes _ (h .0)) (passes _ (h .1))))
+over t a b A B p q = let h = both (lt t (absOf a)) (eq b b) (sym p ∙ q) in sym (is-true (lt t (hypotOf a b)) (hypot-at-least t a b A B (passes _ (h .0)) (passes _ (h .1))))
 
 returns : tie.Need-returns
 returns c =

@@ -1,3 +1,4 @@
+-- `other_holds`: the two tests of the definition in turn.
 use borrow.Author.Needs.{needs}
 use Rattle.touch.specs.Touch.{otherHoldsOf}
 use Rattle.touch.proofs.other_holds.Statement.{statement}

@@ -1,10 +1,9 @@
+-- `outside`: the picture, then the d-pad.
 use borrow.Author.Needs.{needs}
-use Rattle.touch.specs.Touch.{outsideOf}
 use Rattle.touch.proofs.outside.Statement.{statement}
 use Rattle.touch.proofs.outside.Tie as tie
 
 pub outside-spec : {M : Type 1} → statement M
-unfolding outsideOf
 outside-spec =
     tie.close
     (tie.spec

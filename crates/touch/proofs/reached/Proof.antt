@@ -1,3 +1,4 @@
+-- `reached`: the tests of the definition in turn, with what `target` gives.
 use borrow.Author.Needs.{needs}
 use Rattle.touch.specs.Touch.{reachedOf}
 use Rattle.touch.proofs.reached.Statement.{statement}

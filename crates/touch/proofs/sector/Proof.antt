@@ -1,3 +1,4 @@
+-- `sector`: the bits of both axes.
 use borrow.Author.Needs.{needs}
 use Rattle.touch.specs.Touch.{sectorOf}
 use Rattle.touch.proofs.sector.Statement.{statement}

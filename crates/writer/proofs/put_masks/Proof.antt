@@ -1,29 +1,32 @@
-use mathlib.Core.Path.{refl, _≡_}
-use lib.ListN.{length, take}
+-- The loop puts one control's mask a turn, each where the one before it ended.
+use mathlib.Core.Path.{refl}
 use mathlib.Core.List.{flatMap}
-use Rattle.prelude.proofs.Loops.{in-array, Rest, goes-on, runs-out}
-use Rattle.writer.specs.Bytes.{shortBytes, maskBytes, stored}
-use Rattle.writer.proofs.Stores.{then-on, length-stored}
+use Rattle.prelude.specs.Lists.{stored}
+use Rattle.prelude.proofs.Loops.{in-array, runs-out}
 use Rattle.layout.specs.Layout.{anyControl}
+use Rattle.wire.proofs.Items.{Putting, puts}
+use Rattle.writer.specs.Bytes.{maskBytes}
+use Rattle.writer.proofs.Length.{length-mask}
 use borrow.Author.Needs.{needs}
 use native.Mathlib.Nat.{add-zero}
 use native.Mathlib.Omega.{arith}
-use Prim.Native.Nat.{_+_, _*_, _-_}
+use Prim.Native.Nat.{_-_}
 use Rattle.writer.proofs.put_masks.Statement.{statement}
 use Rattle.writer.proofs.put_masks.Tie as tie
 
 abbrev Inv-loop : tie.InvT-loop
-Inv-loop out₀ at n controls i₀ out i = (length out ≡ length out₀) × Rest (λ l. stored out (at + 2 * i) (flatMap maskBytes l)) controls n (stored out₀ at (flatMap maskBytes (take n controls))) i
+Inv-loop out₀ at n controls i₀ out i = Putting maskBytes 2 out₀ at controls n out i
 
 abbrev μ-loop : tie.MeasureT-loop
 μ-loop out₀ at n controls i₀ out i = n - i
 
 loop-again : tie.Need-loop-again Inv-loop μ-loop
-unfolding maskBytes shortBytes flatMap
+unfolding maskBytes
 loop-again c =
-    let l = c .before .before .before .before .before .before .before .loop in
-    let put = c .before .before .put-short .ensures in
-    (rw (put, length-stored) (l .inv .0), goes-on anyControl (l .inv .1) (c .before .before .before .before .before .before .loop-test .taken) (then-on _ _ _ _ _ (rw (c .before .before .before .mask .ensures) at put) (omega arith)))
+    let put = c .before .before in
+    let masked = put .before in
+    let entered = masked .before .before .before in
+    puts maskBytes 2 length-mask anyControl (entered .before .loop .inv) (entered .loop-test .taken) (rw (masked .mask .ensures) at (put .put-short .ensures))
 
 pub put-masks-spec : {M : Type 1} → statement M
 unfolding flatMap stored
@@ -32,7 +35,7 @@ put-masks-spec =
     (tie.spec
     Inv-loop
     μ-loop
-    (λ c. (refl, rw add-zero (search (in-array, arith))))
+    (λ c. record { same = refl; rest = rw add-zero (search (in-array, arith)) })
     (λ c. omega arith)
     (λ c. omega arith)
     (λ c. omega arith)
@@ -44,4 +47,4 @@ put-masks-spec =
     (λ c. omega arith)
     loop-again
     (λ c. search needs)
-    (λ c. runs-out (c .before .loop .inv .1) (c .loop-test .left)))
+    (λ c. runs-out (c .before .loop .inv .rest) (c .loop-test .left)))

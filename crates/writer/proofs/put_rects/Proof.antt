@@ -1,30 +1,29 @@
-use mathlib.Core.Path.{refl, _≡_}
-use lib.ListN.{length, take}
+-- The loop puts one rectangle a turn, each where the one before it ended.
+use mathlib.Core.Path.{refl}
 use mathlib.Core.List.{flatMap}
-use Rattle.prelude.proofs.Loops.{in-array, Rest, goes-on, runs-out}
-use Rattle.writer.specs.Bytes.{rectBytes, stored}
-use Rattle.writer.proofs.Length.{length-rect}
-use Rattle.writer.proofs.Stores.{then-on, length-stored}
+use Rattle.prelude.specs.Lists.{stored}
+use Rattle.prelude.proofs.Loops.{in-array, runs-out}
 use Rattle.layout.specs.Layout.{anyRect}
+use Rattle.wire.specs.Wire.{rectBytes}
+use Rattle.wire.proofs.Items.{length-rect, Putting, puts}
 use borrow.Author.Needs.{needs}
 use native.Mathlib.Nat.{add-zero}
 use native.Mathlib.Omega.{arith}
-use Prim.Native.Nat.{_+_, _*_, _-_}
+use Prim.Native.Nat.{_-_}
 use Rattle.writer.proofs.put_rects.Statement.{statement}
 use Rattle.writer.proofs.put_rects.Tie as tie
 
 abbrev Inv-loop : tie.InvT-loop
-Inv-loop out₀ at n rects i₀ out i = (length out ≡ length out₀) × Rest (λ l. stored out (at + 16 * i) (flatMap rectBytes l)) rects n (stored out₀ at (flatMap rectBytes (take n rects))) i
+Inv-loop out₀ at n rects i₀ out i = Putting rectBytes 16 out₀ at rects n out i
 
 abbrev μ-loop : tie.MeasureT-loop
 μ-loop out₀ at n rects i₀ out i = n - i
 
 loop-again : tie.Need-loop-again Inv-loop μ-loop
-unfolding flatMap
 loop-again c =
-    let l = c .before .before .before .before .before .before .loop in
-    let put = c .before .before .put-rect .ensures in
-    (rw (put, length-stored) (l .inv .0), goes-on anyRect (l .inv .1) (c .before .before .before .before .before .loop-test .taken) (then-on _ _ _ _ _ put (rw length-rect (omega arith))))
+    let put = c .before .before in
+    let entered = put .before .before .before in
+    puts rectBytes 16 length-rect anyRect (entered .before .loop .inv) (entered .loop-test .taken) (put .put-rect .ensures)
 
 pub put-rects-spec : {M : Type 1} → statement M
 unfolding flatMap stored
@@ -33,7 +32,7 @@ put-rects-spec =
     (tie.spec
     Inv-loop
     μ-loop
-    (λ c. (refl, rw add-zero (search (in-array, arith))))
+    (λ c. record { same = refl; rest = rw add-zero (search (in-array, arith)) })
     (λ c. omega arith)
     (λ c. omega arith)
     (λ c. omega arith)
@@ -43,4 +42,4 @@ put-rects-spec =
     (λ c. omega arith)
     loop-again
     (λ c. search needs)
-    (λ c. runs-out (c .before .loop .inv .1) (c .loop-test .left)))
+    (λ c. runs-out (c .before .loop .inv .rest) (c .loop-test .left)))

@@ -1,29 +1,42 @@
+-- Either the output is too small and nothing is put, or the three fields are put one after the other: `layout-run`.
 use denote.Ref.{now}
-use mathlib.Core.Path.{_≡_}
 use native.Mathlib.Omega.{arith}
-use lib.ListN.{length, length-map}
-use Rattle.prelude.proofs.Loops.{sized}
-use Rattle.writer.proofs.Stores.{too-small, fits, layout-run}
+use Prim.Native.Nat.{_≤_}
+use lib.ListN.{length}
+use Rattle.layout.proofs.ArrayLaws.{array-lengths}
+use Rattle.writer.proofs.Stores.{too-small, has-room, layout-run}
 use borrow.Author.Needs.{needs}
 use Rattle.writer.proofs.write_layout.Statement.{statement}
 use Rattle.writer.proofs.write_layout.Tie as tie
 
 returns : tie.Need-returns
 returns c =
-    let s = c .before .before .before .before .before .before in
-    let cs : length (s .args .l .controls) ≡ 12 = search sized in
-    let ss : length (s .args .l .sticks) ≡ 2 = rw length-map at (s .good .0 .1 .1 .1 .1 .1 .1 .1 .1 .1 .1 .0 .1 .0 .1) in
-    too-small (s .args .l) (omega arith) (omega arith) (now (s .args .out)) (omega (arith, c .before .before .elements .ensures .1, c .if1 .taken))
+    let counted = c .before .before in
+    let start = counted .before .before .before .before in
+    let arrays = array-lengths (start .args .l) (start .good .0) in
+    too-small (start .args .l) (omega arith) (omega arith) (now (start .args .out)) (omega (arith, counted .elements .ensures .1, c .if1 .taken))
 
 returns-2 : tie.Need-returns-2
 returns-2 c =
-    let s = c .before .before .before .before .before .before .before .before .before .before .before .before .before .before .before .before .before .before .before .before .before .before .before .before .before .before .before .before .before .before in
-    let e = c .before .before .before .before .before .before .before .before .before .before .before .before .before .before .before .before .before .before .before .before .before .before .before .before .before .before .elements .ensures in
-    let cs : length (s .args .l .controls) ≡ 12 = search sized in
-    let ss : length (s .args .l .sticks) ≡ 2 = rw length-map at (s .good .0 .1 .1 .1 .1 .1 .1 .1 .1 .1 .1 .0 .1 .0 .1) in
-    fits (s .args .l) (omega arith) (omega arith) (now (s .args .out)) (omega (arith, e .1)) (c .before .before .before .before .before .before .before .before .before .before .before .before .before .before .before .before .before .before .before .before .before .before .before .before .if1 .left)
-    (layout-run (s .args .l) (omega arith) (omega arith) (now (s .args .out)) (omega (arith, e .1)) (e .0) (c .before .before .before .before .before .before .before .before .before .before .before .before .before .before .before .before .before .before .before .before .before .before .put-head .ensures) (c .before .before .before .before .before .before .before .before .before .before .before .before .before .before .before .before .before .before .put-rect .ensures)
-    (c .before .before .before .before .before .before .before .before .before .before .before .before .before .before .put-head2 .ensures) (c .before .before .before .before .before .before .before .before .before .before .put-rects .ensures) (c .before .before .before .before .before .before .put-head3 .ensures) (c .before .before .put-masks .ensures))
+    let masks = c .before .before in
+    let head3 = masks .before .before .before .before in
+    let rects = head3 .before .before .before .before in
+    let head2 = rects .before .before .before .before in
+    let game = head2 .before .before .before .before in
+    let head1 = game .before .before .before .before in
+    let room = head1 .before .before in
+    let counted = room .before .before in
+    let start = counted .before .before .before .before in
+    let l = start .args .l in
+    let e = counted .elements .ensures in
+    let arrays = array-lengths l (start .good .0) in
+    let cs : l .count ≤ length (l .controls) = omega (arith, start .pre .0) in
+    let ss : l .stickcount ≤ length (l .sticks) = omega (arith, start .pre .1) in
+    let run = layout-run l cs ss (now (start .args .out)) (omega (arith, e .1)) (e .0)
+    (head1 .put-field-head .ensures) (game .put-rect .ensures)
+    (head2 .put-field-head2 .ensures) (rects .put-rects .ensures)
+    (head3 .put-field-head3 .ensures) (masks .put-masks .ensures) in
+    has-room l cs ss (now (start .args .out)) (omega (arith, e .1)) (room .if1 .left) run
 
 pub write-layout-spec : {M : Type 1} → statement M
 write-layout-spec =

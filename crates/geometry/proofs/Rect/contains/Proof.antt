@@ -1,3 +1,4 @@
+-- `contains`: the tests of the definition in its order, up to the first that fails.
 use Rattle.geometry.specs.Rect.{containsOf}
 use Rattle.geometry.proofs.Rect.contains.Statement.{statement}
 use Rattle.geometry.proofs.Rect.contains.Tie as tie

@@ -1,3 +1,4 @@
+-- `fit`: the definition, with what `min` and `new` give.
 use borrow.Author.Needs.{needs}
 use Rattle.geometry.specs.Rect.{fitOf}
 use Rattle.geometry.proofs.Rect.fit.Statement.{statement}

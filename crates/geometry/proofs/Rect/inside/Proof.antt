@@ -1,3 +1,4 @@
+-- `inside`: the tests of the definition in its order, up to the first that fails.
 use Rattle.geometry.specs.Rect.{insideOf}
 use Rattle.geometry.proofs.Rect.inside.Statement.{statement}
 use Rattle.geometry.proofs.Rect.inside.Tie as tie

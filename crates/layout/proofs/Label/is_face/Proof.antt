@@ -1,3 +1,4 @@
+-- `is_face`: each label in turn.
 use borrow.Author.Needs.{needs}
 use Rattle.layout.specs.Label.{isFaceOf}
 use Rattle.layout.proofs.Label.is_face.Statement.{statement}

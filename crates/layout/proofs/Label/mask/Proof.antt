@@ -1,3 +1,4 @@
+-- `mask`: each label in turn.
 use borrow.Author.Needs.{needs}
 use Rattle.layout.specs.Label.{maskOf}
 use Rattle.layout.proofs.Label.mask.Statement.{statement}

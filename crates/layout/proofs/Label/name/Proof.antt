@@ -1,3 +1,4 @@
+-- `name`: the bytes of each label in turn.
 use borrow.Author.Needs.{needs}
 use Rattle.layout.specs.Label.{nameOf, paddedNameOf}
 use Rattle.layout.proofs.Label.name.Statement.{statement}

@@ -1,3 +1,4 @@
+-- `on_psp`: the definition, with what `mask` gives.
 use borrow.Author.Needs.{needs}
 use Rattle.layout.specs.Label.{onPspOf}
 use Rattle.layout.proofs.Label.on_psp.Statement.{statement}

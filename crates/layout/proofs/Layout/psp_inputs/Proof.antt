@@ -1,13 +1,15 @@
+-- `psp_inputs`: the controls passed that a psp has stand in front, and are counted.
 use borrow.Author.Needs.{needs}
 use native.Mathlib.Omega.{arith}
 use mathlib.Core.Path.{_≡_, refl, ap, _∙_}
 use Prim.Native.Nat.{_-_, _<_, _≤_}
 use mathlib.Core.Logic.{⊎-elim}
-use lib.ListN.{length, length-map, length-set, take}
+use lib.ListN.{length, length-set, take}
 use Rattle.prelude.specs.Lists.{retain, compact}
 use Rattle.prelude.proofs.Filters.{put-count, put-list, skip-count, skip-list}
 use Rattle.layout.specs.Layout.{anyControl, controlList}
 use Rattle.layout.specs.Psp.{onPsp, pspInputsOf}
+use Rattle.layout.proofs.ArrayLaws.{array-lengths}
 use Rattle.layout.proofs.Layout.psp_inputs.Statement.{statement}
 use Rattle.layout.proofs.Layout.psp_inputs.Tie as tie
 
@@ -24,12 +26,19 @@ loop-again c =
     let s = l .before .before in
     let cs = s .args .self .controls in
     let i = l .loop .i in
-    let n : length cs ≡ 12 = rw length-map at (s .good .0 .1 .1 .1 .1 .0 .1 .0 .1) in
+    let arrays = array-lengths (s .args .self) (s .good .0) in
     let h : i < length cs = omega arith in
     let f = c .before .on-psp .ensures in
+    let v = l .loop .inv in
     ⊎-elim
-    (λ t. (omega arith, omega arith, ap length (t .1) ∙ simp length-set (l .loop .inv .2), t .2 ∙ put-count onPsp cs i anyControl h f _ (t .0 .taken) (l .loop .inv .3), t .1 ∙ put-list onPsp cs i anyControl h f _ _ (t .0 .taken) (l .loop .inv .3) (l .loop .inv .4)))
-    (λ t. (omega arith, omega arith, ap length (t .1) ∙ l .loop .inv .2, t .2 ∙ skip-count onPsp cs i anyControl h f _ (t .0 .left) (l .loop .inv .3), t .1 ∙ skip-list onPsp cs i anyControl h f _ (t .0 .left) (l .loop .inv .4)))
+    (λ t.
+    let counted = put-count onPsp cs i anyControl h f _ (t .0 .taken) (v .3) in
+    let put = put-list onPsp cs i anyControl h f _ _ (t .0 .taken) (v .3) (v .4) in
+    (omega arith, omega arith, ap length (t .1) ∙ simp length-set (v .2), t .2 ∙ counted, t .1 ∙ put))
+    (λ t.
+    let counted = skip-count onPsp cs i anyControl h f _ (t .0 .left) (v .3) in
+    let kept = skip-list onPsp cs i anyControl h f _ (t .0 .left) (v .4) in
+    (omega arith, omega arith, ap length (t .1) ∙ v .2, t .2 ∙ counted, t .1 ∙ kept))
     (c .if1 .came)
 
 returns : tie.Need-returns Inv-loop μ-loop
@@ -48,7 +57,7 @@ psp-inputs-spec =
     (tie.spec
     Inv-loop
     μ-loop
-    (λ c. (omega arith, omega arith, rw length-map at (c .before .good .0 .1 .1 .1 .1 .0 .1 .0 .1), refl, refl))
+    (λ c. (omega arith, omega arith, array-lengths (c .before .args .self) (c .before .good .0) .0, refl, refl))
     (λ c. omega arith)
     (λ c. omega arith)
     (λ c κs. search needs)

@@ -1,3 +1,4 @@
+-- Field by field the same.
 use mathlib.Core.Path.{refl}
 use Rattle.settings.specs.Settings.{defaultOf}
 use Rattle.settings.proofs.Preset.default.Statement.{statement}

@@ -1,3 +1,4 @@
+-- Fit by fit; an unset one by the test of `untouched`.
 use Rattle.settings.specs.Settings.{pictureFitOf}
 use borrow.Author.Needs.{needs}
 use Rattle.settings.proofs.Preset.picture_fit.Statement.{statement}

@@ -1,3 +1,4 @@
+-- Test by test, each `&&` a branch.
 use Rattle.settings.specs.Settings.{untouchedOf}
 use Rattle.settings.proofs.Preset.untouched.Statement.{statement}
 use Rattle.settings.proofs.Preset.untouched.Tie as tie

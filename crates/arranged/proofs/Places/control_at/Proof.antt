@@ -1,6 +1,0 @@
-use borrow.Author.Needs.{needs}
-use Rattle.arranged.proofs.Places.control_at.Statement.{statement}
-use Rattle.arranged.proofs.Places.control_at.Tie as tie
-
-pub control-at-spec : {M : Type 1} → statement M
-control-at-spec = tie.close (tie.spec (λ c κs. search needs) (λ c. rw (← c .at .ensures)))

@@ -1,9 +1,0 @@
-use mathlib.Core.Path.{refl}
-use borrow.Author.Needs.{needs}
-use Rattle.arranged.specs.Places.{placedOf}
-use Rattle.arranged.proofs.placed.Statement.{statement}
-use Rattle.arranged.proofs.placed.Tie as tie
-
-pub placed-spec : {M : Type 1} → statement M
-unfolding placedOf
-placed-spec = tie.close (tie.spec (λ c κs. search needs) (λ c. (rw (← c .place-all .ensures), refl, refl)))

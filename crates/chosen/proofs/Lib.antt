@@ -1,5 +1,0 @@
-pub mod ChosenCases
-pub mod ChosenLabels
-pub mod MaximumRanges
-pub mod ChosenRanges
-pub mod Keys

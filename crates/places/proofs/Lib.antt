@@ -1,0 +1,2 @@
+pub mod PlaceLabels
+pub mod PlaceRanges

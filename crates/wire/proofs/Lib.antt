@@ -1,0 +1,3 @@
+pub mod Items
+pub mod Rects
+pub mod ReadBack

@@ -1,1 +1,0 @@
-// No code: specs/ has how a written layout is read, proofs/ that reading gives back what was written.

@@ -1,0 +1,4 @@
+pub mod ReadBack
+mod PlusZero
+pub mod WidestWritten
+pub mod Owned
