@@ -10,5 +10,7 @@ use Rattle.touch.specs.Touch.{axisBitOf, sectorOf, dpadMaskOf, othersMaskOf, ne
 use Rattle.cases.specs.Cases.{answer, cases}
 
 pub as-said : map (λ c. answer (c .0)) cases ≡ map (λ c. c .1) cases
-unfolding answer cases ofBits round add sub mul div lt le eq ne neg minOf maxOf absOf containsOf overlapsOf hypotOf withinOf betterOf narrowOf widthAt tryAt centeredOf narrowSideOf sideWidthAt trySideAt tryColumn sideOf clearPictureAspectOf axisBitOf sectorOf dpadMaskOf othersMaskOf nearest maskNearOf
+unfolding answer cases ofBits round add sub mul div lt le eq ne neg minOf maxOf absOf containsOf overlapsOf hypotOf withinOf betterOf narrowOf widthAt
+    tryAt centeredOf narrowSideOf sideWidthAt trySideAt tryColumn sideOf clearPictureAspectOf axisBitOf sectorOf dpadMaskOf othersMaskOf nearest
+    maskNearOf
 as-said = refl

@@ -53,7 +53,12 @@ written = layoutBytes (withGame (settingsLayoutOf given) emptyRect)
 
 -- for the reader: no proof cites this law. The rival is 400 by 300, in the middle of the area across, and 200 from its top.
 pub empty-refused : (n : ℕ) (rest : List ℕ) → WidestWritten order (accepted n) (written ++ rest) → ⊥
-unfolding readOrderOf fields must readFieldOf fromByteOf readScreenOf readFitOf numberAtOf fitMarkOf absentOf defaultOf inLimitsOf screenInLimitsOf settingsLayoutOf layoutInOf laidOutOf settledOf rowAllowedOf pictureFitOf areaOf arrangementOf bandOrRailsOf controllerBandOf findRoomOf measureBandOf plainPlacesOf bandedOf arrangedOf finishedOf dockedOf controllerOf placedOf atOf placeFacesOf wellFacesOf withSavedOf avoidCutoutsOf anchorToolbarOf avoidedOf pairOf pass placeGameInAspectOf elementsOf mapFirst minOf maxOf ofBits toBits add sub mul div le ne layoutBytes headBytes shortBytes rectBytes numberBytes writtenBitsOf flatMap fieldValue writtenGame writtenElements rects rectAtOf magnitude sixteenth
+unfolding readOrderOf fields must readFieldOf fromByteOf readScreenOf readFitOf numberAtOf fitMarkOf absentOf defaultOf inLimitsOf screenInLimitsOf
+    settingsLayoutOf layoutInOf laidOutOf settledOf rowAllowedOf pictureFitOf areaOf arrangementOf bandOrRailsOf controllerBandOf findRoomOf
+    measureBandOf plainPlacesOf bandedOf arrangedOf finishedOf dockedOf controllerOf placedOf atOf placeFacesOf wellFacesOf withSavedOf
+    avoidCutoutsOf anchorToolbarOf avoidedOf pairOf pass placeGameInAspectOf elementsOf mapFirst minOf maxOf ofBits toBits add sub mul div le ne
+    layoutBytes headBytes shortBytes rectBytes numberBytes writtenBitsOf flatMap fieldValue writtenGame writtenElements rects rectAtOf magnitude
+    sixteenth
 empty-refused n rest k =
     k given n order-accepted refl (record { fit = refl; apart = refl; whole = refl })
     .widest 1 (zero-lt-suc 0) (record { x = pos (300 * 2 ^ 149); y = pos (200 * 2 ^ 149); w = pos (400 * 2 ^ 149); h = pos (300 * 2 ^ 149) })

@@ -11,6 +11,7 @@ use Rattle.lines.specs.Line.{nameText, lineIn, fieldText, lineText, Prin
 use Rattle.lines.proofs.LineLaws.{length-parts}
 use Rattle.lines.proofs.Numbers.{lineBack, kept-line}
 use Rattle.lines.proofs.Puts.{one, put-after, put-ends, put-length}
+use borrow.Author.Needs.{needs}
 use Rattle.lines.proofs.put_line.Statement.{statement}
 use Rattle.lines.proofs.put_line.Tie as tie
 
@@ -50,20 +51,23 @@ slice-aggregate-put-text c =
 put-field-requires : tie.Need-put-field-requires
 put-field-requires c κs =
     let s = entry (c .before .before .before .before) in
-    (printable s .x, omega (arith, put-ends, put-length, room s))
+    let p = printable s in
+    (search needs, omega (arith, put-ends, put-length, room s))
 
 put-field-requires-2 : tie.Need-put-field-requires-2
 put-field-requires-2 c κs =
     let x-put = c .before .before .before .before in
     let s = entry (at-x x-put) in
-    (printable s .y, omega (arith, put-ends, put-length, room s))
+    let p = printable s in
+    (search needs, omega (arith, put-ends, put-length, room s))
 
 put-field-requires-3 : tie.Need-put-field-requires-3
 put-field-requires-3 c κs =
     let y-put = c .before .before .before .before in
     let x-put = at-y y-put in
     let s = entry (at-x x-put) in
-    (printable s .w, omega (arith, put-ends, put-length, room s))
+    let p = printable s in
+    (search needs, omega (arith, put-ends, put-length, room s))
 
 put-field-requires-4 : tie.Need-put-field-requires-4
 put-field-requires-4 c κs =
@@ -71,7 +75,8 @@ put-field-requires-4 c κs =
     let y-put = at-w w-put in
     let x-put = at-y y-put in
     let s = entry (at-x x-put) in
-    (printable s .h, omega (arith, put-ends, put-length, room s))
+    let p = printable s in
+    (search needs, omega (arith, put-ends, put-length, room s))
 
 -- the line feed is the last of what is asked room for
 feed-within : (h-put : tie.After-put-field4) → h-put .put-field4 .result + 1 ≤ length (now (entry (at-x (at-y (at-w (at-h h-put)))) .args .out))
