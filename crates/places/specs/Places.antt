@@ -12,7 +12,7 @@ use Rattle.layout.specs.declared.Label.{Label}
 use Rattle.layout.specs.declared.Label.the-variants.{Tri, O, X, Sq, L1, L2, R2, R1, Select, Start, L3, R3}
 use Rattle.layout.specs.declared.Layout.{Layout}
 use Rattle.layout.specs.Labels.{analogLabels}
-use Rattle.layout.specs.Layout.{control, withBounds, emptyLayout, withController, withControls}
+use Rattle.layout.specs.Layout.{control, emptyLayout, withController, withControls}
 use Rattle.places.specs.declared.Faces.{Faces}
 use Rattle.places.specs.declared.Places.{Places}
 
@@ -71,7 +71,7 @@ analogControllerOf p dpad left right = controllerOf p dpad 12 (left ∷ right �
 
 -- a control at the place of its label
 abbrev pub placedControl : Places → Control → Control
-placedControl p c = withBounds c (atOf p (c .label))
+placedControl p c = controlAtOf p (c .label)
 
 -- the layout with each of its controls at the place of its label
 unfoldable pub placedOf : Layout → Places → Layout

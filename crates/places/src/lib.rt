@@ -136,7 +136,7 @@ fn place_all(controls: [Control; 12], count: usize, places: Places) -> [Control;
     for i in 0..count {
         let c = out[i];
         let label = c.label;
-        out[i] = c.with_bounds(places.at(label));
+        out[i] = places.control_at(label);
     }
     out
 }

@@ -6,13 +6,12 @@ use native.Mathlib.Nat.{zero-lt-suc}
 use native.Mathlib.Omega.{arith}
 use lib.Ieee.{Float}
 use Rattle.prelude.proofs.Booleans.{either}
-use Rattle.prelude.specs.Each.{Each, _&_}
-use Rattle.prelude.proofs.EachLaws.{each-take, each-append, each-map}
+use Rattle.prelude.specs.Each.{Each}
 use Rattle.float.specs.Float.{_⊕_, k1}
 use Rattle.geometry.specs.declared.Rect.{Rect}
 use Rattle.geometry.specs.declared.Offset.{Offset}
 use Rattle.layout.specs.declared.Layout.{Layout}
-use Rattle.layout.specs.Layout.{controlList, boundsOf, elementsOf}
+use Rattle.layout.specs.Layout.{elementsOf}
 use Rattle.numerics.specs.Value.{Whole, AtMost}
 use Rattle.numerics.specs.Rects.{maxArea, Element, Area}
 use Rattle.numerics.proofs.Bounds.{add-most, most-size, most-more, between-most}

@@ -1,10 +1,8 @@
 -- After i turns the first i controls are at their places (`Done`).
-use mathlib.Core.Path.{ap, _∙_}
 use borrow.Author.Needs.{needs}
-use lib.ListN.{getD}
 use Rattle.prelude.specs.Lists.{mapFirst}
 use Rattle.prelude.proofs.Loops.{sized, Done, all-done, mapFirst-zero, changes}
-use Rattle.layout.specs.Layout.{anyControl, withBounds}
+use Rattle.layout.specs.Layout.{anyControl}
 use Rattle.places.specs.Places.{placedControl}
 use native.Mathlib.Omega.{arith}
 use Prim.Native.Nat.{_-_}
@@ -18,9 +16,7 @@ abbrev μ-loop : tie.MeasureT-loop
 μ-loop count places out₀ i₀ out i = count - i
 
 loop-again : tie.Need-loop-again Inv-loop μ-loop
-loop-again c =
-    let l = c .before .before .before .before .loop in
-    changes _ _ anyControl (l .inv) (omega arith) (c .with-bounds .ensures ∙ ap (withBounds (getD (l .out) (l .i) anyControl)) (c .before .at .ensures))
+loop-again c = changes _ _ anyControl (c .before .before .before .loop .inv) (omega arith) (c .control-at .ensures)
 
 pub place-all-spec : {M : Type 1} → statement M
 place-all-spec =
@@ -31,7 +27,6 @@ place-all-spec =
     (λ c. search (sized, mapFirst-zero, arith))
     (λ c. omega arith)
     (λ c. omega arith)
-    (λ c κs. search needs)
     (λ c κs. search needs)
     (λ c. omega arith)
     (λ c. omega arith)
