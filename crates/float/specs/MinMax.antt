@@ -1,5 +1,5 @@
--- Rust's min, max, clamp and abs of f32.
-use mathlib.Core.Bool.{cond, false}
+-- Rust's min, max, clamp, abs and is_finite of f32.
+use mathlib.Core.Bool.{Bool, cond, false}
 use lib.Ieee.{Float, nan, inf, fin, lt, ne}
 
 -- The lesser: the first on a tie, and the other where one is NaN.
@@ -18,3 +18,6 @@ unfoldable pub absOf : Float → Float
 absOf nan = nan
 absOf (inf s) = inf false
 absOf (fin s m e) = fin false m e
+
+unfoldable pub isFiniteOf : Float → Bool
+isFiniteOf x = lt (absOf x) (inf false)

@@ -3,7 +3,7 @@ ghost use mathlib.Core.Path.{_≡_};
 ghost use mathlib.Core.Bool.{cond};
 ghost use lib.Dec.{T};
 ghost use lib.Ieee.{binary32, le, ofBits, toBits};
-ghost use Rattle.float.specs.MinMax.{minOf, maxOf, clampOf, absOf};
+ghost use Rattle.float.specs.MinMax.{minOf, maxOf, clampOf, absOf, isFiniteOf};
 
 // Rust's `std::f32::consts::SQRT_2`.
 pub const SQRT_2: f32 = 1.41421356237309504880;
@@ -46,6 +46,12 @@ pub fn abs(x: f32) -> f32
     ensures { λ r. ⌜ r ≡ absOf x ⌝ }
 {
     pick(x < 0.0, -x, pick(x == 0.0, 0.0, x))
+}
+
+pub fn is_finite(x: f32) -> bool
+    ensures { λ r. ⌜ r ≡ isFiniteOf x ⌝ }
+{
+    abs(x) < f32::from_bits(0x7f80_0000)
 }
 
 // The bit pattern of x; every NaN has 7FC00000.

@@ -1,6 +1,9 @@
 -- `Rect` of input.rs.
 use mathlib.Core.Bool.{Bool, _&&_}
+use mathlib.Core.List.{List, _++_}
+use Prim.Native.Nat.{ℕ, _-_}
 use lib.Ieee.{Float, binary32, fits, lt, le}
+use lib.ListN.{replicate}
 use Rattle.float.specs.Float.{_⊕_, _⊖_, _⊗_, _⊘_, k0, k0·01, k2}
 use Rattle.float.specs.MinMax.{minOf, absOf}
 use Rattle.geometry.specs.declared.Rect.{Rect}
@@ -15,6 +18,10 @@ shiftedOf r dx dy = newOf (r .x ⊕ dx) (r .y ⊕ dy) (r .w) (r .h)
 -- `Rect::default()`
 abbrev pub emptyRect : Rect
 emptyRect = newOf k0 k0 k0 k0
+
+-- n rectangles in an array of `size`, with zeros behind them
+abbrev pub rectArray : ℕ → ℕ → List Rect → List Rect
+rectArray size n l = l ++ replicate (size - n) emptyRect
 
 -- Half-open: the left and upper edges belong to the rectangle, the right and lower ones do not.
 unfoldable pub containsOf : Rect → Float → Float → Bool

@@ -8,7 +8,7 @@ use lib.IntN.{pos}
 use lib.Ieee.{ofBits, toBits, add, sub, mul, div, le, ne}
 use Rattle.prelude.specs.Answer.{Answer, accepted, refused, must}
 use Rattle.prelude.specs.Each.{_&_}
-use Rattle.prelude.specs.Lists.{mapFirst}
+use Rattle.prelude.specs.Lists.{mapFirst, tabulate}
 use Rattle.float.specs.MinMax.{minOf, maxOf}
 use Rattle.geometry.specs.Rect.{emptyRect}
 use Rattle.layout.specs.Layout.{withGame, elementsOf}
@@ -22,9 +22,9 @@ use Rattle.cutouts.specs.Cutouts.{avoidCutoutsOf}
 use Rattle.saved.specs.Saved.{withSavedOf}
 use Rattle.settings.specs.declared.Settings.{Settings}
 use Rattle.places.specs.Places.{placeFacesOf, wellFacesOf, atOf, controllerOf, placedOf}
-use Rattle.settings.specs.Settings.{defaultOf, absentOf, pictureFitOf, inLimitsOf, screenInLimitsOf}
-use Rattle.wire.specs.Wire.{numberAtOf, rectAtOf, rects, fieldValue, shortBytes, writtenBitsOf, numberBytes, rectBytes, headBytes}
-use Rattle.reader.specs.Order.{fitMarkOf, readScreenOf, readFitOf, fromByteOf, readFieldOf, fields, readOrderOf}
+use Rattle.settings.specs.Settings.{defaultOf, absentOf, fitMarkOf, pictureFitOf, inLimitsOf, screenInLimitsOf}
+use Rattle.wire.specs.Wire.{numberAtOf, rectAtOf, fieldValue, shortBytes, writtenBitsOf, numberBytes, rectBytes, headBytes}
+use Rattle.reader.specs.Order.{readScreenOf, readFitOf, fromByteOf, readFieldOf, fields, readOrderOf}
 use Rattle.writer.specs.Bytes.{layoutBytes}
 use Rattle.written_layout.specs.Written.{writtenGame, writtenElements}
 use Rattle.arrangement_choice.specs.Choice.{arrangementOf, bandOrRailsOf, areaOf}
@@ -57,7 +57,7 @@ unfolding readOrderOf fields must readFieldOf fromByteOf readScreenOf readFitOf 
     settingsLayoutOf layoutInOf laidOutOf settledOf rowAllowedOf pictureFitOf areaOf arrangementOf bandOrRailsOf controllerBandOf findRoomOf
     measureBandOf plainPlacesOf bandedOf arrangedOf finishedOf dockedOf controllerOf placedOf atOf placeFacesOf wellFacesOf withSavedOf
     avoidCutoutsOf anchorToolbarOf avoidedOf pairOf pass placeGameInAspectOf elementsOf mapFirst minOf maxOf ofBits toBits add sub mul div le ne
-    layoutBytes headBytes shortBytes rectBytes numberBytes writtenBitsOf flatMap fieldValue writtenGame writtenElements rects rectAtOf magnitude
+    layoutBytes headBytes shortBytes rectBytes numberBytes writtenBitsOf flatMap fieldValue writtenGame writtenElements tabulate rectAtOf magnitude
     sixteenth
 empty-refused n rest k =
     k given n order-accepted refl (record { fit = refl; apart = refl; whole = refl })

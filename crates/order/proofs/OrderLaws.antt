@@ -19,7 +19,8 @@ use Rattle.settings.specs.declared.Settings.{Settings}
 use Rattle.settings.specs.Settings.{topsInLimitsOf}
 use Rattle.reader.proofs.Accepted.{accepted-order, refused-order, order-f32}
 use Rattle.reader.specs.Order.{readOrderOf}
-use Rattle.writer.specs.Bytes.{layoutBytes, roomFor, writeLayoutOf, outputOf}
+use Rattle.wire.specs.Wire.{roomFor}
+use Rattle.writer.specs.Bytes.{layoutBytes, writeLayoutOf, outputOf}
 use Rattle.writer.proofs.Length.{lengthFor, length-layout}
 use Rattle.written_layout.specs.Written.{LayoutIsF32}
 use Rattle.written_layout.proofs.WidestWritten.{widest-written}

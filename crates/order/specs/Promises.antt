@@ -9,7 +9,7 @@ use Rattle.settings.specs.declared.Preset.{Preset}
 use Rattle.settings.specs.declared.Settings.{Settings}
 use Rattle.settings.specs.Settings.{topsInLimitsOf}
 use Rattle.reader.specs.Order.{readOrderOf}
-use Rattle.writer.specs.Bytes.{roomFor}
+use Rattle.wire.specs.Wire.{roomFor}
 use Rattle.order.specs.Orders.{layoutOf, viewportOf}
 
 -- "It takes 285 bytes standard, 353 analog, 265 psp."

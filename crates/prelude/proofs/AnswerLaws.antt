@@ -1,4 +1,4 @@
--- Laws of answers: accepted is not refused; where a test was met; where a chain of answers is refused, or is the same as another.
+-- Laws of answers: accepted is not refused; where a test was met, and where it was not; where a chain of answers is refused, or is the same as another.
 use mathlib.Core.Path.{_≡_, refl, sym}
 use mathlib.Core.Bool.{Bool, true, false}
 use Prim.Native.Nat.{ℕ}
@@ -12,6 +12,12 @@ pub must-met : {A : Type 0} (test : Bool) (n : ℕ) (a : Answer A) {x : A} → m
 unfolding must
 must-met true n a e = (refl, e)
 must-met false n a e = absurd (never (sym e))
+
+-- an answer behind a test: the refusal is the test's, or the answer's own
+pub must-refused : {A : Type 0} (C : ℕ → Type 0) (test : Bool) (k : ℕ) (a : Answer A) {n : ℕ} → C k → (a ≡ refused n → C n) → must test k a ≡ refused n → C n
+unfolding must
+must-refused C true k a c own e = own e
+must-refused C false k a {n} c own e = let same : k ≡ n = cc in rw (← same) c
 
 pub refused-then : {A B : Type 0} (C : Type 0) (a : Answer A) {f : A → Answer B} {n : ℕ} → (a ≡ refused n → C) → ((x : A) → f x ≡ refused n → C) → andThen a f ≡ refused n → C
 refused-then C (accepted x) g h e = h x e

@@ -1,12 +1,13 @@
 -- What holds of each element: of one, of a part of a list, of lists joined, of those that pass a test, of the first ones changed, and along a fold.
+use mathlib.Core.Path.{_≡_, refl}
 use mathlib.Core.Bool.{Bool, true, false, not, cond}
 use mathlib.Core.List.{List, [], _∷_, _++_, map, foldl}
 use Prim.Native.Nat.{ℕ, zero, suc, _<_}
 use native.Mathlib.Omega.{arith}
 use lib.Dec.{T}
 use lib.ListN.{length, take, drop, getD, set}
-use Rattle.prelude.proofs.Booleans.{either}
-use Rattle.prelude.specs.Lists.{mapFirst, replaceFirst, filterMap, retain, compact}
+use Rattle.prelude.proofs.Booleans.{either, both}
+use Rattle.prelude.specs.Lists.{allOf, mapFirst, replaceFirst, filterMap, retain, compact}
 use Rattle.prelude.specs.Each.{Each}
 
 module _ {A : Type 0} (C : A → Type 0) where
@@ -54,6 +55,17 @@ module _ {A : Type 0} (C D : A → Type 0) where
   pub each-both : (xs : List A) → Each C xs → Each D xs → Each (λ x. C x × D x) xs
   each-both [] e f = tt
   each-both (x ∷ xs) e f = ((e .0, f .0), each-both xs (e .1) (f .1))
+
+-- a test that each passes
+pub all-each : {A : Type 0} (p : A → Bool) (l : List A) → allOf p l ≡ true → Each (λ x. p x ≡ true) l
+unfolding allOf
+all-each p [] e = tt
+all-each p (x ∷ l) e = let b = both (p x) (allOf p l) e in (b .0, all-each p l (b .1))
+
+pub each-all : {A : Type 0} (p : A → Bool) (l : List A) → Each (λ x. p x ≡ true) l → allOf p l ≡ true
+unfolding allOf
+each-all p [] e = refl
+each-all p (x ∷ l) e = rw (e .0) (each-all p l (e .1))
 
 -- ---- those that pass a test
 module _ {A B : Type 0} (p : A → Bool) (f : A → B) (C : A → Type 0) where

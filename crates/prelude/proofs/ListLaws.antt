@@ -1,4 +1,4 @@
--- Laws of lists that pass a test, of a change of the first elements in place, of no element, of ranges and elements with their indices, and of two lists as one.
+-- Laws of lists that pass a test, of a change of the first elements in place, of no element, of ranges, of a function's values, of elements with their indices, and of two lists as one.
 use mathlib.Core.Path.{_≡_, refl, ap, ap₂, sym, subst, _∙_}
 use mathlib.Core.Bool.{Bool, true, false, cond}
 use mathlib.Core.List.{List, [], _∷_, _++_, map, zipWith}
@@ -7,10 +7,10 @@ use native.Mathlib.Nat.{le-suc, le-trans, zero-add, suc-add, add-zero, add-suc, 
 use native.Mathlib.Omega.{arith}
 use lib.Dec.{T, eqb, eqb·suc-zero}
 use lib.Ieee.Bits.{is-true}
-use lib.ListN.{length, take, drop, getD}
+use lib.ListN.{length, take, drop, getD, length-append}
 use lib.Seq.{take-nil, take-at, length-front, length-take-le}
 use Rattle.prelude.proofs.Booleans.{either, by-test, both}
-use Rattle.prelude.specs.Lists.{allOf, isEmpty, mapFirst, replaceFirst, find, retain, enumerateFrom, countFrom, range}
+use Rattle.prelude.specs.Lists.{allOf, isEmpty, mapFirst, replaceFirst, find, retain, enumerateFrom, tabulate, countFrom, range}
 
 module _ {A B : Type 0} (f : A → B) where
   -- one element more, if a test holds
@@ -84,6 +84,11 @@ length-range n = rw sub-zero (length-count 0 n)
 
 pub range-at : (n i : ℕ) → i < n → getD (range 0 n) i 0 ≡ i
 range-at n i h = rw (sub-zero, count-at 0 n i h, zero-add)
+
+pub length-tabulate : {A : Type 0} (f : ℕ → A) (n : ℕ) → length (tabulate f n) ≡ n
+unfolding tabulate
+length-tabulate f zero = refl
+length-tabulate f (suc n) = length-append (tabulate f n) (f n ∷ []) ∙ rw (length-tabulate f n) (omega arith)
 
 -- ---- elements with their indices
 module _ {A : Type 0} where

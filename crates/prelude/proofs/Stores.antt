@@ -1,13 +1,14 @@
 -- What stands at the front of an array after stores, runs of stores one after the other, and an array of two.
 use mathlib.Core.Path.{_≡_, refl, ap, sym, _∙_}
 use mathlib.Core.List.{List, [], _∷_, _++_, map, map-append, append-assoc}
-use Prim.Native.Nat.{ℕ, suc, _+_, _<_, _≤_}
+use Prim.Native.Nat.{ℕ, suc, _+_, _-_, _<_, _≤_}
 use native.Mathlib.Nat.{zero-add, add-suc}
 use native.Mathlib.Numerals.{add-one}
 use native.Mathlib.Omega.{arith}
-use lib.ListN.{length, take, drop, getD, set}
+use lib.ListN.{length, take, drop, getD, set, replicate}
 use lib.Seq.{take-suc, take-suc-set, take-append-le, take-append-add, length-take-le, sets, sets-eq, length-sets, set-at, append-snoc, drop-cons}
-use Rattle.prelude.specs.Lists.{replaceFirst, stored}
+use Rattle.prelude.specs.Lists.{replaceFirst, tabulate, stored}
+use Rattle.prelude.proofs.ListLaws.{length-tabulate}
 use Rattle.prelude.proofs.Loops.{Done, does}
 
 -- one more behind the first n
@@ -53,6 +54,14 @@ module _ {A : Type 0} where
       → Done (λ j. replaceFirst j new old) n k (set out i v) (i + 1)
   replaces new old d {i = i} {v} r h a b e =
       does v r h (rw (r .is, e, add-one, take-suc new i d a, append-snoc, drop-cons old i d b) (set-at (take i new) (getD old i d) (drop (suc i) old) (getD new i d) i (length-take-le i new (omega arith))))
+
+  -- a turn of a loop that stores f i at i, into an array of z
+  pub fills : (f : ℕ → A) (z : A) (size i : ℕ) → i < size → set (tabulate f i ++ replicate (size - i) z) i (f i) ≡ tabulate f (i + 1) ++ replicate (size - (i + 1)) z
+  unfolding tabulate
+  fills f z size i h =
+      let e : size - i ≡ suc (size - suc i) = omega arith in
+      let rest = replicate (size - suc i) z in
+      rw (add-one, e) (set-at (tabulate f i) z rest (f i) i (length-tabulate f i) ∙ sym (append-snoc (tabulate f i) (f i) rest))
 
 -- ---- runs of stores: at i, i + 1 and so on
 pub stored-run : (l : List ℕ) (i a : ℕ) (vs : List ℕ) → store (set l i a) i 1 vs ≡ stored l i (a ∷ vs)

@@ -10,6 +10,11 @@ pub data Answer (A : Type 0) : Type 0 where
 unfoldable pub must : {A : Type 0} → Bool → ℕ → Answer A → Answer A
 must test number answer = cond test answer (refused number)
 
+-- the number of a refusal, 0 for none
+abbrev pub refusalOf : {A : Type 0} → Answer A → ℕ
+refusalOf (accepted x) = 0
+refusalOf (refused n) = n
+
 -- what f makes of an accepted value
 abbrev pub andThen : {A B : Type 0} → Answer A → (A → Answer B) → Answer B
 andThen (accepted x) f = f x

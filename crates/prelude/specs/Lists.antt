@@ -53,6 +53,11 @@ module _ {A : Type 0} where
   reduce f none [] = none
   reduce f none (x ∷ xs) = foldl f x xs
 
+  -- f of each number below n
+  unfoldable pub tabulate : (ℕ → A) → ℕ → List A
+  tabulate f zero = []
+  tabulate f (suc n) = tabulate f n ++ (f n ∷ [])
+
   -- each element with its index, the first one's being i
   abbrev pub enumerateFrom : ℕ → List A → List (ℕ × A)
   enumerateFrom i [] = []

@@ -1,4 +1,4 @@
--- An accepted order gives settings in document 01's limits, and each number that has limits is a value of binary32; a refused one has a number from 1 to 7.
+-- An accepted order gives settings in document 01's limits, and each number is a value of binary32; a refused one has a number from 1 to 7.
 use mathlib.Core.Path.{_≡_, refl}
 use mathlib.Core.Bool.{Bool, true, false, _&&_, _||_}
 use mathlib.Core.List.{List, [], _∷_}
@@ -20,6 +20,7 @@ use Rattle.layout.specs.declared.Cutouts.{Cutouts}
 use Rattle.layout.specs.Layout.{cutoutList}
 use Rattle.settings.specs.declared.Settings.{Settings}
 use Rattle.settings.specs.Settings.{defaultOf, absentOf, least, inLimitsOf, screenInLimitsOf, rectInLimitsOf, placeInLimitsOf, cutoutsInLimitsOf, acceptedOf, IsF32}
+use Rattle.settings.proofs.Accepted.{parts-accepted}
 use Rattle.wire.specs.Wire.{shortOf, numberAtOf, rectAtOf, filled}
 use Rattle.wire.proofs.Rects.{bits-f32, number-f32, rect-f32, filled-f32}
 use Rattle.reader.specs.declared.Tag.{Tag}
@@ -169,10 +170,9 @@ limits bytes =
     parts _ _ _ _ _ absent-limits (λ v e. (e, default-picture (wide v) (high v) e)) (λ v e. e) (λ v e. e) (λ v n few e. (few, e)) (λ v n few. few) bytes
 
 pub accepted-order : (bytes : List ℕ) {s : Settings} → readOrderOf bytes ≡ accepted s → acceptedOf s ≡ true
-unfolding acceptedOf
-accepted-order bytes e =
+accepted-order bytes {s} e =
     let q = holds-of InLimits (limits bytes) e in
-    rw (q .screen, q .picture, q .place, q .cutouts .0, q .cutouts .1, q .saved)
+    parts-accepted s (record { screen = q .screen; picture = q .picture; place = q .place; few-cutouts = q .cutouts .0; cutouts = q .cutouts .1; few-saved = q .saved })
 
 pub refused-order : (bytes : List ℕ) {n : ℕ} → readOrderOf bytes ≡ refused n → (0 < n) × (n ≤ 7)
 refused-order bytes {n} e =
@@ -187,15 +187,15 @@ default-f32 w h p q = let one = bits-f32 0x3f80_0000 in rw (bits-f32 0, raised (
 abbrev InF32 : Settings → Type 0
 InF32 = Parts (λ w h. (fits binary32 w ≡ true) × (fits binary32 h ≡ true)) (λ r. rectIsF32 r ≡ true)
     (λ scale offset. (fits binary32 scale ≡ true) × (fits binary32 (offset .x) ≡ true) × (fits binary32 (offset .y) ≡ true))
-    (λ c. allOf rectIsF32 (cutoutList c) ≡ true) (λ l n. Unit {0})
+    (λ c. allOf rectIsF32 (cutoutList c) ≡ true) (λ l n. allOf rectIsF32 (take n l) ≡ true)
 
 absent-f32 : InF32 absentOf
 unfolding absentOf defaultOf rectIsF32 allOf fits ofBits
-absent-f32 = record { screen = (refl, refl); picture = refl; place = (refl, refl, refl); cutouts = refl; saved = tt }
+absent-f32 = record { screen = (refl, refl); picture = refl; place = (refl, refl, refl); cutouts = refl; saved = refl }
 
 pub order-f32 : (bytes : List ℕ) {s : Settings} → readOrderOf bytes ≡ accepted s → IsF32 s
 order-f32 bytes e =
     let q = holds-of InF32
     (parts _ _ _ _ _ absent-f32 (λ v _. ((number-f32 v 0, number-f32 v 1), default-f32 (wide v) (high v) (number-f32 v 0) (number-f32 v 1))) (λ v _. rect-f32 v 0)
-    (λ v _. (number-f32 v 0, number-f32 v 1, number-f32 v 2)) (λ v n _ _. filled-f32 16 v n) (λ v n _. tt) bytes) e in
-    record { w = q .screen .0; h = q .screen .1; picture = q .picture; scale = q .place .0; across = q .place .1; down = q .place .2; cutouts = q .cutouts }
+    (λ v _. (number-f32 v 0, number-f32 v 1, number-f32 v 2)) (λ v n _ _. filled-f32 16 v n) (λ v n _. filled-f32 32 v n) bytes) e in
+    record { w = q .screen .0; h = q .screen .1; picture = q .picture; scale = q .place .0; across = q .place .1; down = q .place .2; cutouts = q .cutouts; saved = q .saved }

@@ -1,4 +1,3 @@
 pub mod Accepted
 pub mod Readings
-pub mod Bits
 pub mod Fields

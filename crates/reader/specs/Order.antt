@@ -1,20 +1,15 @@
 -- The order, as document 01's section of that name has it: the settings that bytes give, or the number of their first fault.
 use mathlib.Core.Bool.{Bool, false, _&&_, _||_, cond}
 use mathlib.Core.List.{List, [], _∷_}
-use Prim.Native.Nat.{ℕ, zero, suc, _/_, _%_, _^_}
+use Prim.Native.Nat.{ℕ, zero, suc, _/_, _%_}
 use lib.Dec.{eqb, ltb, leb}
 use lib.ListN.{length, getD, take, drop}
 use Rattle.prelude.specs.Answer.{Answer, accepted, refused, must, andThen}
-use Rattle.float.specs.Float.{k0, k1}
-use Rattle.float.specs.MinMax.{maxOf}
-use Rattle.geometry.specs.Rect.{newOf}
 use Rattle.geometry.specs.declared.Offset.{Offset}
 use Rattle.layout.specs.declared.Cutouts.{Cutouts}
-use Rattle.settings.specs.declared.Fit.{Fit}
-use Rattle.settings.specs.declared.Fit.the-variants.{Unset, Maximum, KeepClear}
 use Rattle.settings.specs.declared.Settings.{Settings}
-use Rattle.settings.specs.Settings.{absentOf, withMode, withFit, withPlace, withElements, withScreen, withPicture, withPreset, withCutouts}
-use Rattle.settings.specs.Settings.{screenInLimitsOf, rectInLimitsOf, placeInLimitsOf, cutoutsInLimitsOf}
+use Rattle.settings.specs.Settings.{absentOf, withFit, withPlace, withElements, withScreen, withPicture, withPreset, withCutouts}
+use Rattle.settings.specs.Settings.{screenPictureOf, withModeByte, fitMarkOf, mustScreen, mustPicture, mustMode, mustFit, mustPlace, mustCutouts, mustSaved}
 use Rattle.wire.specs.Wire.{shortOf, numberAtOf, rectAtOf, filled}
 use Rattle.reader.specs.declared.Reading.{Reading}
 use Rattle.reader.specs.declared.Tag.{Tag}
@@ -24,45 +19,36 @@ use Rattle.reader.specs.declared.Tag.the-variants as Tag
 unfoldable pub readingAnswer : Reading → Answer Settings
 readingAnswer r = cond (eqb (r .refusal) 0) (accepted (r .settings)) (refused (r .refusal))
 
--- bit i of a byte is set
-unfoldable pub hasBit : ℕ → ℕ → Bool
-hasBit b i = eqb (b / 2 ^ i % 2) 1
-
 -- ---- the seven fields: the settings with a value put in, or 3 bad length, 7 overfull, 5 odd mark, 6 off the scale
 
--- A picture follows in tag 2; without one it is the screen, raised to at least 1 by 1.
+-- A picture follows in tag 2, or else it is what an absent one means.
 unfoldable pub readScreenOf : List ℕ → Settings → Answer Settings
 readScreenOf v s =
     let w = numberAtOf v 0 in
     let h = numberAtOf v 1 in
     must (eqb (length v) 8) 3
-    (must (screenInLimitsOf w h) 6
-    (accepted (withScreen s w h (newOf k0 k0 (maxOf w k1) (maxOf h k1)))))
+    (mustScreen w h
+    (accepted (withScreen s w h (screenPictureOf w h))))
 
 unfoldable pub readPictureOf : List ℕ → Settings → Answer Settings
 readPictureOf v s =
     let picture = rectAtOf v 0 in
     must (eqb (length v) 16) 3
-    (must (rectInLimitsOf k0 picture) 6
+    (mustPicture picture
     (accepted (withPicture s picture)))
 
--- bit 0 psp, bit 1 analog, bit 2 allow_overlap, the rest zero
 unfoldable pub readModeOf : List ℕ → Settings → Answer Settings
 readModeOf v s =
     let b = getD v 0 0 in
     must (eqb (length v) 1) 3
-    (must (eqb (b / 2 ^ 3) 0) 5
-    (accepted (withPreset s (withMode (s .preset) (hasBit b 0) (hasBit b 1) (hasBit b 2)))))
-
--- of a byte up to 2
-unfoldable pub fitMarkOf : ℕ → Fit
-fitMarkOf b = cond (eqb b 0) Unset (cond (eqb b 1) Maximum KeepClear)
+    (mustMode b
+    (accepted (withPreset s (withModeByte (s .preset) b))))
 
 unfoldable pub readFitOf : List ℕ → Settings → Answer Settings
 readFitOf v s =
     let b = getD v 0 0 in
     must (eqb (length v) 1) 3
-    (must (leb b 2) 5
+    (mustFit b
     (accepted (withPreset s (withFit (s .preset) (fitMarkOf b)))))
 
 -- `game_scale` and `game_offset`
@@ -71,7 +57,7 @@ readPlaceOf v s =
     let scale = numberAtOf v 0 in
     let offset : Offset = record { x = numberAtOf v 1; y = numberAtOf v 2 } in
     must (eqb (length v) 12) 3
-    (must (placeInLimitsOf scale offset) 6
+    (mustPlace scale offset
     (accepted (withPreset s (withPlace (s .preset) scale offset))))
 
 unfoldable pub readCutoutsOf : List ℕ → Settings → Answer Settings
@@ -79,16 +65,15 @@ readCutoutsOf v s =
     let n = length v / 16 in
     let cutouts : Cutouts = record { at = filled 16 v n; count = n } in
     must (eqb (length v % 16) 0) 3
-    (must (leb n 16) 7
-    (must (cutoutsInLimitsOf cutouts) 6
-    (accepted (withCutouts s cutouts))))
+    (mustCutouts cutouts
+    (accepted (withCutouts s cutouts)))
 
 -- Saved rectangles take any f32.
 unfoldable pub readSavedOf : List ℕ → Settings → Answer Settings
 readSavedOf v s =
     let n = length v / 16 in
     must (eqb (length v % 16) 0) 3
-    (must (leb n 32) 7
+    (mustSaved n
     (accepted (withPreset s (withElements (s .preset) (filled 32 v n) n))))
 
 -- ---- the fields one after the other

@@ -5,12 +5,11 @@ ghost use lib.ListN.{length};
 ghost use Rattle.prelude.specs.Answer.{accepted, refused};
 ghost use Rattle.settings.specs.Settings.{withPreset};
 ghost use Rattle.wire.specs.Wire.{filled};
-ghost use Rattle.reader.specs.Order.{readingAnswer, readScreenOf, readPictureOf, readModeOf, fitMarkOf, readFitOf, readPlaceOf, readCutoutsOf, readSavedOf, fromByteOf, readFieldOf, readOrderOf};
+ghost use Rattle.reader.specs.Order.{readingAnswer, readScreenOf, readPictureOf, readModeOf, readFitOf, readPlaceOf, readCutoutsOf, readSavedOf, fromByteOf, readFieldOf, readOrderOf};
 use geometry::EMPTY;
 use geometry::Offset;
 use geometry::Rect;
 use layout::Cutouts;
-use settings::Fit;
 use settings::Preset;
 use settings::Settings;
 use wire::number_at;
@@ -55,7 +54,7 @@ fn refuse(refusal: u8, settings: Settings) -> Reading
     Reading { refusal, settings }
 }
 
-// A picture follows in tag 2; without one it is the screen, raised to at least 1 by 1.
+// A picture follows in tag 2, or else it is what an absent one means.
 fn read_screen(value: &[u8], s: Settings) -> Reading
     ensures { λ r. ⌜ readingAnswer r ≡ readScreenOf (now (value .entry)) s ⌝ }
 {
@@ -67,7 +66,7 @@ fn read_screen(value: &[u8], s: Settings) -> Reading
     if !settings::screen_in_limits(w, h) {
         return refuse(6, s);
     }
-    let picture = Rect::new(0.0, 0.0, float::max(w, 1.0), float::max(h, 1.0));
+    let picture = settings::screen_picture(w, h);
     let mut t = s;
     t.w = w;
     t.h = h;
@@ -90,7 +89,6 @@ fn read_picture(value: &[u8], s: Settings) -> Reading
     accept(t)
 }
 
-// Bit 0 psp, bit 1 analog, bit 2 allow_overlap.
 fn read_mode(value: &[u8], s: Settings) -> Reading
     ensures { λ r. ⌜ readingAnswer r ≡ readModeOf (now (value .entry)) s ⌝ }
 {
@@ -101,22 +99,8 @@ fn read_mode(value: &[u8], s: Settings) -> Reading
     if b >> 3 != 0 {
         return refuse(5, s);
     }
-    let mut preset = s.preset;
-    preset.psp = b & 1 != 0;
-    preset.analog = b & 2 != 0;
-    preset.overlap = b & 4 != 0;
-    accept_preset(s, preset)
-}
-
-// Of a byte up to 2.
-fn fit_mark(b: u8) -> Fit
-    ensures { λ r. ⌜ r ≡ fitMarkOf b ⌝ }
-{
-    match b {
-        0 => Fit::Unset,
-        1 => Fit::Maximum,
-        _ => Fit::KeepClear,
-    }
+    let preset = s.preset;
+    accept_preset(s, preset.with_mode_byte(b))
 }
 
 fn read_fit(value: &[u8], s: Settings) -> Reading
@@ -130,7 +114,7 @@ fn read_fit(value: &[u8], s: Settings) -> Reading
         return refuse(5, s);
     }
     let preset = s.preset;
-    accept_preset(s, preset.with_fit(fit_mark(b)))
+    accept_preset(s, preset.with_fit(settings::fit_mark(b)))
 }
 
 fn read_place(value: &[u8], s: Settings) -> Reading

@@ -7,9 +7,10 @@ use lib.Ieee.{Float, nan, inf, fin, lt}
 use lib.Ieee.Scale.{finite}
 use lib.ListN.{length}
 use Rattle.prelude.proofs.Booleans.{all-four}
-use Rattle.float.specs.MinMax.{absOf}
+use Rattle.float.specs.MinMax.{absOf, isFiniteOf}
 use Rattle.geometry.specs.declared.Rect.{Rect}
-use Rattle.saved.specs.Saved.{isFiniteOf, usableOf, restoredOf}
+use Rattle.settings.specs.Settings.{usableOf}
+use Rattle.saved.specs.Saved.{restoredOf}
 
 is-finite : (x : Float) → T (isFiniteOf x) → T (finite x)
 unfolding isFiniteOf absOf lt

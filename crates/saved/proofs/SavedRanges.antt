@@ -20,7 +20,8 @@ use Rattle.numerics.proofs.Ranges.{sub-in, min-in, element-in, saved-in}
 use Rattle.numerics.proofs.Literals.{lit}
 use Rattle.layout_ranges.specs.Bounded.{Bounded}
 use Rattle.layout_ranges.proofs.Changes.{set-elements-in, elements-in}
-use Rattle.saved.specs.Saved.{usableOf, onScreenOf, restoreOf, restoredOf, withSavedOf}
+use Rattle.settings.specs.Settings.{usableOf}
+use Rattle.saved.specs.Saved.{onScreenOf, restoreOf, restoredOf, withSavedOf}
 use Rattle.saved.proofs.SavedLaws.{usable-finite, length-restored}
 
 module _ {w h : Float} (W : In w (at 1) (at 8192)) (H : In h (at 1) (at 8192)) where

@@ -1,26 +1,19 @@
 -- Saved rectangles, as parts of the screen: what `Preset::layout_in` restores, and `Preset::capture` of input.rs.
-use mathlib.Core.Bool.{Bool, false, cond, _&&_}
+use mathlib.Core.Bool.{cond}
 use mathlib.Core.List.{List, [], _∷_, map}
-use lib.Ieee.{Float, inf, lt}
+use lib.Ieee.{Float}
 use Rattle.prelude.specs.Lists.{replaceFirst, isEmpty}
 use Rattle.float.specs.Float.{_⊖_, _⊗_, _⊘_, k0, k24}
-use Rattle.float.specs.MinMax.{minOf, clampOf, absOf}
+use Rattle.float.specs.MinMax.{minOf, clampOf}
 use Rattle.geometry.specs.declared.Rect.{Rect}
 use Rattle.geometry.specs.Rect.{newOf}
 use Rattle.layout.specs.declared.Layout.{Layout}
 use Rattle.layout.specs.Layout.{elementsOf, elementCountOf}
 use Rattle.layout.specs.Elements.{setElementsOf}
 use Rattle.settings.specs.declared.Preset.{Preset}
-use Rattle.settings.specs.Settings.{withElements}
+use Rattle.settings.specs.Settings.{withElements, usableOf}
 
 -- ---- restored
-
--- Rust's `is_finite`
-unfoldable pub isFiniteOf : Float → Bool
-isFiniteOf x = lt (absOf x) (inf false)
-
-unfoldable pub usableOf : Rect → Bool
-usableOf r = isFiniteOf (r .x) && (isFiniteOf (r .y) && (isFiniteOf (r .w) && isFiniteOf (r .h)))
 
 -- 24 points wide and high at least, where the screen is, and all of it on the screen
 unfoldable pub onScreenOf : Float → Float → Rect → Rect

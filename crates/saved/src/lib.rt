@@ -7,26 +7,15 @@ ghost use lib.Ieee.Scale.{finite};
 ghost use lib.ListN.{take};
 ghost use Rattle.prelude.specs.Lists.{replaceFirst};
 ghost use Rattle.layout.specs.Layout.{elementList, Few};
-ghost use Rattle.saved.specs.Saved.{isFiniteOf, usableOf, onScreenOf, restoreOf, restoredOf, withSavedOf, partOf, captureOf};
-use float::abs;
+ghost use Rattle.settings.specs.Settings.{usableOf};
+ghost use Rattle.saved.specs.Saved.{onScreenOf, restoreOf, restoredOf, withSavedOf, partOf, captureOf};
 use float::clamp;
 use float::min;
 use geometry::Rect;
 use layout::Elements;
 use layout::Layout;
 use settings::Preset;
-
-fn is_finite(x: f32) -> bool
-    ensures { λ r. ⌜ r ≡ isFiniteOf x ⌝ }
-{
-    abs(x) < f32::from_bits(0x7f80_0000)
-}
-
-fn usable(r: Rect) -> bool
-    ensures { λ b. ⌜ b ≡ usableOf r ⌝ }
-{
-    is_finite(r.x) & (is_finite(r.y) & (is_finite(r.w) & is_finite(r.h)))
-}
+use settings::usable;
 
 // 24 points wide and high at least, where the screen is, and all of it on the screen.
 fn on_screen(w: f32, h: f32, r: Rect) -> Rect

@@ -1,3 +1,6 @@
 pub mod Items
+pub mod Output
 pub mod Rects
 pub mod ReadBack
+pub mod PlusZero
+pub mod Owned

@@ -15,6 +15,7 @@ use lib.ListN.{length, getD}
 use lib.Seq.{getD-append-add, take-at, drop-at}
 use Rattle.prelude.proofs.Booleans.{by-test, both}
 use Rattle.prelude.specs.Each.{Each}
+use Rattle.prelude.specs.Lists.{tabulate}
 use Rattle.float.specs.Float.{k0}
 use Rattle.geometry.specs.declared.Rect.{Rect}
 use Rattle.geometry.specs.Rect.{rectIsF32}
@@ -31,18 +32,30 @@ pub zero-size : (s : Bool) (m : ℕ) (g : ℤ) → eq (fin s m g) k0 ≡ true �
 unfolding eq ofBits
 zero-size s m g e = let v = eqb-true (m * up g * 1) (0 * 1 * down g) (both _ _ e .0) in omega arith
 
+-- a zero that fits is one of two
+pub zero-form : (s : Bool) (m : ℕ) (g : ℤ) → T (fits binary32 (fin s m g)) → m * up g ≡ 0 → fin s m g ≡ fin s 0 (pos 0)
+unfolding fits
+zero-form s m g f e = whole-unique binary32 (fin s m g) (fin s 0 (pos 0)) s 0 f tt (refl, omega arith) (refl, refl)
+
+abbrev pub minusZero : Float
+minusZero = ofBits binary32 0x8000_0000
+
+pub zero-ind : (C : Float → Type 0) (x : Float) → T (fits binary32 x) → eq x k0 ≡ true → C minusZero → C k0 → C x
+unfolding eq ofBits
+zero-ind C nan f e a b = let z : nan ≡ k0 = cc in rw z b
+zero-ind C (inf s) f e a b = let z : inf s ≡ k0 = cc in rw z b
+zero-ind C (fin s m g) f e a b = rw (zero-form s m g f (zero-size s m g e)) (go s)
+  where
+    go : (t : Bool) → C (fin t 0 (pos 0))
+    go true = a
+    go false = b
+
 -- ---- a number, by its pattern
 zero-pattern : (x : Float) → T (fits binary32 x) → eq x k0 ≡ true → writtenBitsOf x ≡ 0
-unfolding eq ofBits writtenBitsOf toBits fits
-zero-pattern nan f e = cc
-zero-pattern (inf s) f e = cc
-zero-pattern (fin s m g) f e = ap writtenBitsOf (whole-unique binary32 (fin s m g) (fin s 0 (pos 0)) s 0 f tt (refl, omega (arith, zero-size s m g e)) (refl, refl)) ∙ go s
-  where
-    go : (t : Bool) → writtenBitsOf (fin t 0 (pos 0)) ≡ 0
-    go false = refl
-    go true = refl
+unfolding ofBits writtenBitsOf toBits
+zero-pattern x f e = zero-ind (λ y. writtenBitsOf y ≡ 0) x f e refl refl
 
-minus-zero : eq (ofBits binary32 0x8000_0000) k0 ≡ true
+minus-zero : eq minusZero k0 ≡ true
 unfolding eq ofBits
 minus-zero = refl
 
@@ -51,7 +64,7 @@ unfolding writtenBitsOf
 other-pattern x f e =
     by-test (λ n. ofBits binary32 n ≡ x) (eqb (toBits binary32 x) 0x8000_0000)
     (λ t.
-    let z : x ≡ ofBits binary32 0x8000_0000 = sym (ofBits-toBits binary32 x f) ∙ ap (ofBits binary32) (eqb→eq _ _ t) in
+    let z : x ≡ minusZero = sym (ofBits-toBits binary32 x f) ∙ ap (ofBits binary32) (eqb→eq _ _ t) in
     let h : eq x k0 ≡ true = rw z minus-zero in
     cc)
     (λ t. ofBits-toBits binary32 x f)
@@ -108,17 +121,17 @@ module _ (b v : List ℕ) (h : length b ≡ 16) where
   rect-later n = let e : 4 * suc n ≡ 4 + 4 * n = omega arith in simp (e, add-assoc, number-later 4 b v h)
 
   rects-next : (n : ℕ) → rects (b ++ v) (suc n) ≡ rectAtOf (b ++ v) 0 ∷ rects v n
-  unfolding rects
+  unfolding tabulate
   rects-next zero = refl
   rects-next (suc n) = ap (λ l. l ++ (rectAtOf (b ++ v) (suc n) ∷ [])) (rects-next n) ∙ rw (rect-later n)
 
 pub rects-back : (l : List Rect) → Each (λ r. rectIsF32 r ≡ true) l → rects (flatMap rectBytes l) (length l) ≡ map plusZeroRect l
-unfolding flatMap rects
+unfolding flatMap tabulate
 rects-back [] e = refl
 rects-back (r ∷ l) e = rects-next (rectBytes r) (flatMap rectBytes l) (length-rect r) (length l) ∙ rw (rect-back r (flatMap rectBytes l) (e .0), rects-back l (e .1))
 
 -- ---- the fields
-short-back : (n : ℕ) → shortOf (n / 2 ^ 8) (n % 2 ^ 8) ≡ n
+pub short-back : (n : ℕ) → shortOf (n / 2 ^ 8) (n % 2 ^ 8) ≡ n
 short-back n = omega arith
 
 module _ (n tag : ℕ) (v rest : List ℕ) where

@@ -1,4 +1,4 @@
--- The rectangles of a value: how many they are, an array filled with them, and that their numbers are values of binary32.
+-- The numbers of a value, of its rectangles and of an array filled with them are values of binary32.
 use mathlib.Core.Path.{_≡_, refl, sym, _∙_}
 use mathlib.Core.Bool.{true}
 use mathlib.Core.List.{List, [], _∷_}
@@ -9,23 +9,10 @@ use lib.Ieee.{binary32, ofBits, fits}
 use lib.Ieee.Bits.{is-true, ofBits-fits}
 use lib.ListN.{length, take, set, replicate, length-append}
 use lib.Seq.{take-at, set-at, append-snoc}
-use Rattle.prelude.specs.Lists.{allOf}
-use Rattle.prelude.proofs.ListLaws.{all-snoc}
+use Rattle.prelude.specs.Lists.{allOf, tabulate}
+use Rattle.prelude.proofs.ListLaws.{all-snoc, length-tabulate}
 use Rattle.geometry.specs.Rect.{emptyRect, rectIsF32}
 use Rattle.wire.specs.Wire.{numberAtOf, rectAtOf, rects, filled}
-
-length-rects : (v : List ℕ) (n : ℕ) → length (rects v n) ≡ n
-unfolding rects
-length-rects v zero = refl
-length-rects v (suc n) = length-append (rects v n) (rectAtOf v n ∷ []) ∙ rw (length-rects v n) (omega arith)
-
--- one more rectangle, put into the array
-pub fill-next : (size : ℕ) (v : List ℕ) (i : ℕ) → i < size → set (filled size v i) i (rectAtOf v i) ≡ filled size v (i + 1)
-unfolding filled rects
-fill-next size v i h =
-    let e : size - i ≡ suc (size - suc i) = omega arith in
-    let z = replicate (size - suc i) emptyRect in
-    rw (add-one, e) (set-at (rects v i) emptyRect z (rectAtOf v i) i (length-rects v i) ∙ sym (append-snoc (rects v i) (rectAtOf v i) z))
 
 -- ---- values of binary32
 pub bits-f32 : (n : ℕ) → fits binary32 (ofBits binary32 n) ≡ true
@@ -40,10 +27,10 @@ unfolding rectIsF32 rectAtOf
 rect-f32 v i = rw (number-f32 v (4 * i), number-f32 v (4 * i + 1), number-f32 v (4 * i + 2), number-f32 v (4 * i + 3))
 
 rects-f32 : (v : List ℕ) (n : ℕ) → allOf rectIsF32 (rects v n) ≡ true
-unfolding rects allOf
+unfolding tabulate allOf
 rects-f32 v zero = refl
 rects-f32 v (suc n) = all-snoc rectIsF32 (rects v n) (rectAtOf v n) (rects-f32 v n) (rect-f32 v n)
 
 pub filled-f32 : (size : ℕ) (v : List ℕ) (n : ℕ) → allOf rectIsF32 (take n (filled size v n)) ≡ true
 unfolding filled
-filled-f32 size v n = rw (take-at (rects v n) (replicate (size - n) emptyRect) n (length-rects v n)) (rects-f32 v n)
+filled-f32 size v n = rw (take-at (rects v n) (replicate (size - n) emptyRect) n (length-tabulate (rectAtOf v) n)) (rects-f32 v n)

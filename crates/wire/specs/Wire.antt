@@ -1,13 +1,15 @@
 -- Document 01's bytes of numbers, of rectangles and of fields, in an order as in a layout: read, and written.
 use mathlib.Core.Bool.{cond}
 use mathlib.Core.List.{List, [], _∷_, _++_}
-use Prim.Native.Nat.{ℕ, zero, suc, _+_, _-_, _*_, _/_, _%_, _^_}
-use lib.Dec.{eqb}
+use Prim.Native.Nat.{ℕ, zero, suc, _+_, _*_, _/_, _%_, _^_}
+use lib.Dec.{eqb, leb}
 use lib.Ieee.{Float, binary32, ofBits, toBits, eq}
-use lib.ListN.{length, getD, take, drop, replicate}
+use lib.ListN.{length, getD, take, drop}
+use Rattle.prelude.specs.Answer.{Answer, accepted, must}
+use Rattle.prelude.specs.Lists.{tabulate}
 use Rattle.float.specs.Float.{k0}
 use Rattle.geometry.specs.declared.Rect.{Rect}
-use Rattle.geometry.specs.Rect.{newOf, emptyRect}
+use Rattle.geometry.specs.Rect.{newOf, rectArray}
 
 -- ---- read
 
@@ -31,13 +33,12 @@ rectAtOf v i =
     newOf (numberAtOf v (4 * i)) (numberAtOf v (4 * i + 1)) (numberAtOf v (4 * i + 2)) (numberAtOf v (4 * i + 3))
 
 -- the first n rectangles of a value
-unfoldable pub rects : List ℕ → ℕ → List Rect
-rects v zero = []
-rects v (suc n) = rects v n ++ (rectAtOf v n ∷ [])
+abbrev pub rects : List ℕ → ℕ → List Rect
+rects v n = tabulate (rectAtOf v) n
 
 -- an array of `size`: the first n rectangles of a value, and zeros
 unfoldable pub filled : ℕ → List ℕ → ℕ → List Rect
-filled size v n = rects v n ++ replicate (size - n) emptyRect
+filled size v n = rectArray size n (rects v n)
 
 -- the value of the field with a tag, among the first n fields
 unfoldable pub fieldValue : ℕ → ℕ → List ℕ → List ℕ
@@ -78,3 +79,13 @@ plusZero x = cond (eq x k0) k0 x
 
 abbrev pub plusZeroRect : Rect → Rect
 plusZeroRect r = newOf (plusZero (r .x)) (plusZero (r .y)) (plusZero (r .w)) (plusZero (r .h))
+
+-- ---- bytes put at the start of an output that the caller lends
+
+-- how many they are, or 8, sheet too small
+abbrev pub roomFor : ℕ → List ℕ → Answer ℕ
+roomFor n out = must (leb n (length out)) 8 (accepted n)
+
+-- the output afterwards: later bytes stay, and all of them on refusal
+abbrev pub withFront : List ℕ → List ℕ → List ℕ
+withFront bytes out = let n = length bytes in cond (leb n (length out)) (bytes ++ drop n out) out

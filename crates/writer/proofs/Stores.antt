@@ -1,36 +1,20 @@
--- What the stores of a whole layout leave of the output: its bytes where they have room, else the output as it was.
+-- What the stores of a whole layout put: its bytes, one after the other.
 use mathlib.Core.Path.{_≡_, ap, _∙_}
 use mathlib.Core.List.{List, flatMap, append-assoc}
-use Prim.Native.Nat.{ℕ, _+_, _*_, _<_, _≤_}
+use Prim.Native.Nat.{ℕ, _+_, _*_, _≤_}
 use native.Mathlib.Omega.{arith}
-use borrow.Author.Tests.{le-leb, lt-leb}
 use lib.ListN.{length}
-use Rattle.prelude.specs.Answer.{accepted, refused, must}
 use Rattle.prelude.specs.Lists.{stored}
-use Rattle.prelude.proofs.Stores.{then, stored-all}
+use Rattle.prelude.proofs.Stores.{then}
 use Rattle.geometry.specs.declared.Rect.{Rect}
 use Rattle.layout.specs.declared.Layout.{Layout}
 use Rattle.layout.specs.Layout.{elementsOf, controlList, elementCountOf}
 use Rattle.wire.specs.Wire.{rectBytes, headBytes}
 use Rattle.wire.proofs.Items.{length-rect, length-field-head}
-use Rattle.writer.specs.Bytes.{maskBytes, layoutBytes, writeLayoutOf, outputOf}
-use Rattle.writer.proofs.Length.{length-element-bytes, length-mask-bytes, length-layout, lengthFor}
+use Rattle.writer.specs.Bytes.{maskBytes, layoutBytes}
+use Rattle.writer.proofs.Length.{length-element-bytes, length-mask-bytes}
 
 module _ (l : Layout) (cs : l .count ≤ length (l .controls)) (ss : l .stickcount ≤ length (l .sticks)) (out : List ℕ) where
-  pub too-small : length out < lengthFor (l .count) (l .stickcount) → (refused 8 ≡ writeLayoutOf l out) × (out ≡ outputOf l out)
-  unfolding writeLayoutOf outputOf must
-  too-small h =
-      let g = lt-leb (length (layoutBytes l)) (length out) (omega (arith, length-layout l cs ss)) in
-      (rw g, rw g)
-
-  pub has-room : {n : ℕ} {end : List ℕ} → n ≡ lengthFor (l .count) (l .stickcount) → n ≤ length out → end ≡ stored out 0 (layoutBytes l)
-      → (accepted n ≡ writeLayoutOf l out) × (end ≡ outputOf l out)
-  unfolding writeLayoutOf outputOf must
-  has-room e h p =
-      let k = length-layout l cs ss in
-      let g = le-leb (length (layoutBytes l)) (length out) (omega arith) in
-      (rw (g, k, e), rw g (p ∙ stored-all out (layoutBytes l) (omega arith)))
-
   -- the three fields, a head and a value each
   pub layout-run : {n : ℕ} {rs : List Rect} {a b c d e f : List ℕ} → n ≡ 16 * elementCountOf l → rs ≡ elementsOf l
       → a ≡ stored out 0 (headBytes 1 16) → b ≡ stored a 3 (rectBytes (l .game))

@@ -1,15 +1,13 @@
 -- The layout as document 01's bytes.
-use mathlib.Core.Bool.{cond}
 use mathlib.Core.List.{List, _++_, flatMap}
 use Prim.Native.Nat.{ℕ}
-use lib.Dec.{leb}
-use lib.ListN.{length, drop}
-use Rattle.prelude.specs.Answer.{Answer, accepted, refused, must}
+use lib.ListN.{length}
+use Rattle.prelude.specs.Answer.{Answer, accepted, refused}
 use Rattle.layout.specs.declared.Control.{Control}
 use Rattle.layout.specs.declared.Layout.{Layout}
 use Rattle.layout.specs.Label.{maskOf}
 use Rattle.layout.specs.Layout.{controlList, elementsOf}
-use Rattle.wire.specs.Wire.{shortBytes, rectBytes, fieldBytes}
+use Rattle.wire.specs.Wire.{shortBytes, rectBytes, fieldBytes, roomFor, withFront}
 use Rattle.writer.specs.declared.Written.{Written}
 use Rattle.writer.specs.declared.Written.the-variants.{Bytes, TooSmall}
 
@@ -24,10 +22,7 @@ layoutBytes l =
     ++ (fieldBytes 2 (flatMap rectBytes (elementsOf l))
     ++ fieldBytes 3 (flatMap maskBytes (controlList l)))
 
--- how many bytes are written to an output, or 8, sheet too small
-abbrev pub roomFor : ℕ → List ℕ → Answer ℕ
-roomFor n out = must (leb n (length out)) 8 (accepted n)
-
+-- how many bytes are written, or a refusal
 unfoldable pub writeLayoutOf : Layout → List ℕ → Answer ℕ
 writeLayoutOf l out = roomFor (length (layoutBytes l)) out
 
@@ -37,4 +32,4 @@ writingAnswer TooSmall = refused 8
 
 -- the output afterwards: later bytes stay, and all of them on refusal
 unfoldable pub outputOf : Layout → List ℕ → List ℕ
-outputOf l out = let n = length (layoutBytes l) in cond (leb n (length out)) (layoutBytes l ++ drop n out) out
+outputOf l out = withFront (layoutBytes l) out

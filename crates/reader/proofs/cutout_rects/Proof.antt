@@ -1,8 +1,10 @@
 -- After i turns the array has the value's first i rectangles in front, and zeros behind.
 use mathlib.Core.Path.{refl}
 use Rattle.prelude.proofs.Loops.{Done, does, all-done}
-use Rattle.wire.specs.Wire.{filled, rects}
-use Rattle.wire.proofs.Rects.{fill-next}
+use Rattle.prelude.specs.Lists.{tabulate}
+use Rattle.prelude.proofs.Stores.{fills}
+use Rattle.geometry.specs.Rect.{emptyRect}
+use Rattle.wire.specs.Wire.{rectAtOf, filled}
 use borrow.Author.Needs.{needs}
 use native.Mathlib.Omega.{arith}
 use Prim.Native.Nat.{_-_}
@@ -16,12 +18,13 @@ abbrev μ-loop : tie.MeasureT-loop
 μ-loop value n at₀ i₀ at i = n - i
 
 loop-again : tie.Need-loop-again Inv-loop μ-loop
+unfolding filled
 loop-again c =
     let l = c .before .before .loop in
-    does _ (l .inv) (c .before .loop-test .taken) (rw (l .inv .is, c .rect-at .ensures) (fill-next 16 _ (l .i) (omega arith)))
+    does _ (l .inv) (c .before .loop-test .taken) (rw (l .inv .is, c .rect-at .ensures) (fills (rectAtOf _) emptyRect 16 (l .i) (omega arith)))
 
 pub cutout-rects-spec : {M : Type 1} → statement M
-unfolding filled rects
+unfolding filled tabulate
 cutout-rects-spec =
     tie.close
     (tie.spec

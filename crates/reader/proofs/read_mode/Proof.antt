@@ -1,10 +1,8 @@
--- A refusal for each test that fails, else the preset with the byte's three bits: `test-bit`.
+-- A refusal for each test that fails, else the preset with the mode that the byte names.
 use borrow.Author.Tests.{ne-eqb, eq-eqb}
 use mathlib.Core.Path.{_∙_}
 use Rattle.prelude.specs.Answer.{must}
 use Rattle.reader.specs.Order.{readModeOf}
-use lib.ListN.{getD}
-use Rattle.reader.proofs.Bits.{test-bit}
 use borrow.Author.Needs.{needs}
 use Rattle.reader.proofs.read_mode.Statement.{statement}
 use Rattle.reader.proofs.read_mode.Tie as tie
@@ -12,11 +10,9 @@ use Rattle.reader.proofs.read_mode.Tie as tie
 accepted : tie.Need-returns-3
 unfolding readModeOf must
 accepted c =
-    let three = c .before .before in
-    let one = three .before .before in
-    let b = getD (one .before .before .args .value .now) 0 0 in
-    c .accept-preset .ensures
-    ∙ rw (eq-eqb _ _ (one .if1 .left), eq-eqb _ _ (three .if2 .left), ← test-bit b 0, ← test-bit b 1, ← test-bit b 2)
+    let made = c .before in
+    let known = made .before .before in
+    c .accept-preset .ensures ∙ rw (eq-eqb _ _ (known .before .before .if1 .left), eq-eqb _ _ (known .if2 .left), ← made .with-mode-byte .ensures)
 
 pub read-mode-spec : {M : Type 1} → statement M
 unfolding readModeOf must
@@ -28,5 +24,6 @@ read-mode-spec =
     (λ c. search needs)
     (λ c κs. search needs)
     (λ c. c .refuse2 .ensures ∙ rw (eq-eqb _ _ (c .before .before .before .if1 .left), ne-eqb _ _ (c .before .if2 .taken)))
+    (λ c κs. search needs)
     (λ c κs. search needs)
     accepted)

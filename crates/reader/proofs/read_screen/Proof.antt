@@ -21,9 +21,7 @@ accepted : tie.Need-returns-3
 unfolding readScreenOf must
 accepted c =
     let made = c .before in
-    let high = made .before in
-    let wide = high .before in
-    let tested = wide .before .before in
+    let tested = made .before .before in
     let test = tested .screen-in-limits in
     let h = tested .before in
     let w = h .before in
@@ -33,10 +31,8 @@ accepted c =
       ← w .number-at .ensures,
       ← h .number-at2 .ensures,
       ← test .ensures,
-      not-false (test .result) (wide .before .if2 .left),
-      ← wide .max .ensures,
-      ← high .max2 .ensures,
-      ← made .new .ensures,
+      not-false (test .result) (made .before .if2 .left),
+      ← made .screen-picture .ensures,
     )
 
 pub read-screen-spec : {M : Type 1} → statement M
@@ -51,8 +47,6 @@ read-screen-spec =
     (λ c κs. search needs)
     (λ c κs. search needs)
     off-the-scale
-    (λ c κs. search needs)
-    (λ c κs. search needs)
     (λ c κs. search needs)
     (λ c κs. search needs)
     accepted)

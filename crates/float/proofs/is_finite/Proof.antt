@@ -1,8 +1,8 @@
 -- The test of `isFiniteOf`, below infinity.
 use borrow.Author.Needs.{needs}
-use Rattle.saved.proofs.is_finite.Statement.{statement}
-use Rattle.saved.proofs.is_finite.Tie as tie
-use Rattle.saved.specs.Saved.{isFiniteOf}
+use Rattle.float.proofs.is_finite.Statement.{statement}
+use Rattle.float.proofs.is_finite.Tie as tie
+use Rattle.float.specs.MinMax.{isFiniteOf}
 use lib.Ieee.{ofBits, nanBits}
 
 pub is-finite-spec : {M : Type 1} → statement M

@@ -8,7 +8,7 @@ use borrow.Author.Tests.{ne-eqb}
 use lib.Bits.{bitAnd, and-high}
 use lib.Dec.{eqb, lit<}
 use lib.Pow.{high-ones, pow-pos}
-use Rattle.reader.specs.Order.{hasBit}
+use Rattle.settings.specs.Settings.{hasBit}
 
 and-bit : (b i : ℕ) → bitAnd b (2 ^ i) ≡ b / 2 ^ i % 2 * 2 ^ i
 and-bit b i = ap (bitAnd b) (sym (high-ones 1 i ∙ one-mul (2 ^ i))) ∙ and-high b 1 i

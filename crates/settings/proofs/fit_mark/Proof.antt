@@ -1,8 +1,8 @@
 -- Arm by arm, by what the match tells of the byte.
 use borrow.Author.Tests.{ne-eqb}
-use Rattle.reader.specs.Order.{fitMarkOf}
-use Rattle.reader.proofs.fit_mark.Statement.{statement}
-use Rattle.reader.proofs.fit_mark.Tie as tie
+use Rattle.settings.specs.Settings.{fitMarkOf}
+use Rattle.settings.proofs.fit_mark.Statement.{statement}
+use Rattle.settings.proofs.fit_mark.Tie as tie
 
 pub fit-mark-spec : {M : Type 1} → statement M
 unfolding fitMarkOf

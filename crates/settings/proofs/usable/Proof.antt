@@ -1,8 +1,8 @@
 -- The four tests of `usableOf`.
 use borrow.Author.Needs.{needs}
-use Rattle.saved.proofs.usable.Statement.{statement}
-use Rattle.saved.proofs.usable.Tie as tie
-use Rattle.saved.specs.Saved.{usableOf}
+use Rattle.settings.proofs.usable.Statement.{statement}
+use Rattle.settings.proofs.usable.Tie as tie
+use Rattle.settings.specs.Settings.{usableOf}
 
 pub usable-spec : {M : Type 1} → statement M
 unfolding usableOf
