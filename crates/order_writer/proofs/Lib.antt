@@ -1,0 +1,4 @@
+pub mod Fields
+pub mod Runs
+pub mod Owned
+pub mod Replaced

@@ -1,0 +1,224 @@
+// The writer of orders: settings as bytes into output that the caller lends.
+ghost use mathlib.Core.Path.{_≡_};
+ghost use mathlib.Core.Bool.{true, cond};
+ghost use mathlib.Core.List.{_++_, map};
+ghost use Prim.Native.Nat.{_+_, _≤_};
+ghost use lib.Dec.{eqb};
+ghost use lib.ListN.{length, take};
+ghost use Rattle.prelude.specs.Lists.{stored};
+ghost use Rattle.layout.specs.Layout.{cutoutList};
+ghost use Rattle.settings.specs.Settings.{savedList, testedOf, acceptedOf};
+ghost use Rattle.wire.specs.Wire.{numberBytes, rectBytes, roomFor, withFront};
+ghost use Rattle.order_writer.specs.OrderBytes.{writableOf, fieldUnless, screenField, equalOf, byteField, rectsField, rectsLength, firstFields, lastFields, orderBytes, orderAnswer, writtenOrder, writtenOrderOutput, writeOrderOf, orderOutputOf};
+use geometry::Offset;
+use geometry::Rect;
+use layout::Cutouts;
+use settings::Preset;
+use settings::Settings;
+use wire::put_f32;
+use wire::put_field_head;
+use wire::put_rect;
+
+// How many bytes were written, or the number of a refusal.
+pub enum OrderAnswer {
+    Bytes(usize),
+    Refused(u8),
+}
+
+// A saved rectangle as it is written, but for negative zeros, which `put_f32` sees to.
+fn writable(r: Rect) -> Rect
+    ensures { λ t. ⌜ t ≡ writableOf r ⌝ }
+{
+    if settings::usable(r) {
+        return r;
+    }
+    let n = float::from_bits(0x7fc0_0000);
+    Rect::new(n, n, n, n)
+}
+
+// As numbers.
+fn equal(a: Rect, b: Rect) -> bool
+    ensures { λ r. ⌜ r ≡ equalOf a b ⌝ }
+{
+    a.x == b.x && (a.y == b.y && (a.w == b.w && a.h == b.h))
+}
+
+// ---- a field at `at`, unless it is left out: gives where the next one goes
+
+fn put_screen(out: &mut [u8], w: f32, h: f32)
+    requires { ⌜ 11 ≤ length (now out) ⌝ }
+    ensures { λ _. ⌜ now (out .exit) ≡ stored (now (out .entry)) 0 (screenField w h) ⌝ }
+{
+    put_field_head(out, 0, 1, 8);
+    put_f32(out, 3, w);
+    put_f32(out, 7, h);
+}
+
+fn put_picture(out: &mut [u8], at: usize, absent: bool, r: Rect) -> usize
+    requires { ⌜ at + cond absent 0 19 ≤ length (now out) ⌝ }
+    ensures next { λ n. ⌜ n ≡ at + cond absent 0 19 ⌝ }
+    ensures output { λ _. ⌜ now (out .exit) ≡ stored (now (out .entry)) at (fieldUnless absent 2 (rectBytes r)) ⌝ }
+{
+    if absent {
+        return at;
+    }
+    put_field_head(out, at, 2, 16);
+    put_rect(out, at + 3, r);
+    at + 19
+}
+
+// The byte that the field's absence means is left out.
+fn put_byte(out: &mut [u8], at: usize, absent: u8, tag: u8, b: u8) -> usize
+    requires { ⌜ at + cond (eqb b absent) 0 4 ≤ length (now out) ⌝ }
+    ensures next { λ n. ⌜ n ≡ at + cond (eqb b absent) 0 4 ⌝ }
+    ensures output { λ _. ⌜ now (out .exit) ≡ stored (now (out .entry)) at (byteField absent tag b) ⌝ }
+{
+    if b == absent {
+        return at;
+    }
+    put_field_head(out, at, tag, 1);
+    out[at + 3] = b;
+    at + 4
+}
+
+fn put_place(out: &mut [u8], at: usize, absent: bool, scale: f32, offset: Offset) -> usize
+    requires { ⌜ at + cond absent 0 15 ≤ length (now out) ⌝ }
+    ensures next { λ n. ⌜ n ≡ at + cond absent 0 15 ⌝ }
+    ensures output { λ _. ⌜ now (out .exit) ≡ stored (now (out .entry)) at (fieldUnless absent 5 (numberBytes scale ++ (numberBytes (offset .x) ++ numberBytes (offset .y)))) ⌝ }
+{
+    if absent {
+        return at;
+    }
+    put_field_head(out, at, 5, 12);
+    put_f32(out, at + 3, scale);
+    put_f32(out, at + 7, offset.x);
+    put_f32(out, at + 11, offset.y);
+    at + 15
+}
+
+fn put_cutouts(out: &mut [u8], at: usize, c: Cutouts) -> usize
+    requires { ⌜ (c .count ≤ 16) × (at + rectsLength (c .count) ≤ length (now out)) ⌝ }
+    ensures next { λ n. ⌜ n ≡ at + rectsLength (c .count) ⌝ }
+    ensures output { λ _. ⌜ now (out .exit) ≡ stored (now (out .entry)) at (rectsField 6 (cutoutList c)) ⌝ }
+{
+    let n = c.count;
+    let rects = c.at;
+    if n == 0 {
+        return at;
+    }
+    put_field_head(out, at, 6, 16 * n);
+    let start = at + 3;
+    for i in 0..n {
+        put_rect(out, start + 16 * i, rects[i]);
+    }
+    start + 16 * n
+}
+
+fn put_saved(out: &mut [u8], at: usize, elements: [Rect; 32], n: usize)
+    requires { ⌜ (n ≤ 32) × (at + rectsLength n ≤ length (now out)) ⌝ }
+    ensures { λ _. ⌜ now (out .exit) ≡ stored (now (out .entry)) at (rectsField 7 (map writableOf (take n elements))) ⌝ }
+{
+    if n == 0 {
+        return;
+    }
+    put_field_head(out, at, 7, 16 * n);
+    let start = at + 3;
+    for i in 0..n {
+        put_rect(out, start + 16 * i, writable(elements[i]));
+    }
+}
+
+// ---- an order
+
+// The length of a field, unless it is left out.
+fn field_length(absent: bool, n: usize) -> usize
+    ensures { λ r. ⌜ (r ≡ cond absent 0 n) × (r ≤ n) ⌝ }
+{
+    if absent { 0 } else { n }
+}
+
+// The length of a field of n rectangles.
+fn rects_length(n: usize) -> usize
+    requires { ⌜ n ≤ 32 ⌝ }
+    ensures { λ r. ⌜ (r ≡ rectsLength n) × (r ≤ 515) ⌝ }
+{
+    if n == 0 { 0 } else { 3 + 16 * n }
+}
+
+fn order_length(s: Settings) -> usize
+    requires { ⌜ acceptedOf s ≡ true ⌝ }
+    ensures { λ r. ⌜ r ≡ length (orderBytes s) ⌝ }
+{
+    let preset = s.preset;
+    let cutouts = s.cutouts;
+    let mark = preset.fit;
+    11
+        + field_length(equal(s.picture, settings::screen_picture(s.w, s.h)), 19)
+        + field_length(preset.mode_byte() == 0, 4)
+        + field_length(settings::fit_byte(mark) == 1, 4)
+        + field_length(preset.untouched(), 15)
+        + rects_length(cutouts.count)
+        + rects_length(preset.count)
+}
+
+// Tags 1 to 4; gives where the next field goes.
+fn put_first(out: &mut [u8], s: Settings) -> usize
+    requires { ⌜ length (firstFields s) ≤ length (now out) ⌝ }
+    ensures next { λ n. ⌜ n ≡ length (firstFields s) ⌝ }
+    ensures output { λ _. ⌜ now (out .exit) ≡ stored (now (out .entry)) 0 (firstFields s) ⌝ }
+{
+    let preset = s.preset;
+    let mark = preset.fit;
+    let mode = preset.mode_byte();
+    let fit = settings::fit_byte(mark);
+    let no_picture = equal(s.picture, settings::screen_picture(s.w, s.h));
+    put_screen(out, s.w, s.h);
+    let picture_end = put_picture(out, 11, no_picture, s.picture);
+    let mode_end = put_byte(out, picture_end, 0, 3, mode);
+    put_byte(out, mode_end, 1, 4, fit)
+}
+
+// Tags 5 to 7.
+fn put_last(out: &mut [u8], at: usize, preset: Preset, cutouts: Cutouts)
+    requires { ⌜ (preset .count ≤ 32) × (cutouts .count ≤ 16) × (at + length (lastFields preset cutouts (map writableOf (savedList preset))) ≤ length (now out)) ⌝ }
+    ensures { λ _. ⌜ now (out .exit) ≡ stored (now (out .entry)) at (lastFields preset cutouts (map writableOf (savedList preset))) ⌝ }
+{
+    let offset = preset.offset;
+    let elements = preset.elements;
+    let place_end = put_place(out, at, preset.untouched(), preset.scale, offset);
+    let cutouts_end = put_cutouts(out, place_end, cutouts);
+    put_saved(out, cutouts_end, elements, preset.count);
+}
+
+fn write_accepted(s: Settings, out: &mut [u8]) -> OrderAnswer
+    requires { ⌜ acceptedOf s ≡ true ⌝ }
+    ensures answer { λ r. ⌜ orderAnswer r ≡ roomFor (length (orderBytes s)) (now (out .entry)) ⌝ }
+    ensures output { λ _. ⌜ now (out .exit) ≡ withFront (orderBytes s) (now (out .entry)) ⌝ }
+{
+    let length = order_length(s);
+    if out.len() < length {
+        return OrderAnswer::Refused(8);
+    }
+    let at = put_first(out, s);
+    put_last(out, at, s.preset, s.cutouts);
+    OrderAnswer::Bytes(length)
+}
+
+// As `write_order`; the marks of mode and fit are tested as the bytes that they came from.
+pub fn write_order_with(mode: u8, fit: u8, s: Settings, out: &mut [u8]) -> OrderAnswer
+    ensures answer { λ r. ⌜ orderAnswer r ≡ writtenOrder (testedOf mode fit s) (now (out .entry)) ⌝ }
+    ensures output { λ _. ⌜ now (out .exit) ≡ writtenOrderOutput (testedOf mode fit s) (now (out .entry)) ⌝ }
+{
+    let fault = settings::first_fault(mode, fit, s);
+    if fault != 0 {
+        return OrderAnswer::Refused(fault);
+    }
+    write_accepted(s, out)
+}
+
+pub fn write_order(s: Settings, out: &mut [u8]) -> OrderAnswer
+    ensures answer { λ r. ⌜ orderAnswer r ≡ writeOrderOf s (now (out .entry)) ⌝ }
+    ensures output { λ _. ⌜ now (out .exit) ≡ orderOutputOf s (now (out .entry)) ⌝ }
+{
+    write_order_with(0, 0, s, out)
+}
