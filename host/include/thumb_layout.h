@@ -9,7 +9,7 @@
 
    Answers
      0 or more: what the function says below.
-     Below 0: minus the number of a refusal, and then no element of a lent output has changed.
+     Below 0: minus the number of a refusal, or of TL_BAD_CALL, and then no element of a lent output has changed.
 
    What the caller sees to
      - A pointer comes with a length in elements, and points to that many; with length 0 it may be NULL. One that is declared with a
@@ -30,7 +30,7 @@
 extern "C" {
 #endif
 
-/* The refusals. The first faulty field of an order decides. */
+/* The refusals. The first faulty field of an order, or of settings, decides. */
 enum tl_refusal {
     TL_CUT_OFF = 1,         /* a header or value runs past the end */
     TL_OUT_OF_TURN = 2,     /* a tag that is not 1 to 7, or not above the one before */
@@ -39,8 +39,11 @@ enum tl_refusal {
     TL_ODD_MARK = 5,        /* a reserved bit set, or a fit above 2 */
     TL_OFF_THE_SCALE = 6,   /* a number outside its limits */
     TL_OVERFULL = 7,        /* over 16 cutouts or 32 saved rectangles */
-    TL_SHEET_TOO_SMALL = 8  /* an output shorter than the layout */
+    TL_SHEET_TOO_SMALL = 8  /* an output shorter than what is written */
 };
+
+/* A wrong call, and no refusal of an order: numbers of rectangles that are not four for each. It comes before every refusal. */
+enum { TL_BAD_CALL = 100 };
 
 /* The bits of a button mask, by the names of the film sheet. A psp has none above TL_R1, only analog has L3 and R3. */
 enum tl_button {
@@ -68,6 +71,9 @@ enum { TL_LAYOUT_STANDARD = 285, TL_LAYOUT_ANALOG = 353, TL_LAYOUT_PSP = 265, TL
 /* Bytes of a film sheet. */
 enum { TL_SHEET = 1024 };
 
+/* Bytes of the longest order that is written. */
+enum { TL_ORDER_MOST = 827 };
+
 /* The layout of an order, written to `out`. README.md, "The interface for hosts", describes an order's fields.
    Fields of the layout: a tag of one byte, a length of two bytes (high byte first), the value. Tag 1 is the game, four f32 of four
    bytes each (high byte first): x, y, w, h. Tag 2 has the elements, 16 bytes each: the d-pad, the controls, pause, playback, speed,
@@ -89,6 +95,18 @@ int32_t tl_viewport_layout(const uint8_t *order, size_t order_len, float reusabl
    A refused order has a sheet too, the line REFUSED with the refusal's number, and its answer is that text's length.
    Answers: the text's length, at most 788. Nothing is refused. */
 int32_t tl_film(const uint8_t *order, size_t order_len, uint8_t sheet[1024]);
+
+/* The order of settings, written to `out`: the shortest that is read as these settings, after two replacements. Negative zero becomes
+   plus zero; a saved rectangle with a number that is not finite becomes four times the NaN 7FC00000. A field that then has the value
+   which its absence means is left out (README.md has these values); the screen never is.
+   numbers: screen w, h, picture x, y, w, h, game_scale, game_offset x, y.
+   mode, fit: the bytes of tags 3 and 4.
+   cutouts, saved: x, y, w, h of each rectangle; the lengths count numbers.
+   Answers: the number of bytes written, at most 827; later bytes of `out` stay. Or -100 (TL_BAD_CALL) if cutouts_len or saved_len is
+   no multiple of 4. Or the refusal that such an order would get, in the order of the tags: -6 for screen and picture, -5 for mode and
+   fit, -6 for game_scale and game_offset, -7 and then -6 for cutouts, -7 for saved. Or, after these, -8. */
+int32_t tl_write_order(const float numbers[9], uint8_t mode, uint8_t fit, const float *cutouts, size_t cutouts_len, const float *saved,
+                       size_t saved_len, uint8_t *out, size_t out_len);
 
 /* The part of a screen inside the system's edges.
    numbers: size w, h, the size w, h at which the edges were measured, the edges left, top, right, bottom.

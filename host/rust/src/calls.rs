@@ -14,6 +14,17 @@ unsafe extern "C" {
         out_len: usize,
     ) -> i32;
     fn tl_film(order: *const u8, order_len: usize, sheet: &mut [u8; 1024]) -> i32;
+    fn tl_write_order(
+        numbers: &[f32; 9],
+        mode: u8,
+        fit: u8,
+        cutouts: *const f32,
+        cutouts_len: usize,
+        saved: *const f32,
+        saved_len: usize,
+        out: *mut u8,
+        out_len: usize,
+    ) -> i32;
     safe fn tl_safe_content(numbers: &[i32; 8], area: &mut [f32; 4]) -> i32;
     safe fn tl_safe_edges(numbers: &[i32; 12], local_side_camera: u8, edges: &mut [i32; 4]) -> i32;
 }
@@ -74,6 +85,34 @@ pub fn film(order: &[u8]) -> String {
     // SAFETY: the pointer is passed with the length of what it points to.
     let length = unsafe { tl_film(order.as_ptr(), order.len(), &mut sheet) };
     String::from_utf8(sheet[..length as usize].to_vec()).expect("a sheet is ASCII")
+}
+
+/// Writes the order of settings to the start of `out`, and gives the number of
+/// bytes. Whole rectangles are passed, so that no call is a wrong one (100).
+pub(crate) fn write_order(
+    numbers: &[f32; 9],
+    mode: u8,
+    fit: u8,
+    cutouts: &[[f32; 4]],
+    saved: &[[f32; 4]],
+    out: &mut [u8],
+) -> Result<usize, Refusal> {
+    let (cutouts, saved) = (cutouts.as_flattened(), saved.as_flattened());
+    // SAFETY: each pointer is passed with the length of what it points to.
+    let number = unsafe {
+        tl_write_order(
+            numbers,
+            mode,
+            fit,
+            cutouts.as_ptr(),
+            cutouts.len(),
+            saved.as_ptr(),
+            saved.len(),
+            out.as_mut_ptr(),
+            out.len(),
+        )
+    };
+    Ok(answer(number)? as usize)
 }
 
 /// The part of a screen of this size inside the edges (left, top, right,

@@ -1,6 +1,6 @@
 use std::{error, fmt};
 
-/// Why an order or a call is refused. The first fault decides.
+/// Why an order, settings or a call is refused. The first fault decides.
 #[derive(Clone, Copy, Debug, PartialEq, Eq, Hash)]
 #[repr(u8)]
 pub enum Refusal {
@@ -18,7 +18,7 @@ pub enum Refusal {
     OffTheScale = 6,
     /// Over 16 cutouts or 32 saved rectangles.
     Overfull = 7,
-    /// The output is shorter than the layout.
+    /// The output is shorter than what is written.
     SheetTooSmall = 8,
 }
 
