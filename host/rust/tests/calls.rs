@@ -2,8 +2,8 @@
 //! outputs.
 use std::thread;
 use thumb_layout::{
-    LAYOUT_MOST, Layout, Rect, Refusal, button, film, layout, safe_content, safe_edges, touch,
-    viewport_layout,
+    Fit, LAYOUT_MOST, Layout, ORDER_MOST, Rect, Refusal, Settings, button, film, layout,
+    safe_content, safe_edges, touch, viewport_layout,
 };
 
 /// A field of an order.
@@ -173,6 +173,213 @@ fn tops_come_last() {
         assert_eq!(answer, Err(Refusal::NoScreen));
     }
     assert_eq!(viewport_layout(&good, 8192., -8192., &mut out), Ok(285));
+}
+
+/// Settings with a screen of 1,000 by 1,000, changed.
+fn settings(change: impl FnOnce(&mut Settings)) -> Settings {
+    let mut settings = Settings::new(1000., 1000.);
+    change(&mut settings);
+    settings
+}
+
+/// Every field differs from what its absence means, and the lists are full.
+fn full() -> Settings {
+    Settings {
+        screen: [800., 1280.],
+        picture: Some(rect(0., 24., 800., 1256.)),
+        psp: false,
+        analog: true,
+        allow_overlap: true,
+        fit: Fit::KeepClear,
+        game_scale: 0.75,
+        game_offset: [0.5, 0.25],
+        cutouts: vec![rect(1., 2., 3., -4.); 16],
+        saved: vec![rect(0.5, 0.25, 0.125, 2.); 32],
+    }
+}
+
+#[test]
+fn orders_of_settings() {
+    let written = |change: fn(&mut Settings)| settings(change).to_order().unwrap();
+    assert_eq!(written(|_| ()), order(&[]));
+    // one field each
+    assert_eq!(
+        written(|s| s.picture = Some(rect(-1., 2., 3., 4.))),
+        order(&[field(2, &numbers(&[-1., 2., 3., 4.]))])
+    );
+    assert_eq!(written(|s| s.psp = true), order(&[field(3, &[1])]));
+    assert_eq!(written(|s| s.analog = true), order(&[field(3, &[2])]));
+    assert_eq!(
+        written(|s| s.allow_overlap = true),
+        order(&[field(3, &[4])])
+    );
+    assert_eq!(written(|s| s.fit = Fit::Unset), order(&[field(4, &[0])]));
+    assert_eq!(written(|s| s.fit = Fit::Maximum), order(&[]));
+    assert_eq!(
+        written(|s| s.fit = Fit::KeepClear),
+        order(&[field(4, &[2])])
+    );
+    assert_eq!(
+        written(|s| s.game_scale = 2.),
+        order(&[field(5, &numbers(&[2., 0.5, 0.5]))])
+    );
+    assert_eq!(
+        written(|s| s.game_offset = [0.25, 0.75]),
+        order(&[field(5, &numbers(&[1., 0.25, 0.75]))])
+    );
+    assert_eq!(
+        written(|s| s.cutouts = vec![rect(1., 2., 3., 4.), rect(5., 6., 7., 8.)]),
+        order(&[field(6, &numbers(&[1., 2., 3., 4., 5., 6., 7., 8.]))])
+    );
+    assert_eq!(
+        written(|s| s.saved = vec![rect(1e9, 2., -3., 4.), rect(5., 6., 7., 8.)]),
+        order(&[field(7, &numbers(&[1e9, 2., -3., 4., 5., 6., 7., 8.]))])
+    );
+    // all fields
+    let bytes = [
+        field(1, &numbers(&[800., 1280.])),
+        field(2, &numbers(&[0., 24., 800., 1256.])),
+        field(3, &[6]),
+        field(4, &[2]),
+        field(5, &numbers(&[0.75, 0.5, 0.25])),
+        field(6, &numbers(&[1., 2., 3., -4.].repeat(16))),
+        field(7, &numbers(&[0.5, 0.25, 0.125, 2.].repeat(32))),
+    ];
+    assert_eq!(full().to_order(), Ok(bytes.concat()));
+    assert_eq!(bytes.concat().len(), ORDER_MOST);
+}
+
+#[test]
+fn an_absent_picture_is_the_screen() {
+    for (w, h) in [(1000., 600.), (0.5, 1.), (0., -0.), (8192., 0.999)] {
+        let none = Settings::new(w, h);
+        let whole = rect(0., -0., f32::max(w, 1.), f32::max(h, 1.));
+        let some = Settings {
+            picture: Some(whole),
+            ..none.clone()
+        };
+        assert_eq!(none.to_order(), some.to_order());
+        assert_eq!(none.to_order(), Ok(field(1, &numbers(&[w, h.abs()]))));
+        let other = Settings {
+            picture: Some(rect(0., 0., w, f32::max(h, 1.) + 1.)),
+            ..none
+        };
+        assert_eq!(other.to_order().unwrap().len(), 11 + 19);
+    }
+    assert_eq!(Settings::default(), Settings::new(0., 0.));
+    assert_eq!(
+        Settings::default().to_order(),
+        Ok(field(1, &numbers(&[0., 0.])))
+    );
+}
+
+#[test]
+fn replaced_numbers() {
+    let zeros = Settings {
+        screen: [-0., -0.],
+        picture: Some(rect(-0., -0., -0., -0.)),
+        game_scale: -0.,
+        game_offset: [-0., -0.],
+        cutouts: vec![rect(-0., -0., -0., -0.)],
+        saved: vec![rect(-0., -0., -0., -0.)],
+        ..Settings::default()
+    };
+    let bytes = [
+        field(1, &[0; 8]),
+        field(2, &[0; 16]),
+        field(5, &[0; 12]),
+        field(6, &[0; 16]),
+        field(7, &[0; 16]),
+    ];
+    assert_eq!(zeros.to_order(), Ok(bytes.concat()));
+    let infinite = [f32::INFINITY, f32::NEG_INFINITY];
+    let nans = [0x7FC0_0000, 0xFFFF_ABCD, 0x7F80_0001].map(f32::from_bits);
+    for number in infinite.into_iter().chain(nans) {
+        for i in 0..4 {
+            let mut r = [0.25, -0., f32::MAX, 1e-45];
+            r[i] = number;
+            let [x, y, w, h] = r;
+            let s = settings(|s| s.saved = vec![rect(1., -0., 3., 4.), rect(x, y, w, h)]);
+            let value = [numbers(&[1., 0., 3., 4.]), [0x7F, 0xC0, 0, 0].repeat(4)];
+            assert_eq!(s.to_order(), Ok(order(&[field(7, &value.concat())])));
+        }
+    }
+}
+
+#[test]
+fn refused_settings() {
+    let off = Some(Refusal::OffTheScale);
+    let overfull = Some(Refusal::Overfull);
+    let mends: [(fn(&mut Settings), _); 6] = [
+        (|_| (), off),
+        (|s| s.screen = [1000., 1000.], off),
+        (|s| s.picture = None, off),
+        (|s| (s.game_scale, s.game_offset) = (1., [0.5; 2]), overfull),
+        (|s| s.cutouts.truncate(16), off),
+        (|s| s.cutouts[15].h = 8192., overfull),
+    ];
+    // every fault, mended one by one in the order of the tags
+    let mut faulty = Settings {
+        screen: [8193., f32::NAN],
+        picture: Some(rect(0., 0., -1., 0.)),
+        game_scale: f32::INFINITY,
+        game_offset: [-8193., 0.],
+        cutouts: vec![rect(0., 0., 0., 8192.001); 17],
+        saved: vec![Rect::default(); 33],
+        ..full()
+    };
+    faulty.cutouts[..15].fill(Rect::default());
+    for (mend, refusal) in mends {
+        mend(&mut faulty);
+        for room in [0, 11, ORDER_MOST + 40] {
+            let mut out = vec![0xAA; room];
+            assert_eq!(faulty.write_order(&mut out).err(), refusal);
+            assert!(out.iter().all(|&b| b == 0xAA));
+        }
+        assert_eq!(faulty.to_order().err(), refusal);
+    }
+    faulty.saved.truncate(32);
+    assert_eq!(faulty.write_order(&mut []), Err(Refusal::SheetTooSmall));
+    let length = 11 + 4 + 4 + (3 + 16 * 16) + (3 + 16 * 32);
+    assert_eq!(faulty.to_order().map(|order| order.len()), Ok(length));
+}
+
+#[test]
+fn outputs_of_orders() {
+    for settings in [Settings::new(1000., 1000.), full()] {
+        let order = settings.to_order().unwrap();
+        for room in [order.len(), order.len() + 1, ORDER_MOST + 40] {
+            let mut out = vec![0xAA; room];
+            assert_eq!(settings.write_order(&mut out), Ok(order.len()));
+            assert_eq!(out[..order.len()], order);
+            assert!(out[order.len()..].iter().all(|&b| b == 0xAA));
+        }
+        let mut small = vec![0xAA; order.len() - 1];
+        let answer = settings.write_order(&mut small);
+        assert_eq!(answer, Err(Refusal::SheetTooSmall));
+        assert!(small.iter().all(|&b| b == 0xAA));
+    }
+}
+
+/// The orders that are written are accepted, and mean what was set.
+#[test]
+fn written_orders_are_read() {
+    let layout = |s: Settings| Layout::of_order(&s.to_order().unwrap()).unwrap();
+    assert_eq!(layout(full()).sticks.len(), 2);
+    let psp = layout(settings(|s| s.psp = true));
+    assert_eq!(psp, Layout::of_order(&order(&[field(3, &[1])])).unwrap());
+    // An unset fit goes by the size factor.
+    let fit = |fit, scale| layout(settings(|s| (s.fit, s.game_scale) = (fit, scale)));
+    assert_eq!(fit(Fit::Unset, 1.), fit(Fit::Maximum, 1.));
+    assert_eq!(fit(Fit::Unset, 0.75), fit(Fit::KeepClear, 0.75));
+    assert_ne!(fit(Fit::Unset, 0.75), fit(Fit::Maximum, 0.75));
+    // The two replacements change no layout.
+    let (x, y) = ([0.25, f32::NAN, 0.125, 0.125], [-0., 0.5, 0.125, 0.125]);
+    let rects = [x, y].map(|[x, y, w, h]| rect(x, y, w, h));
+    let saved = layout(settings(|s| s.saved = rects.to_vec()));
+    let kept = order(&[field(7, &numbers([x, y].as_flattened()))]);
+    assert_eq!(saved, Layout::of_order(&kept).unwrap());
+    assert_ne!(saved, layout(settings(|s| s.saved = vec![rects[0]])));
 }
 
 #[test]
