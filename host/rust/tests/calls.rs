@@ -342,6 +342,20 @@ fn refused_settings() {
     assert_eq!(faulty.write_order(&mut []), Err(Refusal::SheetTooSmall));
     let length = 11 + 4 + 4 + (3 + 16 * 16) + (3 + 16 * 32);
     assert_eq!(faulty.to_order().map(|order| order.len()), Ok(length));
+    // one fault alone
+    let faults: [fn(&mut Settings); 8] = [
+        |s| s.screen[0] = f32::NAN,
+        |s| s.screen[1] = -1e-45,
+        |s| s.picture = Some(rect(0., 8192.001, 0., 0.)),
+        |s| s.picture = Some(rect(0., 0., -1e-45, 0.)),
+        |s| s.game_scale = f32::NAN,
+        |s| s.game_offset[0] = f32::NEG_INFINITY,
+        |s| s.game_offset[1] = -8192.001,
+        |s| s.cutouts = vec![rect(0., f32::NAN, 0., 0.)],
+    ];
+    for fault in faults {
+        assert_eq!(settings(fault).to_order(), Err(Refusal::OffTheScale));
+    }
 }
 
 #[test]
