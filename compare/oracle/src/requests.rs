@@ -1,6 +1,6 @@
 //! The requests that the oracle answers.
 use player::access::{self, LayoutData, picture};
-use player::order::{self, Answer};
+use player::order::{self, Answer, ROOM, writer::Given};
 use player::words::{Rest, Value, line, words};
 use player::{PictureFit, PlayerViewport, Preset, Rect, sheet};
 
@@ -124,6 +124,8 @@ requests! {
     order_viewport(order: Vec<u8>, tops: [f32; 2], lent: usize, fill: u8)
         -> (Answer<usize>, Vec<u8>)
         = order::lent(lent, fill, |out| order::viewport_layout(&order, tops, out));
+    write_order(settings: Given, lent: usize, start: u16) -> (Answer<usize>, [u8; ROOM])
+        = order::lent_noise(lent, start, |out| settings.write(out));
     order_film(order: Vec<u8>) -> ([u8; 1024], usize) = sheet::film_sheet(&order);
 }
 

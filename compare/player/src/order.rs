@@ -1,5 +1,7 @@
 //! The order as document 01 has it, answered by the Rust: its bytes are read,
 //! the Rust lays out, and the layout's bytes are written.
+pub mod writer;
+
 use crate::access::native::{self, Layout};
 use crate::{PictureFit, PlayerViewport, Preset, Rect};
 
@@ -231,6 +233,35 @@ pub fn lent<T>(length: usize, fill: u8, call: impl FnOnce(&mut [u8]) -> T) -> (T
     let mut out = vec![fill; length];
     let answer = call(&mut out);
     (answer, out)
+}
+
+/// How much is lent to a function, and looked at after it: more than any may
+/// write to.
+pub const ROOM: usize = 1088;
+
+/// Bytes of an xorshift generator.
+static NOISE: [u8; 65536 + ROOM] = {
+    let (mut bytes, mut state, mut i) = ([0; 65536 + ROOM], 0x9E37_79B9_7F4A_7C15u64, 0);
+    while i < bytes.len() {
+        state ^= state << 13;
+        state ^= state >> 7;
+        state ^= state << 17;
+        bytes[i] = (state >> 32) as u8;
+        i += 1;
+    }
+    bytes
+};
+
+/// A function's answer, and all the bytes as it leaves them, of which it was
+/// lent the first: each was noise.
+pub fn lent_noise<T>(
+    length: usize,
+    start: u16,
+    call: impl FnOnce(&mut [u8]) -> T,
+) -> (T, [u8; ROOM]) {
+    let mut out = [0; ROOM];
+    out.copy_from_slice(&NOISE[usize::from(start)..][..ROOM]);
+    (call(&mut out[..length]), out)
 }
 
 pub fn layout(order: &[u8], out: &mut [u8]) -> Answer<usize> {

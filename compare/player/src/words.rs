@@ -3,6 +3,7 @@
 //! items, an optional value is 0, or 1 and the value, a value that may be
 //! refused is 0 and the value, or the refusal's number.
 use crate::access::{ControlData, LABELS, LayoutData};
+use crate::order::writer::Given;
 use crate::{PictureFit, PlayerViewport, Preset, Rect};
 use std::fmt;
 
@@ -231,6 +232,7 @@ fields! {
     Preset as "preset" {
         psp, analog, allow_overlap, picture_fit, game_scale, game_offset, elements
     } Preset::default();
+    Given as "settings" { numbers, mode, fit, cutouts, saved };
     PlayerViewport as "viewport" { controls, picture, reusable_top, covered_top };
 }
 
