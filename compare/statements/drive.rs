@@ -130,6 +130,32 @@ fn whole(r: &mut Random) -> i32 {
     r.one(&[0, 0, 1, 10, 100, 500, 600, 800, -1, -50, 9, 20]) + r.below(3) as i32
 }
 
+/// Rectangles as numbers, at times one too many or no whole number of them.
+fn rects(r: &mut Random, most: u64, mut number: impl FnMut(&mut Random) -> f32) -> Vec<f32> {
+    let n = r.one(&[0, 0, 1, 2, most / 2, most, if r.chance(90) { most } else { most + 1 }]);
+    let more = if r.chance(97) { 0 } else { r.below(4) };
+    (0..4 * n + more).map(|_| number(r)).collect()
+}
+
+/// Settings at and about their defaults and limits are written.
+fn write_order(r: &mut Random) {
+    let (w, h) = if r.chance(70) { (side(r), side(r)) } else { (r.one(&ODD).abs(), r.one(&ODD).abs()) };
+    let mut numbers = [w, h, 0.0, 0.0, w.max(1.0), h.max(1.0), 1.0, 0.5, 0.5];
+    for n in &mut numbers {
+        if r.chance(8) {
+            *n = if r.chance(50) { r.one(&ODD) } else { side(r) };
+        }
+    }
+    let limited = |r: &mut Random| if r.chance(99) { r.one(&[1.0, -1.0]) * side(r) } else { r.one(&ODD) };
+    let cutouts = rects(r, 16, limited);
+    let saved = rects(r, 32, |r| if r.chance(90) { side(r) / 4.0 } else { r.one(&ODD) });
+    let mode = if r.chance(96) { r.below(8) as u8 } else { r.next() as u8 };
+    let fit = if r.chance(96) { r.below(3) as u8 } else { r.next() as u8 };
+    let length = 11 + 4 * (cutouts.len() + saved.len()) + r.one(&[0, 3, 4, 6, 7, 8, 15, 19, 21, 25, 29, 48]);
+    let length = if r.chance(60) { 900 } else { length + r.below(3) as usize - 1 };
+    thumb_layout::tl_write_order(&numbers, mode, fit, &cutouts, &saved, &mut vec![7; length]);
+}
+
 fn hosts(r: &mut Random) {
     let o = order(r);
     let mut out = vec![7u8; if r.chance(90) { 400 } else { r.one(&[0, 264, 265, 284, 285, 352, 353]) }];
@@ -150,6 +176,7 @@ fn hosts(r: &mut Random) {
     thumb_layout::tl_safe_content(&numbers, &mut [0.5; 4]);
     let edges = [(); 12].map(|_| whole(r));
     thumb_layout::tl_safe_edges(&edges, r.below(3) as u8, &mut [1; 4]);
+    write_order(r);
 }
 
 /// Functions that hosts do not reach, or seldom with what matters.

@@ -109,11 +109,11 @@ fn touches(name: &str, cases: &[Case]) {
 }
 
 /// Each contestant goes through all cases, once each, in its turn.
-fn duel<T, U>(
+pub fn duel<C, T, U>(
     name: &str,
-    cases: &[Case],
-    mut theirs: impl FnMut(&Case) -> T,
-    mut ours: impl FnMut(&Case) -> U,
+    cases: &[C],
+    mut theirs: impl FnMut(&C) -> T,
+    mut ours: impl FnMut(&C) -> U,
 ) {
     let theirs = || {
         timed(|| {

@@ -1,7 +1,11 @@
 //! How much stack a call takes: the stack below a frame is painted, and
 //! afterwards the lowest byte that changed is looked for.
-use check::{orders, random::Random};
-use player::{order, sheet};
+use check::{orders, random::Random, settings};
+use ours::host;
+use player::{
+    order::{self, writer::Given},
+    sheet,
+};
 use std::{arch::asm, thread};
 
 /// How far is painted, and how far below the frame that begins, since the
@@ -9,7 +13,7 @@ use std::{arch::asm, thread};
 const ROOM: usize = 1 << 18;
 const NEXT: usize = 1 << 10;
 const PAINT: u8 = 0xA5;
-const ORDERS: usize = 20_000;
+const CASES: i64 = 20_000;
 /// Room for a film sheet, and so for any layout.
 const OUT: usize = 1024;
 
@@ -45,15 +49,14 @@ fn depth(call: &mut dyn FnMut()) -> usize {
     (NEXT..ROOM).rev().find(used).unwrap_or(NEXT)
 }
 
-/// The stack that the deepest of many calls takes, on orders of all kinds.
-fn deepest(call: Call) -> usize {
+/// The stack that the deepest of many calls takes.
+fn deepest<C>(make: fn(&mut Random) -> C, call: Call<C>) -> usize {
     let each = move || {
-        let r = &mut Random::new(1);
-        let orders = r.list(ORDERS as i64, ORDERS as i64, orders::sound);
+        let cases = Random::new(1).list(CASES, CASES, make);
         let mut out = [0; OUT];
         depth(&mut || {
-            for order in &orders {
-                assert!(call(&order.bytes, &mut out), "a sound order");
+            for case in &cases {
+                assert!(call(case, &mut out), "a sound case");
             }
         })
     };
@@ -64,11 +67,16 @@ fn deepest(call: Call) -> usize {
     })
 }
 
-/// Whether an order is accepted.
-type Call = fn(&[u8], &mut [u8; OUT]) -> bool;
+/// Whether a case is accepted.
+type Call<C> = fn(&C, &mut [u8; OUT]) -> bool;
 
-/// The Rust, and ours.
-const CALLS: &[(&str, Call, Call)] = &[
+/// Orders of all kinds.
+fn order(r: &mut Random) -> Vec<u8> {
+    orders::sound(r).bytes
+}
+
+/// The Rust, and ours, on orders.
+const CALLS: &[(&str, Call<Vec<u8>>, Call<Vec<u8>>)] = &[
     (
         "stack layout",
         |order, out| order::layout(order, out).is_ok(),
@@ -87,15 +95,30 @@ const CALLS: &[(&str, Call, Call)] = &[
     (
         "stack film",
         |order, _| sheet::film_sheet(order).0.starts_with(b"FILM"),
-        film,
+        |order, out| film(order, out),
     ),
 ];
 
+/// The same on settings.
+const WRITE: (&str, Call<Given>, Call<Given>) = (
+    "stack write",
+    |given, out| given.write(out).is_ok(),
+    |given, out| {
+        let marks = [given.mode, given.fit];
+        host::write_order(&given.numbers, marks, &given.cutouts, &given.saved, out).is_ok()
+    },
+);
+
+fn compare<C>(make: fn(&mut Random) -> C, (name, theirs, ours): (&str, Call<C>, Call<C>)) {
+    let [theirs, ours] = [theirs, ours].map(|call| deepest(make, call));
+    println!("{name:<42} Rust {theirs:>6} bytes, ours {ours:>6} bytes");
+}
+
 pub fn run(chosen: &dyn Fn(&str) -> bool) {
-    for (name, theirs, ours) in CALLS {
-        if chosen(name) {
-            let [theirs, ours] = [theirs, ours].map(|call| deepest(*call));
-            println!("{name:<42} Rust {theirs:>6} bytes, ours {ours:>6} bytes");
-        }
+    for calls in CALLS.iter().filter(|(name, ..)| chosen(name)) {
+        compare(order, *calls);
+    }
+    if chosen(WRITE.0) {
+        compare(settings::sound, WRITE);
     }
 }

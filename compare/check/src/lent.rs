@@ -3,6 +3,7 @@ use ours::probe::{self, Layout, List, Rects};
 use player::{
     PictureFit, Preset, Rect,
     access::{ControlData, LayoutData},
+    order::writer::Given,
 };
 
 /// The labels of each kind of layout and its number of sticks.
@@ -116,5 +117,24 @@ pub fn preset_data(from: &probe::Preset) -> Preset {
             .map(rect)
             .collect(),
         ..Preset::default()
+    }
+}
+
+/// What our reader of orders gives, as numbers.
+pub fn given(from: &probe::Settings) -> Given {
+    let probe::Settings {
+        screen: [w, h],
+        picture: [x, y, width, height],
+        preset,
+        cutouts,
+    } = from;
+    let [scale, across, down] = preset.game;
+    let [psp, analog, allow_overlap, fit] = preset.marks;
+    Given {
+        numbers: [*w, *h, *x, *y, *width, *height, scale, across, down],
+        mode: psp | analog << 1 | allow_overlap << 2,
+        fit,
+        cutouts: cutouts.at[..cutouts.count].as_flattened().to_vec(),
+        saved: preset.places[..preset.count].as_flattened().to_vec(),
     }
 }

@@ -18,6 +18,7 @@ pub mod orders;
 #[cfg(feature = "probe")]
 pub mod picture;
 pub mod random;
+pub mod settings;
 #[cfg(feature = "probe")]
 pub mod uncalled;
 pub mod widest;

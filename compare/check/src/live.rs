@@ -1,6 +1,9 @@
 //! Orders compared in every way at once: the layout's bytes or its refusal,
 //! the film sheet, touches, a viewport; and demand 3 measured of what was
-//! written. Each order is read and laid out by the Rust once.
+//! written. Each order is read and laid out by the Rust once. [`written`]
+//! compares the writer of orders.
+pub mod written;
+
 use crate::{
     driver::{Class, Tally, lines, shown},
     generate::{any_number, edge_touch},
@@ -22,7 +25,7 @@ use player::{
         LayoutData,
         native::{self, Layout},
     },
-    order::{self, Answer, Settings},
+    order::{self, Answer, ROOM, Settings},
     sheet,
     words::Value,
 };
@@ -31,10 +34,10 @@ use std::{
     panic::{AssertUnwindSafe, catch_unwind},
 };
 
-/// How many orders a block has.
+/// How many orders, or settings, a block has.
 pub const BLOCK: u64 = 10_000;
 
-/// What is compared of an order.
+/// What is compared of an order, and then of settings.
 #[derive(Clone, Copy)]
 enum What {
     Layout,
@@ -43,15 +46,27 @@ enum What {
     Mask,
     Viewport,
     Widest,
+    Written,
+    ReadByOurs,
+    ReadByTheirs,
+    Again,
+    EveryField,
+    FromOrder,
 }
 
-const NAMES: [&str; 6] = [
+const NAMES: [&str; 12] = [
     "layouts and refusals, every byte of the lent output",
     "film sheets, 1,024 bytes and the length",
     "touches by order",
     "touches by mask_near on the order's layout",
     "viewports, every byte of the lent output",
     "demand 3, in exact arithmetic",
+    "settings written, every byte of the lent output",
+    "written orders, read back by the library",
+    "written orders, read back by the Rust's reader",
+    "settings read back, written to the same bytes",
+    "settings in an order with every field, read or refused as they are written",
+    "generated orders, read, written and read back",
 ];
 
 /// How many cases there were, and how many of them differed: listed in
@@ -66,7 +81,7 @@ struct Compared {
 /// What was compared, and what came of it.
 #[derive(Default)]
 pub struct Counts {
-    compared: [Compared; 6],
+    compared: [Compared; NAMES.len()],
     tally: Tally,
     /// The most that a rival was wider than its game, and that a game met an
     /// element both across and down.
@@ -79,6 +94,9 @@ pub struct Counts {
 impl Counts {
     pub fn orders(&self) -> u64 {
         self.compared[What::Layout as usize].cases
+    }
+    pub fn settings(&self) -> u64 {
+        self.compared[What::Written as usize].cases
     }
     pub fn unlisted(&self) -> u64 {
         self.compared.iter().map(|c| c.unlisted).sum()
@@ -124,7 +142,8 @@ fn greatest(a: Option<f64>, b: Option<f64>) -> Option<f64> {
 
 impl fmt::Display for Counts {
     fn fmt(&self, f: &mut fmt::Formatter) -> fmt::Result {
-        for (name, c) in NAMES.iter().zip(self.compared) {
+        let compared = NAMES.iter().zip(self.compared);
+        for (name, c) in compared.filter(|(_, c)| c.cases > 0) {
             write!(f, "{name}: {} cases, ", c.cases)?;
             if c.listed > 0 {
                 write!(f, "{} differences of hypot's, ", c.listed)?;
@@ -145,11 +164,12 @@ impl fmt::Display for Counts {
         let listed: u64 = self.compared.iter().map(|c| c.listed).sum();
         write!(
             f,
-            "{} orders, {} touches, {} viewports, demand 3 measured {} times: {listed} listed, {} unlisted differences",
+            "{} orders, {} touches, {} viewports, demand 3 measured {} times, {} settings: {listed} listed, {} unlisted differences",
             self.orders(),
             cases(What::Touch) + cases(What::Mask),
             cases(What::Viewport),
             cases(What::Widest),
+            self.settings(),
             self.unlisted()
         )
     }
@@ -312,9 +332,6 @@ impl<'a> Case<'a> {
     }
 }
 
-/// What was lent to a function: more than it may write to.
-const ROOM: usize = 1088;
-
 /// A function's answer, and the bytes as it leaves them: those lent to it, and
 /// more after them.
 fn lent(
@@ -383,12 +400,18 @@ mod tests {
 
     #[test]
     fn a_block_is_the_same_again_and_compares_everything() {
-        let counts = block(1, 0);
-        assert_eq!(counts.orders(), BLOCK);
+        let both = |seed, number| {
+            let mut counts = block(seed, number);
+            let more = written::block(seed, number);
+            assert_eq!([&counts.shown, &more.shown], [&[""; 0]; 2]);
+            counts.add(more);
+            counts
+        };
+        let counts = both(1, 0);
+        assert_eq!([counts.orders(), counts.settings()], [BLOCK; 2]);
         assert!(counts.compared.iter().all(|c| c.cases > 1000));
-        assert_eq!(counts.shown, [""; 0]);
-        assert_eq!(counts.to_string(), block(1, 0).to_string());
-        assert_ne!(counts.to_string(), block(1, 1).to_string());
-        assert_ne!(counts.to_string(), block(2, 0).to_string());
+        assert_eq!(counts.to_string(), both(1, 0).to_string());
+        assert_ne!(counts.to_string(), both(1, 1).to_string());
+        assert_ne!(counts.to_string(), both(2, 0).to_string());
     }
 }

@@ -513,7 +513,7 @@ fn extreme(r: &mut Random) -> Parts {
 
 /// A saved number: a part of a screen, one just beyond its edge, or any of the
 /// f32 that tag 7 takes: NaN with any payload, infinities, subnormal, huge.
-fn saved_number(r: &mut Random) -> f32 {
+pub fn saved_number(r: &mut Random) -> f32 {
     match r.below(16) {
         0 => signed(r, 0x7F80_0001, 0x7FFF_FFFF),
         1 => r.pick(&[f32::INFINITY, f32::NEG_INFINITY]),

@@ -124,6 +124,8 @@ requests! {
     order_viewport(order: Vec<u8>, tops: [f32; 2], lent: usize, fill: u8)
         -> (Answer<usize>, Vec<u8>)
         = order::lent(lent, fill, |out| order::viewport_layout(&order, tops, out));
+    read_order(order: Vec<u8>) -> Answer<Given>
+        = order::read(&order).map(|settings| Given::from(&settings));
     write_order(settings: Given, lent: usize, start: u16) -> (Answer<usize>, [u8; ROOM])
         = order::lent_noise(lent, start, |out| settings.write(out));
     order_film(order: Vec<u8>) -> ([u8; 1024], usize) = sheet::film_sheet(&order);

@@ -1,6 +1,19 @@
 //! The functions that hosts call.
+// Links libthumb_layout.a, for the functions whose names start with tl_.
+use thumb_layout as _;
 
 unsafe extern "C" {
+    fn tl_write_order(
+        numbers: &[f32; 9],
+        mode: u8,
+        fit: u8,
+        cutouts: *const f32,
+        cutouts_len: usize,
+        saved: *const f32,
+        saved_len: usize,
+        out: *mut u8,
+        out_len: usize,
+    ) -> i32;
     fn probe_layout(order: *const u8, order_len: usize, out: *mut u8, out_len: usize) -> usize;
     fn probe_touch(order: *const u8, order_len: usize, x: f32, y: f32, previous: u16) -> usize;
     fn probe_viewport_layout(
@@ -55,6 +68,32 @@ pub fn viewport_layout(order: &[u8], tops: [f32; 2], out: &mut [u8]) -> Answer<u
             out.len(),
         )
     })
+}
+
+/// The mode and the fit are the bytes of tags 3 and 4; cutouts and saved
+/// rectangles have four numbers each.
+pub fn write_order(
+    numbers: &[f32; 9],
+    [mode, fit]: [u8; 2],
+    cutouts: &[f32],
+    saved: &[f32],
+    out: &mut [u8],
+) -> Answer<usize> {
+    // SAFETY: each pointer is passed with the length of what it points to.
+    let number = unsafe {
+        tl_write_order(
+            numbers,
+            mode,
+            fit,
+            cutouts.as_ptr(),
+            cutouts.len(),
+            saved.as_ptr(),
+            saved.len(),
+            out.as_mut_ptr(),
+            out.len(),
+        )
+    };
+    usize::try_from(number).map_err(|_| -number)
 }
 
 /// An answer that can only be refused as off the scale.

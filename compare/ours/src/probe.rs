@@ -154,6 +154,17 @@ unsafe extern "C" {
         places: &mut [[f32; 4]; 32],
         count: usize,
     ) -> usize;
+    fn probe_read_order(
+        order: *const u8,
+        order_len: usize,
+        screen: &mut [f32; 2],
+        picture: &mut Rects,
+        cutouts: &mut Rects,
+        marks: &mut [u8; 4],
+        game: &mut [f32; 3],
+        places: &mut [[f32; 4]; 32],
+        counts: &mut [usize; 2],
+    ) -> u8;
     fn probe_layout_with_cutouts(
         marks: &[u8; 4],
         game: &[f32; 3],
@@ -191,6 +202,15 @@ pub struct Preset {
     pub game: [f32; 3],
     pub places: [[f32; 4]; 32],
     pub count: usize,
+}
+
+/// What an order says.
+#[derive(Clone, Debug)]
+pub struct Settings {
+    pub screen: [f32; 2],
+    pub picture: [f32; 4],
+    pub preset: Preset,
+    pub cutouts: List,
 }
 
 /// How often a function runs in one call, for timing: the answer is the last.
@@ -442,4 +462,45 @@ pub fn layout_with_cutouts(preset: &Preset, w: f32, h: f32, cutouts: &List) -> O
     maybe(kind, |out| unsafe {
         probe_layout_with_cutouts(marks, game, places, *count, w, h, at, n, out)
     })
+}
+
+/// The settings of an order, or the number of its refusal.
+pub fn read_order(order: &[u8]) -> Result<Settings, i32> {
+    let mut screen = [0.; 2];
+    let [mut picture, mut cutouts] = [[[0.; 4]; 20]; 2];
+    let (mut marks, mut game, mut places) = ([0; 4], [0.; 3], [[0.; 4]; 32]);
+    let mut counts = [0; 2];
+    // SAFETY: the pointer is passed with the length of what it points to.
+    let refusal = unsafe {
+        probe_read_order(
+            order.as_ptr(),
+            order.len(),
+            &mut screen,
+            &mut picture,
+            &mut cutouts,
+            &mut marks,
+            &mut game,
+            &mut places,
+            &mut counts,
+        )
+    };
+    let [holes, count] = counts;
+    let settings = Settings {
+        screen,
+        picture: picture[0],
+        preset: Preset {
+            marks,
+            game,
+            places,
+            count,
+        },
+        cutouts: List {
+            at: cutouts,
+            count: holes,
+        },
+    };
+    match refusal {
+        0 => Ok(settings),
+        _ => Err(refusal.into()),
+    }
 }

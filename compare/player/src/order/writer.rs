@@ -118,16 +118,19 @@ impl Given {
             saved: saved.iter().copied().flat_map(kept).collect(),
         }
     }
+}
 
-    /// Equal bit for bit.
-    pub fn same(&self, other: &Self) -> bool {
-        let same = |a: &[f32], b: &[f32]| {
-            a.len() == b.len() && a.iter().zip(b).all(|(a, b)| a.to_bits() == b.to_bits())
-        };
-        same(&self.numbers, &other.numbers)
+fn bits(numbers: &[f32]) -> impl Iterator<Item = u32> {
+    numbers.iter().map(|n| n.to_bits())
+}
+
+/// Equal bit for bit.
+impl PartialEq for Given {
+    fn eq(&self, other: &Self) -> bool {
+        bits(&self.numbers).eq(bits(&other.numbers))
             && (self.mode, self.fit) == (other.mode, other.fit)
-            && same(&self.cutouts, &other.cutouts)
-            && same(&self.saved, &other.saved)
+            && bits(&self.cutouts).eq(bits(&other.cutouts))
+            && bits(&self.saved).eq(bits(&other.saved))
     }
 }
 
