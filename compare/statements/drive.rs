@@ -132,12 +132,12 @@ fn whole(r: &mut Random) -> i32 {
 
 /// Rectangles as numbers, at times one too many or no whole number of them.
 fn rects(r: &mut Random, most: u64, mut number: impl FnMut(&mut Random) -> f32) -> Vec<f32> {
-    let n = r.one(&[0, 0, 1, 2, most / 2, most, if r.chance(90) { most } else { most + 1 }]);
+    let n = if r.chance(97) { r.one(&[0, 0, 1, 2, most / 2, most]) } else { most + 1 };
     let more = if r.chance(97) { 0 } else { r.below(4) };
     (0..4 * n + more).map(|_| number(r)).collect()
 }
 
-/// Settings at and about their defaults and limits are written.
+/// Settings at and about their defaults and limits are written: into more room than they need, just enough, and one byte less.
 fn write_order(r: &mut Random) {
     let (w, h) = if r.chance(70) { (side(r), side(r)) } else { (r.one(&ODD).abs(), r.one(&ODD).abs()) };
     let mut numbers = [w, h, 0.0, 0.0, w.max(1.0), h.max(1.0), 1.0, 0.5, 0.5];
@@ -151,9 +151,12 @@ fn write_order(r: &mut Random) {
     let saved = rects(r, 32, |r| if r.chance(90) { side(r) / 4.0 } else { r.one(&ODD) });
     let mode = if r.chance(96) { r.below(8) as u8 } else { r.next() as u8 };
     let fit = if r.chance(96) { r.below(3) as u8 } else { r.next() as u8 };
-    let length = 11 + 4 * (cutouts.len() + saved.len()) + r.one(&[0, 3, 4, 6, 7, 8, 15, 19, 21, 25, 29, 48]);
-    let length = if r.chance(60) { 900 } else { length + r.below(3) as usize - 1 };
-    thumb_layout::tl_write_order(&numbers, mode, fit, &cutouts, &saved, &mut vec![7; length]);
+    let write = |length| thumb_layout::tl_write_order(&numbers, mode, fit, &cutouts, &saved, &mut vec![7; length]);
+    let length = write(900);
+    if length > 0 {
+        write(length as usize);
+        write(length as usize - 1);
+    }
 }
 
 fn hosts(r: &mut Random) {
