@@ -9,10 +9,13 @@ use crate::{
     settings::{Made, settings},
 };
 use ours::{host, probe};
-use player::order::{
-    self, Answer, ODD_MARK, OFF_THE_SCALE, OVERFULL, ROOM, SHEET_TOO_SMALL, field, lent_noise,
-    number_bytes,
-    writer::{BAD_CALL, Given, ORDER_MOST},
+use player::{
+    order::{
+        self, Answer, ODD_MARK, OFF_THE_SCALE, OVERFULL, ROOM, SHEET_TOO_SMALL, field, lent_noise,
+        number_bytes,
+        writer::{BAD_CALL, Given, ORDER_MOST},
+    },
+    words::Value,
 };
 use std::panic::{AssertUnwindSafe, catch_unwind};
 
@@ -26,14 +29,15 @@ pub fn block(seed: u64, number: u64) -> Counts {
         let made = settings(r);
         let one = || compare(&made, &mut counts);
         if catch_unwind(AssertUnwindSafe(one)).is_err() {
-            counts.panicked(&made.given);
+            let input = (made.given, made.lent, made.start);
+            counts.panicked(What::Written, "write_order", &input);
         }
         if i % 4 == 0 {
             let bytes = orders::order(r).bytes;
             let start = r.bits() as u16;
             let one = || from_order(&bytes, start, &mut counts);
             if catch_unwind(AssertUnwindSafe(one)).is_err() {
-                counts.panicked(&bytes);
+                counts.panicked(What::FromOrder, "read_order", &bytes);
             }
         }
     }
@@ -42,10 +46,9 @@ pub fn block(seed: u64, number: u64) -> Counts {
 
 impl Counts {
     /// Counts a case in which a side panicked.
-    fn panicked(&mut self, input: &impl player::words::Value) {
-        self.compared[What::Written as usize].unlisted += 1;
-        let shown = shown::<u16>("write_order", input, &None, &None);
-        self.shown.push(shown);
+    fn panicked(&mut self, what: What, function: &str, input: &impl Value) {
+        self.compared[what as usize].unlisted += 1;
+        self.shown.push(shown::<u16>(function, input, &None, &None));
     }
 }
 
@@ -68,8 +71,10 @@ fn compare(made: &Made, counts: &mut Counts) {
     let Made {
         given, lent, start, ..
     } = made;
-    let ours = written(given, *lent, *start, counts, What::Written);
+    let (ours, theirs) = written(given, *lent, *start);
     let (answer, out) = ours;
+    let input = || (given.clone(), *lent, *start);
+    counts.compare(What::Written, "write_order", input, ours, theirs);
     for class in classes(made, answer) {
         counts.class(class);
     }
@@ -87,19 +92,15 @@ fn compare(made: &Made, counts: &mut Counts) {
     counts.compare(What::EveryField, "read_order", input, read(&full), read_as);
 }
 
-/// The library's answer and the lent bytes, compared with the Rust's.
-fn written(
-    given: &Given,
-    lent: usize,
-    start: u16,
-    counts: &mut Counts,
-    what: What,
-) -> (Answer<usize>, [u8; ROOM]) {
-    let ours = lent_noise(lent, start, |out| write(given, out));
-    let theirs = lent_noise(lent, start, |out| given.write(out));
-    let input = || (given.clone(), lent, start);
-    counts.compare(what, "write_order", input, ours, theirs);
-    ours
+/// An answer and the lent bytes.
+type Written = (Answer<usize>, [u8; ROOM]);
+
+/// The library's, and the Rust's.
+fn written(given: &Given, lent: usize, start: u16) -> (Written, Written) {
+    (
+        lent_noise(lent, start, |out| write(given, out)),
+        lent_noise(lent, start, |out| given.write(out)),
+    )
 }
 
 /// Both readers give the settings after the replacements, and these are
@@ -132,25 +133,21 @@ fn from_order(order: &[u8], start: u16, counts: &mut Counts) {
     let Ok(settings) = read(order) else {
         return;
     };
-    let (answer, out) = written(&settings, ORDER_MOST, start, counts, What::FromOrder);
-    let read_back = answer.and_then(|length| {
-        counts.class((
-            "generated orders, written",
-            match length {
-                _ if length < order.len() => "shorter",
-                _ if out[..length] == *order => "the same",
-                _ => "as long",
-            },
-        ));
-        if length > order.len() {
-            Err(0)
-        } else {
-            read(&out[..length])
-        }
-    });
+    let (ours, theirs) = written(&settings, ORDER_MOST, start);
+    let (answer, out) = ours;
+    let length = answer.unwrap_or(0);
+    counts.class((
+        "generated orders, written",
+        match length {
+            _ if length < order.len() => "shorter",
+            _ if out[..length] == *order => "the same",
+            _ => "as long",
+        },
+    ));
+    let ours = (ours, length <= order.len(), read(&out[..length]));
+    let theirs = (theirs, true, Ok(settings.replaced()));
     let input = || order.to_vec();
-    let replaced = Ok(settings.replaced());
-    counts.compare(What::FromOrder, "read_order", input, read_back, replaced);
+    counts.compare(What::FromOrder, "read_order", input, ours, theirs);
 }
 
 /// An order with all fields, with the numbers as they are given.
