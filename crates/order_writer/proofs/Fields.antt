@@ -4,20 +4,12 @@ use mathlib.Core.Bool.{Bool, true, false, cond}
 use mathlib.Core.List.{List, [], _∷_, map, flatMap}
 use Prim.Native.Nat.{ℕ, _+_}
 use native.Mathlib.Omega.{arith}
-use lib.Dec.{eqb}
-use lib.Ieee.{Float}
 use lib.ListN.{length, length-append}
-use Rattle.prelude.specs.Lists.{isEmpty, stored}
+use Rattle.prelude.specs.Lists.{stored}
 use Rattle.prelude.proofs.Stores.{then}
-use Rattle.geometry.specs.declared.Rect.{Rect}
-use Rattle.layout.specs.declared.Cutouts.{Cutouts}
-use Rattle.layout.specs.Layout.{cutoutList}
-use Rattle.settings.specs.declared.Preset.{Preset}
-use Rattle.settings.specs.declared.Settings.{Settings}
-use Rattle.settings.specs.Settings.{defaultOf, screenPictureOf, modeByteOf, fitByteOf, untouchedOf}
-use Rattle.wire.specs.Wire.{shortBytes, numberBytes, rectBytes, headBytes}
-use Rattle.wire.proofs.Items.{length-f32, length-rect, length-field-head, length-items}
-use Rattle.order_writer.specs.OrderBytes.{fieldUnless, screenField, equalOf, rectsField, rectsLength, firstFields, lastFields}
+use Rattle.wire.specs.Wire.{headBytes}
+use Rattle.wire.proofs.Items.{length-field-head}
+use Rattle.order_writer.specs.OrderBytes.{fieldUnless}
 
 pub length-unless : (absent : Bool) (tag : ℕ) (v : List ℕ) {n : ℕ} → length v ≡ n → length (fieldUnless absent tag v) ≡ cond absent 0 (3 + n)
 length-unless true tag v e = refl

@@ -1,14 +1,18 @@
 -- The two replacements: what they leave of the lists, and that the bytes are those of the numbers as they were, with saved rectangles made writable.
-use mathlib.Core.Path.{_≡_, refl, ap, sym, _∙_}
+use mathlib.Core.Path.{_≡_, refl, _∙_}
 use mathlib.Core.Bool.{Bool, true, false, cond}
-use mathlib.Core.List.{List, [], _∷_, _++_, map, map-map, flatMap}
-use Prim.Native.Nat.{ℕ, _+_, _-_, _≤_}
+use mathlib.Core.List.{List, [], _∷_, _++_, map, map-map}
+use Prim.Native.Nat.{ℕ, _+_, _-_, _*_, _≤_}
 use native.Mathlib.Nat.{zero-mul}
-use lib.Ieee.{Float, nan, inf, fin, binary32, ofBits, down, fits, lt, eq, ne}
+use native.Mathlib.Omega.{arith}
+use borrow.Author.Tests.{lt-ltb}
+use lib.IntN.{ℤ}
+use lib.Ieee.Fits.{down-pos}
+use lib.Ieee.{Float, fin, ofBits, up, down, lt, eq, ne}
 use lib.Dec.{eqb}
 use lib.ListN.{length, replicate, length-map}
 use lib.Seq.{take-at, length-take-le}
-use Rattle.prelude.specs.Lists.{allOf, isEmpty}
+use Rattle.prelude.specs.Lists.{allOf}
 use Rattle.prelude.proofs.Booleans.{either, both}
 use Rattle.prelude.proofs.EachLaws.{all-each}
 use Rattle.float.specs.Float.{k0, k0·5, k1}
@@ -20,10 +24,9 @@ use Rattle.layout.specs.Layout.{cutoutList}
 use Rattle.settings.specs.declared.Preset.{Preset}
 use Rattle.settings.specs.declared.Settings.{Settings}
 use Rattle.settings.specs.Settings.{savedList, screenPictureOf, modeByteOf, fitByteOf, untouchedOf, usableOf, IsF32, Fitting}
-use Rattle.wire.specs.Wire.{rectBytes, plusZero, plusZeroRect}
+use Rattle.wire.specs.Wire.{plusZero, plusZeroRect}
 use Rattle.wire.proofs.Rects.{bits-f32}
-use Rattle.wire.proofs.ReadBack.{minusZero}
-use Rattle.wire.proofs.PlusZero.{plus-zero-same, number-same, rect-same, rects-same}
+use Rattle.wire.proofs.PlusZero.{zeros-same, number-same, rect-same, rects-same, eq-same}
 use Rattle.order_writer.specs.OrderBytes.{writableOf, replacedPreset, replacedCutouts, replacedOf, equalOf, placeField, rectsField, rectsLength, firstFields, lastFields, fieldsOf, orderBytes}
 use Rattle.order_writer.proofs.Runs.{joined, first-length, last-length}
 
@@ -57,61 +60,52 @@ module _ (p : Preset) (h : p .count ≤ length (p .elements)) where
       (take-at (map plusZeroRect (listed p)) (replicate (32 - p .count) emptyRect) (p .count) (length-map (listed p) plusZeroRect ∙ counted))
 
 -- ---- tests and bytes do not see the sign of zero
-zeros-equal : (y : Float) → eq k0 y ≡ eq minusZero y
-unfolding eq ofBits
-zeros-equal nan = refl
-zeros-equal (inf s) = refl
-zeros-equal (fin true m e) = rw (zero-mul (down e))
-zeros-equal (fin false m e) = rw (zero-mul (down e))
-
-eq-same : (x y : Float) → fits binary32 x ≡ true → eq (plusZero x) y ≡ eq x y
-eq-same x y f = plus-zero-same (λ z. eq z y) (zeros-equal y) x f
-
-max-same : (x : Float) → fits binary32 x ≡ true → maxOf (plusZero x) k1 ≡ maxOf x k1
+max-same : (x : Float) → maxOf (plusZero x) k1 ≡ maxOf x k1
 unfolding maxOf ne lt eq ofBits
-max-same x f = plus-zero-same (λ z. maxOf z k1) refl x f
+max-same = zeros-same (λ z. maxOf z k1) go
+  where
+    go : (s : Bool) (m : ℕ) (g : ℤ) → m * up g ≡ 0 → maxOf k0 k1 ≡ maxOf (fin s m g) k1
+    go true m g h = rw (h, zero-mul (down g), lt-ltb 0 (0 + 1 * 1 * down g) (omega (arith, down-pos g)))
+    go false m g h = rw (h, zero-mul (down g), lt-ltb 0 (1 * 1 * down g) (omega (arith, down-pos g)))
 
-rects-field-same : (tag : ℕ) (l : List Rect) → allOf rectIsF32 l ≡ true → rectsField tag (map plusZeroRect l) ≡ rectsField tag l
-rects-field-same tag l f = rw (length-map l plusZeroRect, rects-same l (all-each rectIsF32 l f))
+rects-field-same : (tag : ℕ) (l : List Rect) → rectsField tag (map plusZeroRect l) ≡ rectsField tag l
+rects-field-same tag l = rw (length-map l plusZeroRect, rects-same l)
 
-module _ (s : Settings) (f : IsF32 s) where
+module _ (s : Settings) where
   picture-same : equalOf (plusZeroRect (s .picture)) (screenPictureOf (plusZero (s .w)) (plusZero (s .h))) ≡ equalOf (s .picture) (screenPictureOf (s .w) (s .h))
-  unfolding equalOf rectIsF32
+  unfolding equalOf
   picture-same =
       let r = s .picture in
-      let x = both _ _ (f .picture) in
-      let y = both _ _ (x .1) in
-      let z = both _ _ (y .1) in
-      rw (
-        eq-same (r .x) k0 (x .0),
-        eq-same (r .y) k0 (y .0),
-        max-same (s .w) (f .w),
-        max-same (s .h) (f .h),
-        eq-same (r .w) (maxOf (s .w) k1) (z .0),
-        eq-same (r .h) (maxOf (s .h) k1) (z .1),
-      )
+      rw (eq-same (r .x) k0, eq-same (r .y) k0, max-same (s .w), max-same (s .h), eq-same (r .w) (maxOf (s .w) k1), eq-same (r .h) (maxOf (s .h) k1))
 
   place-same : placeField (replacedPreset (s .preset)) ≡ placeField (s .preset)
   unfolding replacedPreset untouchedOf
   place-same =
       let p = s .preset in
       rw (
-        eq-same (p .scale) k1 (f .scale),
-        eq-same (p .offset .x) k0·5 (f .across),
-        eq-same (p .offset .y) k0·5 (f .down),
-        number-same (p .scale) (f .scale),
-        number-same (p .offset .x) (f .across),
-        number-same (p .offset .y) (f .down),
+        eq-same (p .scale) k1,
+        eq-same (p .offset .x) k0·5,
+        eq-same (p .offset .y) k0·5,
+        number-same (p .scale),
+        number-same (p .offset .x),
+        number-same (p .offset .y),
       )
 
   first-same : firstFields (replacedOf s) ≡ firstFields s
   unfolding replacedOf replacedPreset modeByteOf
-  first-same = rw (picture-same, number-same (s .w) (f .w), number-same (s .h) (f .h), rect-same (s .picture) (f .picture))
+  first-same = rw (picture-same, number-same (s .w), number-same (s .h), rect-same (s .picture))
 
   module _ (fit-arrays : Fitting s) where
     last-same : lastFields (replacedOf s .preset) (replacedOf s .cutouts) (savedList (replacedOf s .preset)) ≡ lastFields (s .preset) (s .cutouts) (listed (s .preset))
     unfolding replacedOf
-    last-same = rw (cutouts-listed (s .cutouts) (fit-arrays .0), saved-listed (s .preset) (fit-arrays .1), rects-field-same 6 (cutoutList (s .cutouts)) (f .cutouts), rects-field-same 7 (listed (s .preset)) (all-writable (savedList (s .preset)) (f .saved)), place-same)
+    last-same =
+        rw (
+          cutouts-listed (s .cutouts) (fit-arrays .0),
+          saved-listed (s .preset) (fit-arrays .1),
+          rects-field-same 6 (cutoutList (s .cutouts)),
+          rects-field-same 7 (listed (s .preset)),
+          place-same,
+        )
 
     pub as-written : orderBytes s ≡ firstFields s ++ lastFields (s .preset) (s .cutouts) (listed (s .preset))
     unfolding orderBytes fieldsOf

@@ -2,7 +2,7 @@
 use mathlib.Core.Path.{_≡_, refl, ap, _∙_}
 use mathlib.Core.Bool.{Bool, cond}
 use mathlib.Core.List.{List, [], _∷_, _++_, flatMap}
-use Prim.Native.Nat.{ℕ, _+_, _≤_}
+use Prim.Native.Nat.{ℕ, _+_}
 use native.Mathlib.Omega.{arith}
 use lib.Dec.{eqb}
 use lib.Ieee.{Float}
@@ -51,7 +51,8 @@ module _ (s : Settings) {absent : Bool} {mode fit : ℕ}
   pub first-length : length (firstFields s) ≡ 11 + (cond absent 0 19 + (cond (eqb mode 0) 0 4 + cond (eqb fit 1) 0 4))
   first-length =
       let bytes = joined (byteField 0 3 mode) (byteField 1 4 fit) (length-unless (eqb mode 0) 3 (mode ∷ []) refl) (length-unless (eqb fit 1) 4 (fit ∷ []) refl) in
-      rw found (joined (screenField (s .w) (s .h)) (picture ++ (byteField 0 3 mode ++ byteField 1 4 fit)) (length-screen (s .w) (s .h)) (joined picture (byteField 0 3 mode ++ byteField 1 4 fit) long bytes))
+      let rest = joined picture (byteField 0 3 mode ++ byteField 1 4 fit) long bytes in
+      rw found (joined (screenField (s .w) (s .h)) (picture ++ (byteField 0 3 mode ++ byteField 1 4 fit)) (length-screen (s .w) (s .h)) rest)
 
   pub first-run : (out : List ℕ) {at₂ at₃ : ℕ} {o₁ o₂ o₃ o₄ : List ℕ} → o₁ ≡ stored out 0 (screenField (s .w) (s .h))
       → at₂ ≡ 11 + cond absent 0 19 → o₂ ≡ stored o₁ 11 picture

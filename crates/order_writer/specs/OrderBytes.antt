@@ -12,7 +12,6 @@ use Rattle.geometry.specs.Rect.{newOf, rectArray}
 use Rattle.geometry.specs.declared.Offset.{Offset}
 use Rattle.layout.specs.declared.Cutouts.{Cutouts}
 use Rattle.layout.specs.Layout.{cutoutList}
-use Rattle.settings.specs.declared.Fit.{Fit}
 use Rattle.settings.specs.declared.Preset.{Preset}
 use Rattle.settings.specs.declared.Settings.{Settings}
 use Rattle.settings.specs.Settings.{savedList, defaultOf, withPlace, withElements, withScreen, withPreset, withCutouts}

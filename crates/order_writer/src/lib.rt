@@ -9,7 +9,8 @@ ghost use Rattle.prelude.specs.Lists.{stored};
 ghost use Rattle.layout.specs.Layout.{cutoutList};
 ghost use Rattle.settings.specs.Settings.{savedList, testedOf, acceptedOf};
 ghost use Rattle.wire.specs.Wire.{numberBytes, rectBytes, roomFor, withFront};
-ghost use Rattle.order_writer.specs.OrderBytes.{writableOf, fieldUnless, screenField, equalOf, byteField, rectsField, rectsLength, firstFields, lastFields, orderBytes, orderAnswer, writtenOrder, writtenOrderOutput, writeOrderOf, orderOutputOf};
+ghost use Rattle.order_writer.specs.OrderBytes.{writableOf, fieldUnless, screenField, equalOf, byteField, rectsField, rectsLength, firstFields, lastFields};
+ghost use Rattle.order_writer.specs.OrderBytes.{orderBytes, orderAnswer, writtenOrder, writtenOrderOutput, writeOrderOf, orderOutputOf};
 use geometry::Offset;
 use geometry::Rect;
 use layout::Cutouts;
@@ -40,7 +41,7 @@ fn writable(r: Rect) -> Rect
 fn equal(a: Rect, b: Rect) -> bool
     ensures { λ r. ⌜ r ≡ equalOf a b ⌝ }
 {
-    a.x == b.x && (a.y == b.y && (a.w == b.w && a.h == b.h))
+    (a.x == b.x) & ((a.y == b.y) & ((a.w == b.w) & (a.h == b.h)))
 }
 
 // ---- a field at `at`, unless it is left out: gives where the next one goes

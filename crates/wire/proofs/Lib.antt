@@ -3,4 +3,3 @@ pub mod Output
 pub mod Rects
 pub mod ReadBack
 pub mod PlusZero
-pub mod Owned

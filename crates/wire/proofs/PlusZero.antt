@@ -1,10 +1,11 @@
 -- Plus zero for negative zero: what sees no sign of zero stays the same, and equal numbers become the same value.
 use mathlib.Core.Path.{_≡_, refl, ap, sym, _∙_}
-use mathlib.Core.Bool.{Bool, true, false, _||_, Bool·beq}
+use mathlib.Core.Bool.{Bool, true, false, _&&_, _||_, Bool·beq}
 use mathlib.Core.List.{List, [], _∷_, map, flatMap}
-use Prim.Native.Nat.{ℕ, _*_, _/_, _^_, _<_}
-use native.Mathlib.Nat.{mul-right-comm, zero-mul, eq-of-mul-eq-mul-right}
-use borrow.Author.Tests.{eqb-true}
+use Prim.Native.Nat.{ℕ, zero, suc, _*_, _/_, _^_, _<_}
+use native.Mathlib.Nat.{mul-right-comm, zero-mul, suc-mul, eq-of-mul-eq-mul-right, div-eq-of-lt}
+use native.Mathlib.Omega.{arith}
+use borrow.Author.Tests.{eqb-true, ne-eqb}
 use lib.Dec.{T, eqb}
 use lib.IntN.{ℤ, pos}
 use lib.Ieee.{Float, nan, inf, fin, binary32, low, up, down, ofBits, toBits, fits, eq}
@@ -17,7 +18,7 @@ use Rattle.float.specs.Float.{k0}
 use Rattle.geometry.specs.declared.Rect.{Rect}
 use Rattle.geometry.specs.Rect.{rectIsF32}
 use Rattle.wire.specs.Wire.{writtenBitsOf, numberBytes, rectBytes, plusZero, plusZeroRect}
-use Rattle.wire.proofs.ReadBack.{plus-zero-ind, zero-form, minusZero, zero-ind}
+use Rattle.wire.proofs.ReadBack.{plus-zero-ind, zero-size, zero-form, minusZero, zero-ind}
 
 -- what is the same for both zeros
 pub plus-zero-same : {B : Type 0} (f : Float → B) → f k0 ≡ f minusZero → (x : Float) → fits binary32 x ≡ true → f (plusZero x) ≡ f x
@@ -33,22 +34,60 @@ pub plus-zero-twice : (x : Float) → fits binary32 x ≡ true → plusZero (plu
 unfolding plusZero eq ofBits
 plus-zero-twice x p = plus-zero-same plusZero refl x p
 
-pub number-same : (x : Float) → fits binary32 x ≡ true → numberBytes (plusZero x) ≡ numberBytes x
-unfolding numberBytes writtenBitsOf toBits ofBits
-number-same x p = plus-zero-same numberBytes refl x p
+-- what is the same for every number that is zero, however it is written
+pub zeros-same : {B : Type 0} (f : Float → B) → ((s : Bool) (m : ℕ) (g : ℤ) → m * up g ≡ 0 → f k0 ≡ f (fin s m g)) → (x : Float) → f (plusZero x) ≡ f x
+unfolding eq ofBits
+zeros-same f h x = plus-zero-ind (λ y. f y ≡ f x) x (go x) (λ _. refl)
+  where
+    go : (x : Float) → eq x k0 ≡ true → f k0 ≡ f x
+    go nan e = cc
+    go (inf s) e = cc
+    go (fin s m g) e = h s m g (zero-size s m g e)
 
-pub rect-same : (r : Rect) → rectIsF32 r ≡ true → rectBytes (plusZeroRect r) ≡ rectBytes r
-unfolding rectBytes rectIsF32
-rect-same r e =
-    let a = both _ _ e in
-    let b = both _ _ (a .1) in
-    let c = both _ _ (b .1) in
-    rw (number-same (r .x) (a .0), number-same (r .y) (b .0), number-same (r .w) (c .0), number-same (r .h) (c .1))
+zero-bits : (s : Bool) (m : ℕ) (g : ℤ) → m * up g ≡ 0 → writtenBitsOf k0 ≡ writtenBitsOf (fin s m g)
+unfolding writtenBitsOf toBits ofBits
+zero-bits s m g h =
+    let none : m * up g * 2 ^ low binary32 / down g ≡ 0 = rw (h, zero-mul (2 ^ low binary32)) (div-eq-of-lt (down-pos g)) in
+    rw none (go s)
+  where
+    go : (s : Bool) → 0 ≡ writtenBitsOf (fin s 0 (pos 0))
+    go true = refl
+    go false = refl
 
-pub rects-same : (l : List Rect) → Each (λ r. rectIsF32 r ≡ true) l → flatMap rectBytes (map plusZeroRect l) ≡ flatMap rectBytes l
+pub number-same : (x : Float) → numberBytes (plusZero x) ≡ numberBytes x
+unfolding numberBytes
+number-same x = rw (zeros-same writtenBitsOf zero-bits x)
+
+pub rect-same : (r : Rect) → rectBytes (plusZeroRect r) ≡ rectBytes r
+unfolding rectBytes
+rect-same r = rw (number-same (r .x), number-same (r .y), number-same (r .w), number-same (r .h))
+
+pub rects-same : (l : List Rect) → flatMap rectBytes (map plusZeroRect l) ≡ flatMap rectBytes l
 unfolding flatMap
-rects-same [] e = refl
-rects-same (r ∷ l) e = rw (rect-same r (e .0), rects-same l (e .1))
+rects-same [] = refl
+rects-same (r ∷ l) = rw (rect-same r, rects-same l)
+
+-- no test for equality sees how a zero is written
+zero-level : (x k : ℕ) → 0 < k → eqb 0 x ≡ eqb 0 (x * k)
+zero-level zero k h = rw (zero-mul k)
+zero-level (suc x) k h = rw (ne-eqb 0 (suc x) (λ e. let z : ⊥ = omega arith in z), ne-eqb 0 (suc x * k) (λ e. let z : ⊥ = omega (arith, suc-mul x k) in z))
+
+same-test : (p q a b : Bool) → p ≡ q → (p && (a || true)) ≡ (q && (b || true))
+same-test p q true true e = ap (λ r. r && true) e
+same-test p q true false e = ap (λ r. r && true) e
+same-test p q false true e = ap (λ r. r && true) e
+same-test p q false false e = ap (λ r. r && true) e
+
+pub eq-same : (x y : Float) → eq (plusZero x) y ≡ eq x y
+unfolding eq ofBits
+eq-same x y = zeros-same (λ z. eq z y) (λ s m g h. go s m g h y) x
+  where
+    go : (s : Bool) (m : ℕ) (g : ℤ) → m * up g ≡ 0 → (y : Float) → eq k0 y ≡ eq (fin s m g) y
+    go s m g h nan = refl
+    go s m g h (inf t) = refl
+    go s m g h (fin t n d) =
+        let size = n * up d in
+        rw (h, zero-mul (down d)) (same-test (eqb 0 (size * 1)) (eqb 0 (size * down g)) (Bool·beq false t) (Bool·beq s t) (sym (zero-level size 1 (omega arith)) ∙ zero-level size (down g) (down-pos g)))
 
 -- ---- equal numbers
 

@@ -1,14 +1,12 @@
 -- The numbers of a value, of its rectangles and of an array filled with them are values of binary32.
-use mathlib.Core.Path.{_≡_, refl, sym, _∙_}
+use mathlib.Core.Path.{_≡_, refl}
 use mathlib.Core.Bool.{true}
-use mathlib.Core.List.{List, [], _∷_}
-use Prim.Native.Nat.{ℕ, zero, suc, _+_, _-_, _*_, _<_}
-use native.Mathlib.Numerals.{add-one}
-use native.Mathlib.Omega.{arith}
+use mathlib.Core.List.{List}
+use Prim.Native.Nat.{ℕ, zero, suc, _+_, _-_, _*_}
 use lib.Ieee.{binary32, ofBits, fits}
 use lib.Ieee.Bits.{is-true, ofBits-fits}
-use lib.ListN.{length, take, set, replicate, length-append}
-use lib.Seq.{take-at, set-at, append-snoc}
+use lib.ListN.{take, replicate}
+use lib.Seq.{take-at}
 use Rattle.prelude.specs.Lists.{allOf, tabulate}
 use Rattle.prelude.proofs.ListLaws.{all-snoc, length-tabulate}
 use Rattle.geometry.specs.Rect.{emptyRect, rectIsF32}

@@ -7,24 +7,22 @@ use native.Mathlib.Omega.{arith}
 use borrow.Author.Tests.{eqb-true}
 use lib.Dec.{eqb, leb}
 use lib.Ieee.{Float}
-use lib.ListN.{length, replicate, length-map}
-use lib.Seq.{take-at, length-take-le}
+use lib.ListN.{length, length-map}
+use lib.Seq.{length-take-le}
 use Rattle.prelude.specs.Answer.{accepted}
 use Rattle.prelude.specs.Lists.{allOf, isEmpty}
 use Rattle.prelude.proofs.EachLaws.{all-each}
 use Rattle.geometry.specs.declared.Rect.{Rect}
-use Rattle.geometry.specs.Rect.{emptyRect, rectIsF32}
+use Rattle.geometry.specs.Rect.{rectIsF32}
 use Rattle.geometry.specs.declared.Offset.{Offset}
 use Rattle.geometry.specs.Offset.{centred}
-use Rattle.layout.specs.declared.Cutouts.{Cutouts}
 use Rattle.layout.specs.Layout.{cutoutList}
 use Rattle.settings.specs.declared.Preset.{Preset}
 use Rattle.settings.specs.declared.Settings.{Settings}
 use Rattle.settings.specs.Settings.{savedList, defaultOf, absentOf, withPlace, withPicture, withPreset, screenPictureOf, hasBit, modeByteOf}
-use Rattle.settings.specs.Settings.{fitMarkOf, fitByteOf, untouchedOf, usableOf, cutoutsInLimitsOf, acceptedOf, IsF32, Fitting}
+use Rattle.settings.specs.Settings.{fitMarkOf, fitByteOf, untouchedOf, cutoutsInLimitsOf, IsF32, Fitting}
 use Rattle.settings.proofs.Accepted.{Accepted, accepted-parts}
 use Rattle.wire.specs.Wire.{numberBytes, rectBytes, plusZero, plusZeroRect}
-use Rattle.wire.proofs.Rects.{bits-f32}
 use Rattle.wire.proofs.PlusZero.{number-same, rect-same, rects-same}
 use Rattle.reader.specs.Order.{fromByteOf, readFieldOf, readOrderOf}
 use Rattle.order_writer.specs.OrderBytes.{writableOf, replacedPreset, replacedCutouts, replacedOf, screenField, equalOf}
@@ -45,7 +43,7 @@ module _ (k : ℕ) {s t : Settings} (small : k ≤ 7) (rest : List ℕ) where
   ends-rects : (next : List Rect → Settings) (l : List Rect) → allOf rectIsF32 l ≡ true → next [] ≡ s → readFieldOf (fromByteOf k) (flatMap rectBytes l) s ≡ accepted (next l)
       → Ends (suc k) (next l) t rest → Ends k s t (rectsField k (map plusZeroRect l) ++ rest)
   ends-rects next l f e reads on =
-      rw (rects-same l (all-each rectIsF32 l f), length-map l plusZeroRect) (ends-field k (isEmpty l) (flatMap rectBytes l) rest small (λ z. ap next (empty-list l z) ∙ e) reads on)
+      rw (rects-same l, length-map l plusZeroRect) (ends-field k (isEmpty l) (flatMap rectBytes l) rest small (λ z. ap next (empty-list l z) ∙ e) reads on)
 
 module _ (s : Settings) (f : IsF32 s) (a : Accepted s) (fit-arrays : Fitting s) where
   abbrev w : Float
@@ -141,7 +139,7 @@ module _ (s : Settings) (f : IsF32 s) (a : Accepted s) (fit-arrays : Fitting s) 
   ends5 : Ends 5 s4 s7 from5
   ends5 =
       ends-field 5 (untouchedOf placed) (numberBytes (placed .scale) ++ (numberBytes (placed .offset .x) ++ numberBytes (placed .offset .y))) from6 (omega arith) no-place
-      (rw (number-same (p .scale) (f .scale), number-same (p .offset .x) (f .across), number-same (p .offset .y) (f .down))
+      (rw (number-same (p .scale), number-same (p .offset .x), number-same (p .offset .y))
       (place-given s4 (p .scale) (p .offset) (f .scale) (f .across) (f .down) ∙ passed _ 6 _ (a .place)))
       ends6
 
@@ -167,11 +165,11 @@ module _ (s : Settings) (f : IsF32 s) (a : Accepted s) (fit-arrays : Fitting s) 
   ends2 =
       ends-field 2 (equalOf (plusZeroRect (s .picture)) (screenPictureOf w h)) (rectBytes (plusZeroRect (s .picture))) from3 (omega arith)
       (λ e. ap (withPicture s1) (picture-left-out (s .w) (s .h) (f .w) (f .h) (s .picture) (f .picture) e))
-      (rw (rect-same (s .picture) (f .picture)) (picture-given s1 (s .picture) (f .picture) ∙ passed _ 6 _ (a .picture)))
+      (rw (rect-same (s .picture)) (picture-given s1 (s .picture) (f .picture) ∙ passed _ 6 _ (a .picture)))
       ends3
 
   screen-read : readFieldOf (fromByteOf 1) (numberBytes w ++ numberBytes h) absentOf ≡ accepted s1
-  screen-read = rw (number-same (s .w) (f .w), number-same (s .h) (f .h)) (screen-given absentOf (s .w) (s .h) (f .w) (f .h) ∙ passed _ 6 _ (a .screen))
+  screen-read = rw (number-same (s .w), number-same (s .h)) (screen-given absentOf (s .w) (s .h) (f .w) (f .h) ∙ passed _ 6 _ (a .screen))
 
   read-back : readOrderOf (orderBytes s) ≡ accepted (replacedOf s)
   unfolding readOrderOf

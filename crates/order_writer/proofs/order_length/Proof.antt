@@ -4,7 +4,7 @@ use native.Mathlib.Omega.{arith}
 use mathlib.Core.Path.{ap, _∙_}
 use Rattle.settings.proofs.Accepted.{few-settings}
 use Rattle.order_writer.specs.OrderBytes.{equalOf}
-use Rattle.order_writer.proofs.Owned.{settings-owned, settings-fit}
+use Rattle.order_writer.proofs.Owned.{settings-fit}
 use Rattle.order_writer.proofs.Replaced.{written-length}
 use Rattle.order_writer.proofs.order_length.Statement.{statement}
 use Rattle.order_writer.proofs.order_length.Tie as tie
@@ -12,13 +12,15 @@ use Rattle.order_writer.proofs.order_length.Tie as tie
 cutouts-requires : tie.Need-rects-length-requires
 cutouts-requires c κs =
     let mode = c .before .before .before .before .before in
-    let start = mode .before .before .before .before .before .before in
+    let picture = mode .before .before in
+    let start = picture .before .before .before .before in
     omega (arith, few-settings (start .args .s) (start .pre) .1)
 
 saved-requires : tie.Need-rects-length-requires-2
 saved-requires c κs =
-    let mode = c .before .before .before .before .before .before in
-    let start = mode .before .before .before .before .before .before in
+    let fit = c .before .before .before .before in
+    let picture = fit .before .before .before .before in
+    let start = picture .before .before .before .before in
     few-settings (start .args .s) (start .pre) .0
 
 returns : tie.Need-returns
@@ -29,10 +31,9 @@ returns c =
     let picture = mode .before .before in
     let start = picture .before .before .before .before in
     let s = start .args .s in
-    let owned = settings-owned s _ (start .good .0) in
     let fit-arrays = settings-fit s (start .good .0) (start .pre) in
     let same = picture .equal .ensures ∙ ap (equalOf (s .picture)) (picture .before .screen-picture .ensures) in
-    let long = written-length s owned fit-arrays same (mode .mode-byte .ensures) (fit .fit-byte .ensures) (place .untouched .ensures) in
+    let long = written-length s fit-arrays same (mode .mode-byte .ensures) (fit .fit-byte .ensures) (place .untouched .ensures) in
     omega (
       arith,
       long,

@@ -1,6 +1,6 @@
 -- Left out, or a head and behind it one rectangle a turn, each where the one before it ended.
 use borrow.Author.Needs.{needs}
-use borrow.Author.Tests.{eq-eqb, ne-eqb}
+use borrow.Author.Tests.{ne-eqb}
 use denote.Ref.{now}
 use native.Mathlib.Nat.{add-zero}
 use native.Mathlib.Omega.{arith}
@@ -11,12 +11,12 @@ use Prim.Native.Nat.{_+_, _-_, _*_, _≤_}
 use lib.ListN.{length, take}
 use lib.Seq.{length-take-le}
 use Rattle.prelude.specs.Lists.{isEmpty, stored}
-use Rattle.prelude.proofs.Loops.{in-array, length-mapped, runs-out}
+use Rattle.prelude.proofs.Loops.{in-array, runs-out}
 use Rattle.prelude.proofs.Stores.{length-stored}
 use Rattle.layout.specs.Layout.{anyRect}
 use Rattle.wire.specs.Wire.{rectBytes}
 use Rattle.wire.proofs.Items.{length-rect, length-items, Putting, puts}
-use Rattle.order_writer.proofs.Fields.{left-out, put-in}
+use Rattle.order_writer.proofs.Fields.{put-in}
 use Rattle.order_writer.proofs.put_cutouts.Statement.{statement}
 use Rattle.order_writer.proofs.put_cutouts.Tie as tie
 
@@ -60,8 +60,12 @@ put c =
     let list = take n (a .c .at) in
     let some = head .before .before .if1 .left in
     let long = length-take-le n (a .c .at) (ended .inv .rest .size) in
-    let absent : isEmpty list ≡ false = rw long (ne-eqb n 0 some) in
-    (rw (ne-eqb n 0 some) (omega arith), put-in (isEmpty list) 6 (flatMap rectBytes list) (now (a .out)) (a .at) absent (rw (length-items rectBytes 16 length-rect list, long) (head .put-field-head .ensures)) (runs-out (ended .inv .rest) (c .loop-test .left)))
+    let absent : isEmpty list ≡ false = rw long (ne-eqb n 0 some) in (
+      rw (ne-eqb n 0 some) (omega arith),
+      put-in (isEmpty list) 6 (flatMap rectBytes list) (now (a .out)) (a .at) absent
+          (rw (length-items rectBytes 16 length-rect list, long) (head .put-field-head .ensures))
+          (runs-out (ended .inv .rest) (c .loop-test .left)),
+    )
 
 pub put-cutouts-spec : {M : Type 1} → statement M
 unfolding flatMap stored

@@ -27,7 +27,8 @@ put c =
     let p = a .offset in
     let then-y = then _ _ _ _ _ (x .put-f322 .ensures) (y .put-f323 .ensures) (omega (arith, length-f32 (p .x))) in
     let numbers = then _ _ _ _ _ (scale .put-f32 .ensures) then-y (omega (arith, length-f32 (a .scale))) in
-    (rw (head .before .before .if1 .left), put-in (a .absent) 5 (numberBytes (a .scale) ++ (numberBytes (p .x) ++ numberBytes (p .y))) (now (a .out)) (a .at) (head .before .before .if1 .left) (head .put-field-head .ensures) numbers)
+    let other = head .before .before .if1 .left in
+    (rw other, put-in (a .absent) 5 (numberBytes (a .scale) ++ (numberBytes (p .x) ++ numberBytes (p .y))) (now (a .out)) (a .at) other (head .put-field-head .ensures) numbers)
 
 scale-requires : tie.Need-put-f32-requires
 scale-requires c κs =

@@ -2,7 +2,6 @@
 use borrow.Author.Needs.{needs}
 use borrow.Author.Tests.{eq-eqb, ne-eqb}
 use native.Mathlib.Omega.{arith}
-use mathlib.Core.Path.{refl}
 use Rattle.order_writer.proofs.rects_length.Statement.{statement}
 use Rattle.order_writer.proofs.rects_length.Tie as tie
 

@@ -1,3 +1,4 @@
+-- The rectangle, if it is usable, else four NaN.
 use borrow.Author.Needs.{needs}
 use Rattle.order_writer.specs.OrderBytes.{writableOf}
 use Rattle.order_writer.proofs.writable.Statement.{statement}

@@ -4,14 +4,14 @@ use denote.Ref.{now}
 use native.Mathlib.Omega.{arith}
 use mathlib.Core.List.{_++_, map}
 use mathlib.Core.Path.{_≡_, ap, _∙_}
-use Prim.Native.Nat.{_+_, _≤_}
+use Prim.Native.Nat.{_+_}
 use lib.ListN.{length, length-append}
 use Rattle.prelude.proofs.Stores.{then, length-stored}
 use Rattle.settings.specs.Settings.{savedList}
 use Rattle.settings.proofs.Accepted.{few-settings}
 use Rattle.wire.proofs.Output.{too-small, has-room}
 use Rattle.order_writer.specs.OrderBytes.{writableOf, firstFields, lastFields, orderBytes}
-use Rattle.order_writer.proofs.Owned.{settings-owned, settings-fit}
+use Rattle.order_writer.proofs.Owned.{settings-fit}
 use Rattle.order_writer.proofs.Replaced.{as-written}
 use Rattle.order_writer.proofs.write_accepted.Statement.{statement}
 use Rattle.order_writer.proofs.write_accepted.Tie as tie
@@ -21,7 +21,7 @@ module _ (start : tie.Start) where
   bytes : let s = start .args .s in orderBytes s ≡ firstFields s ++ lastFields (s .preset) (s .cutouts) (map writableOf (savedList (s .preset)))
   bytes =
       let s = start .args .s in
-      as-written s (settings-owned s _ (start .good .0)) (settings-fit s (start .good .0) (start .pre))
+      as-written s (settings-fit s (start .good .0) (start .pre))
 
   lengths : let s = start .args .s in length (orderBytes s) ≡ length (firstFields s) + length (lastFields (s .preset) (s .cutouts) (map writableOf (savedList (s .preset))))
   lengths = ap length bytes ∙ length-append (firstFields (start .args .s)) _

@@ -1,7 +1,6 @@
 -- The first fault is the refusal; settings without one are accepted, and written.
 use borrow.Author.Needs.{needs}
-use mathlib.Core.Path.{_≡_, refl, sym, _∙_}
-use Rattle.settings.specs.Settings.{testedOf}
+use mathlib.Core.Path.{sym, _∙_}
 use Rattle.settings.proofs.Accepted.{no-fault, a-fault}
 use Rattle.order_writer.proofs.write_order_with.Statement.{statement}
 use Rattle.order_writer.proofs.write_order_with.Tie as tie

@@ -12,7 +12,12 @@ unfolding firstFaultOf testedOf must
 off-picture c =
     let picture = c .before in
     let screen = picture .before .before in
-    rw (← screen .screen-in-limits .ensures, not-false (screen .screen-in-limits .result) (picture .before .if1 .left), ← picture .rect-in-limits .ensures, not-true (picture .rect-in-limits .result) (c .if2 .taken))
+    rw (
+      ← screen .screen-in-limits .ensures,
+      not-false (screen .screen-in-limits .result) (picture .before .if1 .left),
+      ← picture .rect-in-limits .ensures,
+      not-true (picture .rect-in-limits .result) (c .if2 .taken),
+    )
 
 odd-mode : tie.Need-returns-3
 unfolding firstFaultOf testedOf must

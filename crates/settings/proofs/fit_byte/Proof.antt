@@ -1,3 +1,4 @@
+-- Fit by fit.
 use borrow.Author.Needs.{needs}
 use Rattle.settings.specs.Settings.{fitByteOf}
 use Rattle.settings.proofs.fit_byte.Statement.{statement}

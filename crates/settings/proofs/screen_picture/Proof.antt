@@ -1,3 +1,4 @@
+-- Each side is what `max` gave.
 use borrow.Author.Needs.{needs}
 use Rattle.settings.proofs.screen_picture.Statement.{statement}
 use Rattle.settings.proofs.screen_picture.Tie as tie
