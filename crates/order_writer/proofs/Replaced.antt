@@ -96,7 +96,7 @@ module _ (s : Settings) where
   first-same = rw (picture-same, number-same (s .w), number-same (s .h), rect-same (s .picture))
 
   module _ (fit-arrays : Fitting s) where
-    last-same : lastFields (replacedOf s .preset) (replacedOf s .cutouts) (savedList (replacedOf s .preset)) ≡ lastFields (s .preset) (s .cutouts) (listed (s .preset))
+    last-same : lastFields (replacedOf s .preset) (cutoutList (replacedOf s .cutouts)) (savedList (replacedOf s .preset)) ≡ lastFields (s .preset) (cutoutList (s .cutouts)) (listed (s .preset))
     unfolding replacedOf
     last-same =
         rw (
@@ -107,7 +107,7 @@ module _ (s : Settings) where
           place-same,
         )
 
-    pub as-written : orderBytes s ≡ firstFields s ++ lastFields (s .preset) (s .cutouts) (listed (s .preset))
+    pub as-written : orderBytes s ≡ firstFields s ++ lastFields (s .preset) (cutoutList (s .cutouts)) (listed (s .preset))
     unfolding orderBytes fieldsOf
     as-written = rw (first-same, last-same)
 
@@ -118,5 +118,5 @@ module _ (s : Settings) where
         + (cond place 0 15 + (rectsLength (s .cutouts .count) + rectsLength (s .preset .count)))
     written-length a m f u =
         let p = s .preset in
-        let last = last-length p (s .cutouts) (listed p) u (length-take-le (s .cutouts .count) (s .cutouts .at) (fit-arrays .0)) (counted p (fit-arrays .1)) in
-        rw as-written (joined (firstFields s) (lastFields p (s .cutouts) (listed p)) (first-length s a m f) last)
+        let last = last-length p (cutoutList (s .cutouts)) (listed p) u (length-take-le (s .cutouts .count) (s .cutouts .at) (fit-arrays .0)) (counted p (fit-arrays .1)) in
+        rw as-written (joined (firstFields s) (lastFields p (cutoutList (s .cutouts)) (listed p)) (first-length s a m f) last)

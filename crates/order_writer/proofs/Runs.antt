@@ -10,8 +10,6 @@ use lib.ListN.{length, length-append}
 use Rattle.prelude.specs.Lists.{isEmpty, stored}
 use Rattle.prelude.proofs.Stores.{then}
 use Rattle.geometry.specs.declared.Rect.{Rect}
-use Rattle.layout.specs.declared.Cutouts.{Cutouts}
-use Rattle.layout.specs.Layout.{cutoutList}
 use Rattle.settings.specs.declared.Preset.{Preset}
 use Rattle.settings.specs.declared.Settings.{Settings}
 use Rattle.settings.specs.Settings.{defaultOf, screenPictureOf, modeByteOf, fitByteOf, untouchedOf}
@@ -64,7 +62,7 @@ module _ (s : Settings) {absent : Bool} {mode fit : ℕ}
       (then _ _ _ _ _ p₁ (then _ _ _ _ _ p₂ (then _ _ _ _ _ p₃ p₄ (omega arith)) (omega (arith, long))) (omega (arith, length-screen (s .w) (s .h))))
 
 -- what was found of the last three
-module _ (p : Preset) (c : Cutouts) (saved : List Rect) {absent : Bool} (a : absent ≡ untouchedOf p) where
+module _ (p : Preset) (cutouts saved : List Rect) {absent : Bool} (a : absent ≡ untouchedOf p) where
   abbrev place : List ℕ
   place = fieldUnless absent 5 (numberBytes (p .scale) ++ (numberBytes (p .offset .x) ++ numberBytes (p .offset .y)))
 
@@ -75,13 +73,13 @@ module _ (p : Preset) (c : Cutouts) (saved : List Rect) {absent : Bool} (a : abs
   long-rects : (tag : ℕ) (rs : List Rect) → length (rectsField tag rs) ≡ rectsLength (length rs)
   long-rects tag rs = length-unless (isEmpty rs) tag (flatMap rectBytes rs) (length-items rectBytes 16 length-rect rs)
 
-  pub last-length : {k n : ℕ} → length (cutoutList c) ≡ k → length saved ≡ n → length (lastFields p c saved) ≡ cond absent 0 15 + (rectsLength k + rectsLength n)
+  pub last-length : {k n : ℕ} → length cutouts ≡ k → length saved ≡ n → length (lastFields p cutouts saved) ≡ cond absent 0 15 + (rectsLength k + rectsLength n)
   last-length e f =
-      let lists = joined (rectsField 6 (cutoutList c)) (rectsField 7 saved) (long-rects 6 (cutoutList c) ∙ ap rectsLength e) (long-rects 7 saved ∙ ap rectsLength f) in
-      rw (← a) (joined place (rectsField 6 (cutoutList c) ++ rectsField 7 saved) long-place lists)
+      let lists = joined (rectsField 6 cutouts) (rectsField 7 saved) (long-rects 6 cutouts ∙ ap rectsLength e) (long-rects 7 saved ∙ ap rectsLength f) in
+      rw (← a) (joined place (rectsField 6 cutouts ++ rectsField 7 saved) long-place lists)
 
   pub last-run : (out : List ℕ) (at : ℕ) {at₂ at₃ : ℕ} {o₁ o₂ o₃ : List ℕ} → at₂ ≡ at + cond absent 0 15 → o₁ ≡ stored out at place
-      → at₃ ≡ at₂ + rectsLength (length (cutoutList c)) → o₂ ≡ stored o₁ at₂ (rectsField 6 (cutoutList c))
-      → o₃ ≡ stored o₂ at₃ (rectsField 7 saved) → o₃ ≡ stored out at (lastFields p c saved)
+      → at₃ ≡ at₂ + rectsLength (length cutouts) → o₂ ≡ stored o₁ at₂ (rectsField 6 cutouts)
+      → o₃ ≡ stored o₂ at₃ (rectsField 7 saved) → o₃ ≡ stored out at (lastFields p cutouts saved)
   last-run out at n₂ p₁ n₃ p₂ p₃ =
-      rw (← a) (then _ _ _ _ _ p₁ (then _ _ _ _ _ p₂ p₃ (omega (arith, long-rects 6 (cutoutList c)))) (omega (arith, long-place)))
+      rw (← a) (then _ _ _ _ _ p₁ (then _ _ _ _ _ p₂ p₃ (omega (arith, long-rects 6 cutouts))) (omega (arith, long-place)))

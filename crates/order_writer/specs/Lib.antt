@@ -1,1 +1,2 @@
 pub mod OrderBytes
+pub mod Numbers

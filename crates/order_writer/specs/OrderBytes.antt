@@ -84,11 +84,11 @@ firstFields s =
     ++ byteField (fitByteOf (defaultOf .fit)) 4 (fitByteOf (s .preset .fit))))
 
 -- tags 5 to 7
-abbrev pub lastFields : Preset → Cutouts → List Rect → List ℕ
-lastFields p c saved = placeField p ++ (rectsField 6 (cutoutList c) ++ rectsField 7 saved)
+abbrev pub lastFields : Preset → List Rect → List Rect → List ℕ
+lastFields p cutouts saved = placeField p ++ (rectsField 6 cutouts ++ rectsField 7 saved)
 
 unfoldable pub fieldsOf : Settings → List ℕ
-fieldsOf s = firstFields s ++ lastFields (s .preset) (s .cutouts) (savedList (s .preset))
+fieldsOf s = firstFields s ++ lastFields (s .preset) (cutoutList (s .cutouts)) (savedList (s .preset))
 
 unfoldable pub orderBytes : Settings → List ℕ
 orderBytes s = fieldsOf (replacedOf s)

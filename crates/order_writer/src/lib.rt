@@ -1,19 +1,21 @@
 // The writer of orders: settings as bytes into output that the caller lends.
 ghost use mathlib.Core.Path.{_≡_};
 ghost use mathlib.Core.Bool.{true, cond};
-ghost use mathlib.Core.List.{_++_, map};
-ghost use Prim.Native.Nat.{_+_, _≤_};
+ghost use mathlib.Core.List.{[], _++_, map};
+ghost use Prim.Native.Nat.{_+_, _/_, _≤_};
 ghost use lib.Dec.{eqb};
 ghost use lib.ListN.{length, take};
-ghost use Rattle.prelude.specs.Lists.{stored};
+ghost use Rattle.prelude.specs.Lists.{allOf, stored};
 ghost use Rattle.layout.specs.Layout.{cutoutList};
-ghost use Rattle.settings.specs.Settings.{savedList, testedOf, acceptedOf};
+ghost use Rattle.settings.specs.Settings.{savedList, least, rectInLimitsOf, testedOf, acceptedOf};
 ghost use Rattle.wire.specs.Wire.{numberBytes, rectBytes, roomFor, withFront};
 ghost use Rattle.order_writer.specs.OrderBytes.{writableOf, fieldUnless, screenField, equalOf, byteField, rectsField, rectsLength, firstFields, lastFields};
 ghost use Rattle.order_writer.specs.OrderBytes.{orderBytes, orderAnswer, writtenOrder, writtenOrderOutput, writeOrderOf, orderOutputOf};
+ghost use Rattle.order_writer.specs.Numbers.{rectFrom, rectsIn, settingsFrom, listsFaultOf};
 use geometry::Offset;
 use geometry::Rect;
 use layout::Cutouts;
+use layout::NO_CUTOUTS;
 use settings::Preset;
 use settings::Settings;
 use wire::put_f32;
@@ -129,6 +131,61 @@ fn put_saved(out: &mut [u8], at: usize, elements: [Rect; 32], n: usize)
     }
 }
 
+// ---- rectangles as lent numbers, four each
+
+fn rect_from(numbers: &[f32], i: usize) -> Rect
+    requires { ⌜ i + 4 ≤ length (now numbers) ⌝ }
+    ensures { λ r. ⌜ r ≡ rectFrom (now (numbers .entry)) i ⌝ }
+{
+    Rect::new(numbers[i], numbers[i + 1], numbers[i + 2], numbers[i + 3])
+}
+
+fn rects_in_limits(numbers: &[f32]) -> bool
+    ensures { λ r. ⌜ r ≡ allOf (rectInLimitsOf least) (rectsIn (now (numbers .entry))) ⌝ }
+{
+    let n = numbers.len() / 4;
+    for i in 0..n {
+        if !settings::rect_in_limits(-8192.0, rect_from(numbers, 4 * i)) {
+            return false;
+        }
+    }
+    true
+}
+
+// As `put_cutouts`.
+fn put_cutouts_from(out: &mut [u8], at: usize, numbers: &[f32]) -> usize
+    requires { ⌜ (length (now numbers) / 4 ≤ 16) × (at + rectsLength (length (now numbers) / 4) ≤ length (now out)) ⌝ }
+    ensures next { λ k. ⌜ k ≡ at + rectsLength (length (now (numbers .entry)) / 4) ⌝ }
+    ensures output { λ _. ⌜ now (out .exit) ≡ stored (now (out .entry)) at (rectsField 6 (rectsIn (now (numbers .entry)))) ⌝ }
+{
+    let n = numbers.len() / 4;
+    if n == 0 {
+        return at;
+    }
+    put_field_head(out, at, 6, 16 * n);
+    let start = at + 3;
+    for i in 0..n {
+        put_rect(out, start + 16 * i, rect_from(numbers, 4 * i));
+    }
+    start + 16 * n
+}
+
+// As `put_saved`.
+fn put_saved_from(out: &mut [u8], at: usize, numbers: &[f32])
+    requires { ⌜ (length (now numbers) / 4 ≤ 32) × (at + rectsLength (length (now numbers) / 4) ≤ length (now out)) ⌝ }
+    ensures { λ _. ⌜ now (out .exit) ≡ stored (now (out .entry)) at (rectsField 7 (map writableOf (rectsIn (now (numbers .entry))))) ⌝ }
+{
+    let n = numbers.len() / 4;
+    if n == 0 {
+        return;
+    }
+    put_field_head(out, at, 7, 16 * n);
+    let start = at + 3;
+    for i in 0..n {
+        put_rect(out, start + 16 * i, writable(rect_from(numbers, 4 * i)));
+    }
+}
+
 // ---- an order
 
 // The length of a field, unless it is left out.
@@ -148,7 +205,7 @@ fn rects_length(n: usize) -> usize
 
 fn order_length(s: Settings) -> usize
     requires { ⌜ acceptedOf s ≡ true ⌝ }
-    ensures { λ r. ⌜ r ≡ length (orderBytes s) ⌝ }
+    ensures { λ r. ⌜ (r ≡ length (orderBytes s)) × (r ≤ 1083) ⌝ }
 {
     let preset = s.preset;
     let cutouts = s.cutouts;
@@ -181,8 +238,8 @@ fn put_first(out: &mut [u8], s: Settings) -> usize
 
 // Tags 5 to 7.
 fn put_last(out: &mut [u8], at: usize, preset: Preset, cutouts: Cutouts)
-    requires { ⌜ (preset .count ≤ 32) × (cutouts .count ≤ 16) × (at + length (lastFields preset cutouts (map writableOf (savedList preset))) ≤ length (now out)) ⌝ }
-    ensures { λ _. ⌜ now (out .exit) ≡ stored (now (out .entry)) at (lastFields preset cutouts (map writableOf (savedList preset))) ⌝ }
+    requires { ⌜ (preset .count ≤ 32) × (cutouts .count ≤ 16) × (at + length (lastFields preset (cutoutList cutouts) (map writableOf (savedList preset))) ≤ length (now out)) ⌝ }
+    ensures { λ _. ⌜ now (out .exit) ≡ stored (now (out .entry)) at (lastFields preset (cutoutList cutouts) (map writableOf (savedList preset))) ⌝ }
 {
     let offset = preset.offset;
     let elements = preset.elements;
@@ -205,21 +262,94 @@ fn write_accepted(s: Settings, out: &mut [u8]) -> OrderAnswer
     OrderAnswer::Bytes(length)
 }
 
-// As `write_order`; the marks of mode and fit are tested as the bytes that they came from.
-pub fn write_order_with(mode: u8, fit: u8, s: Settings, out: &mut [u8]) -> OrderAnswer
-    ensures answer { λ r. ⌜ orderAnswer r ≡ writtenOrder (testedOf mode fit s) (now (out .entry)) ⌝ }
-    ensures output { λ _. ⌜ now (out .exit) ≡ writtenOrderOutput (testedOf mode fit s) (now (out .entry)) ⌝ }
+pub fn write_order(s: Settings, out: &mut [u8]) -> OrderAnswer
+    ensures answer { λ r. ⌜ orderAnswer r ≡ writeOrderOf s (now (out .entry)) ⌝ }
+    ensures output { λ _. ⌜ now (out .exit) ≡ orderOutputOf s (now (out .entry)) ⌝ }
 {
-    let fault = settings::first_fault(mode, fit, s);
+    let fault = settings::first_fault(0, 0, s);
     if fault != 0 {
         return OrderAnswer::Refused(fault);
     }
     write_accepted(s, out)
 }
 
-pub fn write_order(s: Settings, out: &mut [u8]) -> OrderAnswer
-    ensures answer { λ r. ⌜ orderAnswer r ≡ writeOrderOf s (now (out .entry)) ⌝ }
-    ensures output { λ _. ⌜ now (out .exit) ≡ orderOutputOf s (now (out .entry)) ⌝ }
+// ---- an order from numbers: the lists are read where they are lent
+
+// Without lists.
+fn settings_from(numbers: &[f32; 9], mode: u8, fit: u8) -> Settings
+    ensures { λ r. ⌜ r ≡ settingsFrom (now (numbers .entry)) mode fit [] [] ⌝ }
 {
-    write_order_with(0, 0, s, out)
+    let start = Preset::default();
+    let moded = start.with_mode_byte(mode);
+    let mut preset = moded.with_fit(settings::fit_mark(fit));
+    let offset = Offset {
+        x: numbers[7],
+        y: numbers[8],
+    };
+    preset.scale = numbers[6];
+    preset.offset = offset;
+    Settings {
+        w: numbers[0],
+        h: numbers[1],
+        picture: rect_from(numbers, 2),
+        preset,
+        cutouts: NO_CUTOUTS,
+    }
+}
+
+fn lists_fault(cutouts: &[f32], saved: &[f32]) -> u8
+    ensures { λ r. ⌜ r ≡ listsFaultOf (now (cutouts .entry)) (now (saved .entry)) ⌝ }
+{
+    if 16 < cutouts.len() / 4 {
+        return 7;
+    }
+    if !rects_in_limits(cutouts) {
+        return 6;
+    }
+    if 32 < saved.len() / 4 {
+        return 7;
+    }
+    0
+}
+
+// Tags 5 to 7.
+fn put_last_from(out: &mut [u8], at: usize, preset: Preset, cutouts: &[f32], saved: &[f32])
+    requires { ⌜ (length (now cutouts) / 4 ≤ 16) × (length (now saved) / 4 ≤ 32) × (at + length (lastFields preset (rectsIn (now cutouts)) (map writableOf (rectsIn (now saved)))) ≤ length (now out)) ⌝ }
+    ensures { λ _. ⌜ now (out .exit) ≡ stored (now (out .entry)) at (lastFields preset (rectsIn (now (cutouts .entry))) (map writableOf (rectsIn (now (saved .entry))))) ⌝ }
+{
+    let offset = preset.offset;
+    let place_end = put_place(out, at, preset.untouched(), preset.scale, offset);
+    let cutouts_end = put_cutouts_from(out, place_end, cutouts);
+    put_saved_from(out, cutouts_end, saved);
+}
+
+// As `write_order`. The numbers are the screen's w and h, the picture, scale and offset; mode and fit are the bytes of tags 3 and 4;
+// cutouts and saved are four numbers a rectangle.
+pub fn write_numbers(
+    numbers: &[f32; 9],
+    mode: u8,
+    fit: u8,
+    cutouts: &[f32],
+    saved: &[f32],
+    out: &mut [u8],
+) -> OrderAnswer
+    ensures answer { λ r. ⌜ orderAnswer r ≡ writtenOrder (testedOf mode fit (settingsFrom (now (numbers .entry)) mode fit (now (cutouts .entry)) (now (saved .entry)))) (now (out .entry)) ⌝ }
+    ensures output { λ _. ⌜ now (out .exit) ≡ writtenOrderOutput (testedOf mode fit (settingsFrom (now (numbers .entry)) mode fit (now (cutouts .entry)) (now (saved .entry)))) (now (out .entry)) ⌝ }
+{
+    let s = settings_from(numbers, mode, fit);
+    let fault = settings::first_fault(mode, fit, s);
+    if fault != 0 {
+        return OrderAnswer::Refused(fault);
+    }
+    let listed = lists_fault(cutouts, saved);
+    if listed != 0 {
+        return OrderAnswer::Refused(listed);
+    }
+    let length = order_length(s) + rects_length(cutouts.len() / 4) + rects_length(saved.len() / 4);
+    if out.len() < length {
+        return OrderAnswer::Refused(8);
+    }
+    let at = put_first(out, s);
+    put_last_from(out, at, s.preset, cutouts, saved);
+    OrderAnswer::Bytes(length)
 }

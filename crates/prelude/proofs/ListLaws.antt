@@ -2,13 +2,14 @@
 use mathlib.Core.Path.{_≡_, refl, ap, ap₂, sym, subst, _∙_}
 use mathlib.Core.Bool.{Bool, true, false, cond}
 use mathlib.Core.List.{List, [], _∷_, _++_, map, zipWith}
+use mathlib.Core.Logic.{⊎-elim}
 use Prim.Native.Nat.{ℕ, zero, suc, _+_, _<_, _≤_, zero-le, suc-le-suc}
-use native.Mathlib.Nat.{le-suc, le-trans, zero-add, suc-add, add-zero, add-suc, sub-zero}
+use native.Mathlib.Nat.{le-suc, eq-or-lt-of-le, le-trans, zero-add, suc-add, add-zero, add-suc, sub-zero}
 use native.Mathlib.Omega.{arith}
 use lib.Dec.{T, eqb, eqb·suc-zero}
 use lib.Ieee.Bits.{is-true}
-use lib.ListN.{length, take, drop, getD, length-append}
-use lib.Seq.{take-nil, take-at, length-front, length-take-le}
+use lib.ListN.{length, take, drop, getD, length-append, List·getD-append}
+use lib.Seq.{take-nil, take-at, length-front, length-take-le, getD-at}
 use Rattle.prelude.proofs.Booleans.{either, by-test, both}
 use Rattle.prelude.specs.Lists.{allOf, isEmpty, mapFirst, replaceFirst, find, retain, enumerateFrom, tabulate, countFrom, range}
 
@@ -89,6 +90,16 @@ pub length-tabulate : {A : Type 0} (f : ℕ → A) (n : ℕ) → length (tabulat
 unfolding tabulate
 length-tabulate f zero = refl
 length-tabulate f (suc n) = length-append (tabulate f n) (f n ∷ []) ∙ rw (length-tabulate f n) (omega arith)
+
+pub getD-tabulate : {A : Type 0} (f : ℕ → A) (n i : ℕ) (d : A) → i < n → getD (tabulate f n) i d ≡ f i
+unfolding tabulate
+getD-tabulate f zero i d h = absurd (let z : ⊥ = omega arith in z)
+getD-tabulate f (suc n) i d h =
+    let size = length-tabulate f n in
+    ⊎-elim
+    (λ e. rw e (getD-at (tabulate f n) (f n) [] d n size))
+    (λ less. List·getD-append (tabulate f n) (f n ∷ []) d i (omega arith) ∙ getD-tabulate f n i d less)
+    (eq-or-lt-of-le (let z : i ≤ n = omega arith in z))
 
 -- ---- elements with their indices
 module _ {A : Type 0} where

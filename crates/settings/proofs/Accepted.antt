@@ -24,7 +24,9 @@ pub record Accepted (s : Settings) : Type 0 where
   pub few-saved : leb (s .preset .count) 32 ≡ true
 
 -- ---- what tested settings give, by the number of their first fault
-no-refusal : {A : Type 0} (test : Bool) (n : ℕ) (a : Answer A) → refusalOf (must test (suc n) a) ≡ 0 → (test ≡ true) × (refusalOf a ≡ 0)
+
+-- a test was met, if what it gives is no refusal
+pub no-refusal : {A : Type 0} (test : Bool) (n : ℕ) (a : Answer A) → refusalOf (must test (suc n) a) ≡ 0 → (test ≡ true) × (refusalOf a ≡ 0)
 unfolding must
 no-refusal true n a e = (refl, e)
 no-refusal false n a e = absurd (let z : ⊥ = omega arith in z)

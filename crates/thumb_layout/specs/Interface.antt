@@ -1,21 +1,18 @@
 -- The functions for hosts in other languages: each answer as one number, and each lent output afterwards.
-use mathlib.Core.Bool.{Bool, not, cond}
+use mathlib.Core.Bool.{Bool, not}
 use mathlib.Core.List.{List, [], _∷_}
-use Prim.Native.Nat.{ℕ, _+_, _*_, _/_, _%_}
-use lib.Dec.{eqb, leb}
-use lib.Ieee.{Float, nan}
+use Prim.Native.Nat.{ℕ, _+_, _%_}
+use lib.Dec.{eqb}
+use lib.Ieee.{Float}
 use lib.IntN.{ℤ, pos, negℤ}
-use lib.ListN.{length, getD}
+use lib.ListN.{length}
 use Rattle.prelude.specs.Answer.{Answer, accepted, refused, must, andThen}
-use Rattle.prelude.specs.Lists.{tabulate}
 use Rattle.geometry.specs.declared.Rect.{Rect}
-use Rattle.geometry.specs.Rect.{newOf, rectArray}
-use Rattle.geometry.specs.declared.Offset.{Offset}
 use Rattle.safe_area.specs.Safe.{entry, safeContentOf, safeEdgesOf}
 use Rattle.safe_area.specs.declared.Edges.{Edges}
-use Rattle.layout.specs.declared.Cutouts.{Cutouts}
 use Rattle.settings.specs.declared.Settings.{Settings}
-use Rattle.settings.specs.Settings.{defaultOf, absentOf, withFit, withPlace, withElements, withScreen, withPreset, withCutouts, withModeByte, fitMarkOf, testedOf}
+use Rattle.settings.specs.Settings.{testedOf}
+use Rattle.order_writer.specs.Numbers.{settingsFrom}
 use Rattle.order_writer.specs.OrderBytes.{writtenOrder, writtenOrderOutput}
 use Rattle.order.specs.Orders.{layoutOf, touchOf, viewportOf}
 use Rattle.film_sheet.specs.Film.{filmSheetOf}
@@ -37,30 +34,6 @@ unfoldable pub tlViewportLayoutOf : List ℕ → Float → Float → List ℕ �
 tlViewportLayoutOf order reusable covered out = numberOf (viewportOf order reusable covered out)
 
 -- ---- settings as numbers
-
--- four numbers from place i on
-abbrev pub rectFrom : List Float → ℕ → Rect
-rectFrom numbers i = newOf (getD numbers i nan) (getD numbers (i + 1) nan) (getD numbers (i + 2) nan) (getD numbers (i + 3) nan)
-
--- four numbers a rectangle: the first n, in an array of `size`
-unfoldable pub firstRects : ℕ → List Float → ℕ → List Rect
-firstRects size numbers n = rectArray size n (tabulate (λ i. rectFrom numbers (4 * i)) n)
-
--- all of them; what is past `size` stands in no array, and is refused
-unfoldable pub rectsFrom : ℕ → List Float → List Rect
-rectsFrom size numbers = let count = length numbers / 4 in firstRects size numbers (cond (leb count size) count size)
-
--- numbers: screen w, h, the picture, scale, the offset; mode and fit as the bytes of tags 3 and 4
-unfoldable pub settingsFrom : List Float → ℕ → ℕ → List Float → List Float → Settings
-settingsFrom numbers mode fit cutouts saved =
-    let offset : Offset = record { x = getD numbers 7 nan; y = getD numbers 8 nan } in
-    let placed = withPlace (withFit (withModeByte defaultOf mode) (fitMarkOf fit)) (getD numbers 6 nan) offset in
-    let holes : Cutouts = record { at = rectsFrom 16 cutouts; count = length cutouts / 4 } in
-    withCutouts
-    (withPreset
-    (withScreen absentOf (getD numbers 0 nan) (getD numbers 1 nan) (rectFrom numbers 2))
-    (withElements placed (rectsFrom 32 saved) (length saved / 4)))
-    holes
 
 unfoldable pub wholeRects : List Float → Bool
 wholeRects numbers = eqb (length numbers % 4) 0

@@ -1,9 +1,7 @@
 // The functions for hosts in other languages, through the C calling convention; host/include/thumb_layout.h declares them.
 // An answer below 0 is minus the number of a refusal, and then every lent output is as it was.
 ghost use mathlib.Core.Path.{_≡_};
-ghost use mathlib.Core.Bool.{cond};
 ghost use Prim.Native.Nat.{_+_, _≤_};
-ghost use lib.Dec.{leb};
 ghost use lib.IntN.{pos, negℤ};
 ghost use lib.ListN.{length};
 ghost use lib.Signed.{mag};
@@ -11,23 +9,16 @@ ghost use Rattle.order.specs.Demands.{WidestWritten};
 ghost use Rattle.order.specs.Orders.{layoutAnswer, layoutOf, layoutOutputOf, viewportOutputOf};
 ghost use Rattle.film_sheet.specs.Film.{filmSheetOf};
 ghost use Rattle.thumb_layout.specs.Interface.{numberOf, twoOf, fourOf, tlLayoutOf, tlTouchOf, tlViewportLayoutOf, tlFilmOf, tlSafeContentOf, tlSafeContentOutputOf, tlSafeEdgesOf, tlSafeEdgesOutputOf};
-ghost use Rattle.thumb_layout.specs.Interface.{rectFrom, rectsFrom, settingsFrom, tlWriteOrderOf, tlWriteOrderOutputOf};
+ghost use Rattle.thumb_layout.specs.Interface.{tlWriteOrderOf, tlWriteOrderOutputOf};
 use film_sheet::film_sheet;
-use geometry::EMPTY;
-use geometry::Offset;
-use geometry::Rect;
-use layout::Cutouts;
 use order::LayoutAnswer;
 use order::TouchAnswer;
 use order_writer::OrderAnswer;
-use order_writer::write_order_with;
+use order_writer::write_numbers;
 use safe_area::SafeContent;
 use safe_area::SafeEdges;
 use safe_area::safe_content;
 use safe_area::safe_edges;
-use settings::Preset;
-use settings::Settings;
-use settings::fit_mark;
 
 // ---- orders
 
@@ -105,75 +96,10 @@ pub extern "C" fn tl_write_order(
     if saved.len() % 4 != 0 {
         return BAD_CALL;
     }
-    let s = settings_from(numbers, mode, fit, cutouts, saved);
-    match write_order_with(mode, fit, s, out) {
+    match write_numbers(numbers, mode, fit, cutouts, saved, out) {
         OrderAnswer::Bytes(n) => n as i32,
         OrderAnswer::Refused(n) => minus(n),
     }
-}
-
-// What an array has no place for is refused, by its count.
-fn settings_from(numbers: &[f32; 9], mode: u8, fit: u8, cutouts: &[f32], saved: &[f32]) -> Settings
-    ensures { λ r. ⌜ r ≡ settingsFrom (now (numbers .entry)) mode fit (now (cutouts .entry)) (now (saved .entry)) ⌝ }
-{
-    let start = Preset::default();
-    let moded = start.with_mode_byte(mode);
-    let mut preset = moded.with_fit(fit_mark(fit));
-    let offset = Offset {
-        x: numbers[7],
-        y: numbers[8],
-    };
-    let elements = saved_from(saved);
-    preset.scale = numbers[6];
-    preset.offset = offset;
-    preset.elements = elements;
-    preset.count = saved.len() / 4;
-    Settings {
-        w: numbers[0],
-        h: numbers[1],
-        picture: rect_from(numbers, 2),
-        preset,
-        cutouts: Cutouts {
-            at: cutouts_from(cutouts),
-            count: cutouts.len() / 4,
-        },
-    }
-}
-
-fn rect_from(numbers: &[f32], i: usize) -> Rect
-    requires { ⌜ i + 4 ≤ length (now numbers) ⌝ }
-    ensures { λ r. ⌜ r ≡ rectFrom (now (numbers .entry)) i ⌝ }
-{
-    Rect::new(numbers[i], numbers[i + 1], numbers[i + 2], numbers[i + 3])
-}
-
-fn cutouts_from(numbers: &[f32]) -> [Rect; 16]
-    ensures { λ r. ⌜ r ≡ rectsFrom 16 (now (numbers .entry)) ⌝ }
-{
-    let n = at_most(numbers.len() / 4, 16);
-    let mut at = [EMPTY; 16];
-    for i in 0..n {
-        at[i] = rect_from(numbers, 4 * i);
-    }
-    at
-}
-
-fn saved_from(numbers: &[f32]) -> [Rect; 32]
-    ensures { λ r. ⌜ r ≡ rectsFrom 32 (now (numbers .entry)) ⌝ }
-{
-    let n = at_most(numbers.len() / 4, 32);
-    let mut at = [EMPTY; 32];
-    for i in 0..n {
-        at[i] = rect_from(numbers, 4 * i);
-    }
-    at
-}
-
-fn at_most(n: usize, most: usize) -> usize
-    ensures smaller { λ r. ⌜ r ≡ cond (leb n most) n most ⌝ }
-    ensures bounds { λ r. ⌜ (r ≤ n) × (r ≤ most) ⌝ }
-{
-    if n <= most { n } else { most }
 }
 
 // ---- film sheets

@@ -33,16 +33,18 @@ returns c =
     let s = start .args .s in
     let fit-arrays = settings-fit s (start .good .0) (start .pre) in
     let same = picture .equal .ensures ∙ ap (equalOf (s .picture)) (picture .before .screen-picture .ensures) in
-    let long = written-length s fit-arrays same (mode .mode-byte .ensures) (fit .fit-byte .ensures) (place .untouched .ensures) in
-    omega (
-      arith,
-      long,
-      mode .before .field-length .ensures .0,
-      fit .before .field-length2 .ensures .0,
-      place .before .field-length3 .ensures .0,
-      c .before .before .field-length4 .ensures .0,
-      c .before .rects-length .ensures .0,
-      c .rects-length2 .ensures .0,
+    let long = written-length s fit-arrays same (mode .mode-byte .ensures) (fit .fit-byte .ensures) (place .untouched .ensures) in (
+      omega (
+        arith,
+        long,
+        mode .before .field-length .ensures .0,
+        fit .before .field-length2 .ensures .0,
+        place .before .field-length3 .ensures .0,
+        c .before .before .field-length4 .ensures .0,
+        c .before .rects-length .ensures .0,
+        c .rects-length2 .ensures .0,
+      ),
+      omega arith,
     )
 
 pub order-length-spec : {M : Type 1} → statement M

@@ -28,9 +28,9 @@ module _ (c : tie.After-untouched) where
   saves : length (map writableOf (savedList (entered .args .preset))) ≡ entered .args .preset .count
   saves = counted (entered .args .preset) (search (in-array, arith))
 
-  lengths : length (lastFields (entered .args .preset) (entered .args .cutouts) (map writableOf (savedList (entered .args .preset))))
+  lengths : length (lastFields (entered .args .preset) (cutoutList (entered .args .cutouts)) (map writableOf (savedList (entered .args .preset))))
       ≡ cond (c .untouched .result) 0 15 + (rectsLength (entered .args .cutouts .count) + rectsLength (entered .args .preset .count))
-  lengths = last-length (entered .args .preset) (entered .args .cutouts) (map writableOf (savedList (entered .args .preset))) (c .untouched .ensures) cuts saves
+  lengths = last-length (entered .args .preset) (cutoutList (entered .args .cutouts)) (map writableOf (savedList (entered .args .preset))) (c .untouched .ensures) cuts saves
 
 place-requires : tie.Need-put-place-requires
 place-requires c κs = omega (arith, lengths c, entered c .pre .2)
@@ -58,7 +58,7 @@ returns c =
     let place = cutouts .before .before .before .before in
     let found = place .before in
     let a = entered found .args in
-    last-run (a .preset) (a .cutouts) (map writableOf (savedList (a .preset))) (found .untouched .ensures) (now (a .out)) (a .at)
+    last-run (a .preset) (cutoutList (a .cutouts)) (map writableOf (savedList (a .preset))) (found .untouched .ensures) (now (a .out)) (a .at)
     (place .put-place .ensures .0) (place .put-place .ensures .1) (rw (cuts found) (cutouts .put-cutouts .ensures .0)) (cutouts .put-cutouts .ensures .1) (saved .put-saved .ensures)
 
 pub put-last-spec : {M : Type 1} → statement M

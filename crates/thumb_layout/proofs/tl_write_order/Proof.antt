@@ -1,4 +1,4 @@
--- The settings are those that the numbers give, so that `write_order_with` answers for them; an i32 holds its number, by `write-order-small`.
+-- The answer is that of `write_numbers` as a number, which an i32 holds, by `write-order-small`.
 use mathlib.Core.Path.{_≡_, ap, _∙_}
 use Prim.Native.Nat.{_≤_}
 use native.Mathlib.Omega.{arith}
@@ -28,18 +28,18 @@ returns-2 c =
     let odd = ne-eqb _ 0 (c .if2 .taken) in
     (rw (whole, odd), rw (whole, odd))
 
--- ---- a call of `write_order_with`
-answered : (c : tie.After-write-order-with) → let whole = c .before .before .before .before in let s = whole .before .before .before .before .args in
+-- ---- a call of `write_numbers`
+answered : (c : tie.After-write-numbers) → let whole = c .before .before in let s = whole .before .before .before .before .before .args in
     let tested = testedFrom (now (s .numbers)) (s .mode) (s .fit) (now (s .cutouts)) (now (s .saved)) in
-    (orderAnswer (c .write-order-with .result) ≡ writtenOrder tested (now (s .out))) × (c .write-order-with .last .1 .1 .1 .0 ≡ writtenOrderOutput tested (now (s .out)))
+    (orderAnswer (c .write-numbers .result) ≡ writtenOrder tested (now (s .out))) × (c .write-numbers .last .1 .1 .1 .1 .1 .0 ≡ writtenOrderOutput tested (now (s .out)))
 unfolding testedFrom wholeRects must
 answered c =
-    let made = c .before .before in
-    rw (eq-eqb _ 0 (made .before .before .if1 .left), eq-eqb _ 0 (made .before .if2 .left), ← made .settings-from .ensures) (c .write-order-with .ensures)
+    let whole = c .before .before in
+    rw (eq-eqb _ 0 (whole .before .if1 .left), eq-eqb _ 0 (whole .if2 .left)) (c .write-numbers .ensures)
 
-small : (c : tie.After-write-order-with) → mag (numberOf (orderAnswer (c .write-order-with .result))) ≤ 827
+small : (c : tie.After-write-numbers) → mag (numberOf (orderAnswer (c .write-numbers .result))) ≤ 827
 unfolding tlWriteOrderOf
-small c = let whole = c .before .before .before .before in rw (answered c .0) (write-order-small _ _ _ _ _ (now (whole .before .before .before .before .args .out)))
+small c = let whole = c .before .before in rw (answered c .0) (write-order-small _ _ _ _ _ (now (whole .before .before .before .before .before .args .out)))
 
 bytes-fit : (c : tie.After-known-told) → c .before .n .given .0 .0 ≤ 827
 bytes-fit c = rw (c .before .n .given .1) at (small (c .before .before .before .before .before))
@@ -63,7 +63,6 @@ tl-write-order-spec =
     (tie.spec
     returns
     returns-2
-    (λ c κs. search needs)
     (λ c κs. search needs)
     (λ c. search needs)
     (λ c. sfits-of (omega (arith, bytes-fit c)))

@@ -1,22 +1,22 @@
--- Each field has the numbers that were lent.
+-- Each field has the numbers that were lent; the lists are those of absent fields.
 use borrow.Author.Needs.{needs}
-use Rattle.thumb_layout.specs.Interface.{settingsFrom}
-use Rattle.thumb_layout.proofs.settings_from.Statement.{statement}
-use Rattle.thumb_layout.proofs.settings_from.Tie as tie
+use Rattle.prelude.specs.Lists.{tabulate}
+use Rattle.settings.specs.Settings.{defaultOf, absentOf}
+use Rattle.order_writer.specs.Numbers.{rectsIn, settingsFrom}
+use Rattle.order_writer.proofs.settings_from.Statement.{statement}
+use Rattle.order_writer.proofs.settings_from.Tie as tie
 
 returns : tie.Need-returns
-unfolding settingsFrom
+unfolding settingsFrom absentOf defaultOf rectsIn tabulate
 returns c =
     let read = c .before .before .before in
-    let saved = read .before .before .before in
-    let fitted = saved .before .before .before in
+    let fitted = read .before .before .before .before in
     rw (
-      c .cutouts-from .ensures,
-      c .before .rect-from .ensures,
-      saved .saved-from .ensures,
+      c .rect-from .ensures,
       fitted .with-fit .ensures,
       fitted .before .fit-mark .ensures,
       fitted .before .before .with-mode-byte .ensures,
+      fitted .before .before .before .default .ensures,
     )
 
 pub settings-from-spec : {M : Type 1} → statement M
@@ -29,10 +29,8 @@ settings-from-spec =
     (λ c κs. search needs)
     (λ c. search needs)
     (λ c. search needs)
-    (λ c κs. search needs)
     (λ c. search needs)
     (λ c. search needs)
     (λ c. search needs)
-    (λ c κs. search needs)
     (λ c κs. search needs)
     returns)
