@@ -1,6 +1,7 @@
-//! The cases of crates/replay/data/cases.txt, each answered as document 01 says.
+//! The cases of crates/replay/data/cases.txt, each answered as documents 01 and
+//! 02 say.
 use crate::steps::List;
-use player::order::Answer;
+use player::order::{Answer, writer::ORDER_MOST};
 
 /// The bytes lent where a case does not say how many: enough for each layout.
 const ROOM: u16 = 353;
@@ -22,20 +23,26 @@ pub fn cases(text: &str) -> Vec<(&str, Vec<&str>)> {
     cases
 }
 
-/// The list of the cases. It panics where the Rust answers otherwise than the
-/// paper.
+/// The list of the cases. It panics where the Rust, or the writer of orders,
+/// answers otherwise than the paper.
 pub fn list(text: &str) -> List {
     let mut list = List::default();
     for (name, lines) in cases(text) {
-        let (calls, fields): (Vec<&str>, Vec<&str>) =
-            lines.iter().partition(|line| line.contains('='));
-        let fields = fields.iter().flat_map(|line| line.split_whitespace());
-        list.order(&fields.flat_map(bytes).collect::<Vec<_>>());
-        calls.iter().for_each(|line| call(&mut list, name, line));
+        let asks = |line: &&str| line.contains('=');
+        let (fields, calls) = lines.split_at(lines.iter().position(asks).unwrap_or(lines.len()));
+        list.order(&hexadecimal(&fields.join(" ")));
+        for lines in calls.chunk_by(|_, next| !asks(next)) {
+            call(&mut list, name, &lines.join(" "));
+        }
         list.sheet();
+        let _ = list.written_in_turn(FILL);
         list.name(name);
     }
     list
+}
+
+fn hexadecimal(words: &str) -> Vec<u8> {
+    words.split_whitespace().flat_map(bytes).collect()
 }
 
 /// Hexadecimal digits, or `HEX*N`: those N times.
@@ -46,13 +53,24 @@ fn bytes(word: &str) -> Vec<u8> {
     bytes.repeat(times.parse().expect("how many times"))
 }
 
-/// What a case asks, and its answer after `=`.
+/// What a case asks, and its answer after `=`: the step or steps are added.
 fn call(list: &mut List, name: &str, line: &str) {
     let (asked, want) = line.split_once('=').expect("an answer");
     let asked: Vec<&str> = asked.split_whitespace().collect();
-    if let ["written", at] = asked[..] {
-        let at = at.parse().expect("a place");
-        return written(list, name, at, want);
+    match asked[..] {
+        ["bytes", at] => {
+            let length = list.layout(ROOM, FILL).expect(name);
+            let at = at.parse().expect("a place");
+            let want = hexadecimal(want);
+            let got = &list.end(length)[at..at + want.len()];
+            return assert_eq!(got, want, "{name}: {got:02X?} at {at}");
+        }
+        ["written"] => {
+            let length = list.written_order(ORDER_MOST as u16, FILL).expect(name);
+            let got = list.end(length);
+            return assert_eq!(got, hexadecimal(want), "{name}: {got:02X?}");
+        }
+        _ => (),
     }
     let float = |i: usize| asked[i].parse::<f32>().expect("a number");
     let whole = |i: usize| asked[i].parse::<u16>().expect("a whole number");
@@ -66,20 +84,12 @@ fn call(list: &mut List, name: &str, line: &str) {
         ["viewport", _, _] => vec![list.viewport([float(1), float(2)], ROOM, FILL)],
         ["viewport", _, _, _] => vec![list.viewport([float(1), float(2)], whole(3), FILL)],
         ["touch", _, _, _] => vec![list.touch([float(1), float(2)], whole(3))],
+        ["written", _] => vec![list.written_order(whole(1), FILL)],
         _ => panic!("{name}: {line}"),
     };
     for answer in answers {
         assert!(is(want.trim(), answer), "{name}: {line}: {answer:?}");
     }
-}
-
-/// The bytes that a layout must have from a place on.
-fn written(list: &mut List, name: &str, at: usize, want: &str) {
-    let length = list.layout(ROOM, FILL).expect(name);
-    let layout = &list.bytes[list.bytes.len() - usize::from(length)..];
-    let want: Vec<u8> = want.split_whitespace().flat_map(bytes).collect();
-    let got = &layout[at..at + want.len()];
-    assert_eq!(got, want, "{name}: {got:02X?} at {at}");
 }
 
 /// Whether an answer is `accepted`, or just this number or refusal.

@@ -6,7 +6,7 @@ use check::{
 use player::{
     Rect,
     access::{self, LayoutData, picture},
-    order::{Answer, Settings},
+    order::{Answer, SHEET_TOO_SMALL, Settings},
 };
 use std::{collections::BTreeMap, fmt};
 
@@ -45,6 +45,15 @@ impl Tally {
         let zero = negative_zero(&settings.layout());
         self.add("accepted, negative zero in the layout", yes(zero));
         self.add("accepted, arrangement", arrangement(settings));
+    }
+    pub fn written(&mut self, order: &Order, answer: Answer<u16>) {
+        let name = match answer {
+            Ok(length) if usize::from(length) < order.bytes.len() => "shorter than the order",
+            Ok(_) => "as long as the order",
+            Err(SHEET_TOO_SMALL) => "one byte short",
+            Err(_) => "refused by the reader",
+        };
+        self.add("written orders", name);
     }
     pub fn touch(&mut self, answer: Answer<u16>) {
         self.add("touches", answer.map_or("refused", pressed));

@@ -20,8 +20,8 @@ const SEED: u64 = 77;
 const ORDERS: usize = 600;
 const LONGEST: usize = 800;
 
-/// Generated orders, each with its layout, its sheet, three touches and, of
-/// every tenth, a viewport.
+/// Generated orders, each with its layout, its sheet, three touches, of every
+/// tenth a viewport, and its settings written.
 fn orders() -> (List, Tally) {
     let r = &mut Random::new(SEED);
     let (mut list, mut tally) = (List::default(), Tally::default());
@@ -56,6 +56,7 @@ fn orders() -> (List, Tally) {
             let answer = list.viewport(tops, room, fill);
             tally.add("viewports", answer.map_or("refused", |_| "accepted"));
         }
+        tally.written(&order, list.written_in_turn(fill));
         count += 1;
     }
     (list, tally)

@@ -1,10 +1,17 @@
 //! A list for crates/replay: steps, each with a head of 17 bytes (data/README.md
-//! there). The answers to orders are the Rust's.
+//! there). The answers to orders are the Rust's; settings are written by the
+//! writer of orders beside it, from the papers alone.
 use check::{masks, nearest::nearest_hypot};
 use player::{
-    order::{self, Answer, lent},
+    order::{
+        self, Answer, lent,
+        writer::{Given, ORDER_MOST},
+    },
     sheet,
 };
+
+/// How many bytes more than enough are lent to every third written order.
+const LATER: usize = 100;
 
 /// What a step has. Numbers that its kind does not use are 0.
 #[derive(Default)]
@@ -25,6 +32,8 @@ struct Step<'a> {
 pub struct List {
     pub bytes: Vec<u8>,
     order: Vec<u8>,
+    /// How many orders were written into rooms in turn.
+    turn: usize,
 }
 
 /// An answer in 24 bits: the high byte is a refusal's number, or 0.
@@ -58,6 +67,10 @@ impl List {
             ..Step::default()
         });
     }
+    /// Its last bytes: those that the step before wrote.
+    pub fn end(&self, length: u16) -> &[u8] {
+        &self.bytes[self.bytes.len() - usize::from(length)..]
+    }
     /// The end of a case, which has a name.
     pub fn name(&mut self, name: &str) {
         self.push(Step {
@@ -70,16 +83,19 @@ impl List {
         let order = &self.order;
         let (answer, out) = lent(room.into(), fill, |out| match kind {
             b'L' => order::layout(order, out),
-            _ => order::viewport_layout(order, at, out),
+            b'V' => order::viewport_layout(order, at, out),
+            _ => Given::from(&order::read(order)?).write(out),
         });
         let answer = answer.map(|length| length as u16);
+        let (bytes, later) = out.split_at(answer.unwrap_or(0).into());
+        assert!(later.iter().all(|b| *b == fill), "a later byte changed");
         self.push(Step {
             kind,
             at,
             given: room,
             mark: fill,
             answer: number(answer),
-            bytes: &out[..answer.unwrap_or(0).into()],
+            bytes,
         });
         answer
     }
@@ -88,6 +104,24 @@ impl List {
     }
     pub fn viewport(&mut self, tops: [f32; 2], room: u16, fill: u8) -> Answer<u16> {
         self.written(b'V', tops, room, fill)
+    }
+    /// The order's settings, written as an order.
+    pub fn written_order(&mut self, room: u16, fill: u8) -> Answer<u16> {
+        self.written(b'W', [0.; 2], room, fill)
+    }
+    /// The same into just enough bytes, one fewer, or more, in turn: accepted
+    /// orders take turns, a refused one is lent enough for every order.
+    pub fn written_in_turn(&mut self, fill: u8) -> Answer<u16> {
+        let written = order::read(&self.order).and_then(|s| Given::from(&s).written());
+        let room = match written {
+            Ok(bytes) => {
+                let length = bytes.len();
+                self.turn += 1;
+                [length + LATER, length, length - 1][self.turn % 3]
+            }
+            Err(_) => ORDER_MOST,
+        };
+        self.written_order(room as u16, fill)
     }
     /// Here the Rust's answer does not depend on which hypot it takes.
     pub fn touch(&mut self, at: [f32; 2], previous: u16) -> Answer<u16> {

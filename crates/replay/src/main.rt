@@ -7,6 +7,9 @@ use float::from_bits;
 use libc::STDOUT_FILENO;
 use order::LayoutAnswer;
 use order::TouchAnswer;
+use order_writer::OrderAnswer;
+use order_writer::write_order;
+use reader::read_order;
 use wire::short;
 use wire::word;
 
@@ -110,6 +113,7 @@ fn agrees(head: &[u8; 17], order: &[u8], bytes: &[u8]) -> bool {
         b'V' => viewport_agrees(head, order, bytes),
         b'T' => touch_agrees(head, order),
         b'S' => sheet_agrees(order, bytes),
+        b'W' => written_agrees(head, order, bytes),
         _ => kind == b'N',
     }
 }
@@ -142,6 +146,23 @@ fn sheet_agrees(order: &[u8], bytes: &[u8]) -> bool {
     (sheet.len == bytes.len()) & holds(text, bytes, 0)
 }
 
+fn written_agrees(head: &[u8; 17], order: &[u8], bytes: &[u8]) -> bool {
+    let fill = head[11];
+    let mut out = [fill; 1024];
+    let room = at_most(short(head[9], head[10]), &out);
+    let answer = written(order, &mut out[..room]);
+    (written_number(answer) == answer_of(head)) & holds(out, bytes, fill)
+}
+
+// Writes the settings that an order is read to.
+fn written(order: &[u8], out: &mut [u8]) -> OrderAnswer {
+    let reading = read_order(order);
+    if reading.refusal != 0 {
+        return OrderAnswer::Refused(reading.refusal);
+    }
+    write_order(reading.settings, out)
+}
+
 // Whether `out` begins with the bytes and is filled up as it was before.
 fn holds(out: [u8; 1024], bytes: &[u8], fill: u8) -> bool {
     let before = [fill; 1024];
@@ -161,6 +182,13 @@ fn touch_number(answer: TouchAnswer) -> usize {
     match answer {
         TouchAnswer::Mask(n) => n as usize,
         TouchAnswer::Refused(n) => n as usize * 65536,
+    }
+}
+
+fn written_number(answer: OrderAnswer) -> usize {
+    match answer {
+        OrderAnswer::Bytes(n) => n,
+        OrderAnswer::Refused(n) => n as usize * 65536,
     }
 }
 
@@ -192,6 +220,7 @@ struct Tally {
     viewports: u64,
     touches: u64,
     sheets: u64,
+    written: u64,
     wrong: u64,
     // The number of the first wrong step's order.
     first: u64,
@@ -206,6 +235,7 @@ fn no_steps() -> Tally {
         viewports: 0,
         touches: 0,
         sheets: 0,
+        written: 0,
         wrong: 0,
         first: 0,
         fault: false,
@@ -220,6 +250,7 @@ fn counted(t: Tally, kind: u8, same: bool) -> Tally {
         viewports: more(t.viewports, kind == b'V'),
         touches: more(t.touches, kind == b'T'),
         sheets: more(t.sheets, kind == b'S'),
+        written: more(t.written, kind == b'W'),
         wrong: more(t.wrong, !same),
         first: if same | (t.wrong > 0) {
             t.first
@@ -241,6 +272,7 @@ fn report(list: &[u8], t: Tally) {
     print(b", viewports ", t.viewports);
     print(b", touches ", t.touches);
     print(b", sheets ", t.sheets);
+    print(b", written orders ", t.written);
     print(b", wrong ", t.wrong);
     if t.wrong > 0 {
         print(b", the first at order ", t.first);
