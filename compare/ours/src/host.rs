@@ -72,6 +72,9 @@ pub fn viewport_layout(order: &[u8], tops: [f32; 2], out: &mut [u8]) -> Answer<u
 
 /// The mode and the fit are the bytes of tags 3 and 4; cutouts and saved
 /// rectangles have four numbers each.
+// Inlined, as a host's call of the C function is: it takes some ten
+// nanoseconds, and a second call of nine arguments as many.
+#[inline]
 pub fn write_order(
     numbers: &[f32; 9],
     [mode, fit]: [u8; 2],

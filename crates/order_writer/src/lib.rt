@@ -152,6 +152,30 @@ fn rects_in_limits(numbers: &[f32]) -> bool
     true
 }
 
+// A number is read when it is put: so the compiler makes one store of its four bytes.
+fn put_rect_from(out: &mut [u8], at: usize, numbers: &[f32], i: usize)
+    requires { ⌜ (i + 4 ≤ length (now numbers)) × (at + 16 ≤ length (now out)) ⌝ }
+    ensures { λ _. ⌜ now (out .exit) ≡ stored (now (out .entry)) at (rectBytes (rectFrom (now (numbers .entry)) i)) ⌝ }
+{
+    put_f32(out, at, numbers[i]);
+    put_f32(out, at + 4, numbers[i + 1]);
+    put_f32(out, at + 8, numbers[i + 2]);
+    put_f32(out, at + 12, numbers[i + 3]);
+}
+
+// As `writable` has it.
+fn put_writable_from(out: &mut [u8], at: usize, numbers: &[f32], i: usize)
+    requires { ⌜ (i + 4 ≤ length (now numbers)) × (at + 16 ≤ length (now out)) ⌝ }
+    ensures { λ _. ⌜ now (out .exit) ≡ stored (now (out .entry)) at (rectBytes (writableOf (rectFrom (now (numbers .entry)) i))) ⌝ }
+{
+    if settings::usable(rect_from(numbers, i)) {
+        put_rect_from(out, at, numbers, i);
+        return;
+    }
+    let n = float::from_bits(0x7fc0_0000);
+    put_rect(out, at, Rect::new(n, n, n, n));
+}
+
 // As `put_cutouts`.
 fn put_cutouts_from(out: &mut [u8], at: usize, numbers: &[f32]) -> usize
     requires { ⌜ (length (now numbers) / 4 ≤ 16) × (at + rectsLength (length (now numbers) / 4) ≤ length (now out)) ⌝ }
@@ -165,7 +189,7 @@ fn put_cutouts_from(out: &mut [u8], at: usize, numbers: &[f32]) -> usize
     put_field_head(out, at, 6, 16 * n);
     let start = at + 3;
     for i in 0..n {
-        put_rect(out, start + 16 * i, rect_from(numbers, 4 * i));
+        put_rect_from(out, start + 16 * i, numbers, 4 * i);
     }
     start + 16 * n
 }
@@ -182,7 +206,7 @@ fn put_saved_from(out: &mut [u8], at: usize, numbers: &[f32])
     put_field_head(out, at, 7, 16 * n);
     let start = at + 3;
     for i in 0..n {
-        put_rect(out, start + 16 * i, writable(rect_from(numbers, 4 * i)));
+        put_writable_from(out, start + 16 * i, numbers, 4 * i);
     }
 }
 

@@ -38,21 +38,20 @@ none : tie.Need-returns Inv-loop μ-loop
 unfolding stored
 none c = rw (length-rects _, c .if1 .taken) (omega arith, refl)
 
-rect-requires : tie.Need-put-rect-requires Inv-loop μ-loop
+rect-requires : tie.Need-put-rect-from-requires Inv-loop μ-loop
 rect-requires c κs =
-    let turn = c .before .before .before in
+    let turn = c .before .before in
     let head = turn .before .before .before in
     let longest = ap length (head .put-field-head .ensures) ∙ length-stored _ _ _ in
-    omega (arith, turn .loop .inv .same, longest, room (head .before), c .before .before .loop-test .taken)
+    let inside = c .before .loop-test .taken in
+    (omega arith, omega (arith, turn .loop .inv .same, longest, room (head .before), inside))
 
 loop-again : tie.Need-loop-again Inv-loop μ-loop
 loop-again c =
     let put = c .before .before in
-    let made = put .before in
-    let taken = made .before .before in
+    let taken = put .before .before in
     let inside = taken .loop-test .taken in
-    puts rectBytes 16 length-rect anyRect (taken .before .loop .inv) inside
-    (rw (made .rect-from .ensures, ← rects-at _ _ inside) at (put .put-rect .ensures))
+    puts rectBytes 16 length-rect anyRect (taken .before .loop .inv) inside (rw (← rects-at _ _ inside) at (put .put-rect-from .ensures))
 
 put : tie.Need-returns-2 Inv-loop μ-loop
 unfolding flatMap stored
@@ -86,7 +85,6 @@ put-cutouts-from-spec =
     (λ c. omega arith)
     (λ c. omega arith)
     (λ c. omega arith)
-    (λ c κs. omega arith)
     rect-requires
     (λ c. omega arith)
     (λ c. omega arith)

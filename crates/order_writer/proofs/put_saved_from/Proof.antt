@@ -39,24 +39,23 @@ none : tie.Need-returns Inv-loop μ-loop
 unfolding stored
 none c = rw (length-map, length-rects _, c .if1 .taken)
 
-rect-requires : tie.Need-put-rect-requires Inv-loop μ-loop
+rect-requires : tie.Need-put-writable-from-requires Inv-loop μ-loop
 rect-requires c κs =
-    let turn = c .before .before .before .before in
+    let turn = c .before .before in
     let head = turn .before .before .before in
     let longest = ap length (head .put-field-head .ensures) ∙ length-stored _ _ _ in
-    omega (arith, turn .loop .inv .same, longest, room (head .before), c .before .before .before .loop-test .taken)
+    let inside = c .before .loop-test .taken in
+    (omega arith, omega (arith, turn .loop .inv .same, longest, room (head .before), inside))
 
 loop-again : tie.Need-loop-again Inv-loop μ-loop
 loop-again c =
     let put = c .before .before in
-    let changed = put .before in
-    let made = changed .before in
-    let taken = made .before .before in
+    let taken = put .before .before in
     let inside = taken .loop-test .taken in
     let head = taken .before .before .before .before in
     let numbers = now (entered (head .before) .args .numbers) in
     puts (λ r. rectBytes (writableOf r)) 16 (λ r. length-rect (writableOf r)) anyRect (taken .before .loop .inv) inside
-    (rw (changed .writable .ensures, made .rect-from .ensures, ← rects-at numbers _ inside) at (put .put-rect .ensures))
+    (rw (← rects-at numbers _ inside) at (put .put-writable-from .ensures))
 
 put : tie.Need-returns-2 Inv-loop μ-loop
 unfolding flatMap stored
@@ -89,8 +88,6 @@ put-saved-from-spec =
     (λ c. omega arith)
     (λ c. omega arith)
     (λ c. omega arith)
-    (λ c κs. omega arith)
-    (λ c κs. search needs)
     rect-requires
     (λ c. omega arith)
     (λ c. omega arith)
