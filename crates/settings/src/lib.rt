@@ -176,33 +176,33 @@ pub fn usable(r: Rect) -> bool
 fn in_limits(low: f32, x: f32) -> bool
     ensures { λ r. ⌜ r ≡ inLimitsOf low x ⌝ }
 {
-    low <= x && x <= 8192.0
+    (low <= x) & (x <= 8192.0)
 }
 
 pub fn screen_in_limits(w: f32, h: f32) -> bool
     ensures { λ r. ⌜ r ≡ screenInLimitsOf w h ⌝ }
 {
-    in_limits(0.0, w) && in_limits(0.0, h)
+    in_limits(0.0, w) & in_limits(0.0, h)
 }
 
 pub fn rect_in_limits(low: f32, r: Rect) -> bool
     ensures { λ b. ⌜ b ≡ rectInLimitsOf low r ⌝ }
 {
     in_limits(-8192.0, r.x)
-        && (in_limits(-8192.0, r.y) && (in_limits(low, r.w) && in_limits(low, r.h)))
+        & (in_limits(-8192.0, r.y) & (in_limits(low, r.w) & in_limits(low, r.h)))
 }
 
 pub fn place_in_limits(scale: f32, offset: Offset) -> bool
     ensures { λ r. ⌜ r ≡ placeInLimitsOf scale offset ⌝ }
 {
-    in_limits(-8192.0, scale) && (in_limits(-8192.0, offset.x) && in_limits(-8192.0, offset.y))
+    in_limits(-8192.0, scale) & (in_limits(-8192.0, offset.x) & in_limits(-8192.0, offset.y))
 }
 
 // The height above the picture that may be reused, and the height that is covered for a while.
 pub fn tops_in_limits(reusable: f32, covered: f32) -> bool
     ensures { λ r. ⌜ r ≡ topsInLimitsOf reusable covered ⌝ }
 {
-    in_limits(0.0, reusable) && in_limits(-8192.0, covered)
+    in_limits(0.0, reusable) & in_limits(-8192.0, covered)
 }
 
 pub fn cutouts_in_limits(c: Cutouts) -> bool

@@ -1,8 +1,12 @@
--- Test by test, each `&&` a branch.
+-- The tests, joined.
+use mathlib.Core.Path.{refl}
 use Rattle.settings.specs.Settings.{inLimitsOf}
 use Rattle.settings.proofs.in_limits.Statement.{statement}
 use Rattle.settings.proofs.in_limits.Tie as tie
 
-pub in-limits-spec : {M : Type 1} → statement M
+returns : tie.Need-returns
 unfolding inLimitsOf
-in-limits-spec = tie.close (tie.spec (λ c. rw (c .if1 .taken)) (λ c. rw (c .if1 .left)))
+returns c = refl
+
+pub in-limits-spec : {M : Type 1} → statement M
+in-limits-spec = tie.close (tie.spec returns)
