@@ -1,5 +1,5 @@
 -- Settings as numbers: their lists, which fit their arrays; their first fault, by that of the settings without lists and that of the lists; their bytes, and how many.
-use mathlib.Core.Path.{_≡_, refl, ap, sym, _∙_}
+use mathlib.Core.Path.{_≡_, refl, sym, _∙_}
 use mathlib.Core.Bool.{Bool, true, false}
 use mathlib.Core.List.{List, [], _++_, map}
 use Prim.Native.Nat.{ℕ, _+_, _-_, _/_, _≤_}

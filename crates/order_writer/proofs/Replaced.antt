@@ -14,7 +14,6 @@ use lib.ListN.{length, replicate, length-map}
 use lib.Seq.{take-at, length-take-le}
 use Rattle.prelude.specs.Lists.{allOf}
 use Rattle.prelude.proofs.Booleans.{either, both}
-use Rattle.prelude.proofs.EachLaws.{all-each}
 use Rattle.float.specs.Float.{k0, k0·5, k1}
 use Rattle.float.specs.MinMax.{maxOf}
 use Rattle.geometry.specs.declared.Rect.{Rect}
@@ -23,7 +22,7 @@ use Rattle.layout.specs.declared.Cutouts.{Cutouts}
 use Rattle.layout.specs.Layout.{cutoutList}
 use Rattle.settings.specs.declared.Preset.{Preset}
 use Rattle.settings.specs.declared.Settings.{Settings}
-use Rattle.settings.specs.Settings.{savedList, screenPictureOf, modeByteOf, fitByteOf, untouchedOf, usableOf, IsF32, Fitting}
+use Rattle.settings.specs.Settings.{savedList, screenPictureOf, modeByteOf, fitByteOf, untouchedOf, usableOf, Fitting}
 use Rattle.wire.specs.Wire.{plusZero, plusZeroRect}
 use Rattle.wire.proofs.Rects.{bits-f32}
 use Rattle.wire.proofs.PlusZero.{zeros-same, number-same, rect-same, rects-same, eq-same}

@@ -18,7 +18,7 @@ use Rattle.settings.specs.Settings.{withModeByte, fitMarkOf, least, rectInLimit
 abbrev pub rectFrom : List Float → ℕ → Rect
 rectFrom numbers i = newOf (getD numbers i nan) (getD numbers (i + 1) nan) (getD numbers (i + 2) nan) (getD numbers (i + 3) nan)
 
--- four numbers a rectangle
+-- four numbers a rectangle; what is no whole one at the end is passed over
 unfoldable pub rectsIn : List Float → List Rect
 rectsIn numbers = tabulate (λ i. rectFrom numbers (4 * i)) (length numbers / 4)
 

@@ -348,7 +348,7 @@ fn put_last_from(out: &mut [u8], at: usize, preset: Preset, cutouts: &[f32], sav
 }
 
 // As `write_order`. The numbers are the screen's w and h, the picture, scale and offset; mode and fit are the bytes of tags 3 and 4;
-// cutouts and saved are four numbers a rectangle.
+// cutouts and saved are four numbers a rectangle, and what is no whole one at their end is passed over.
 pub fn write_numbers(
     numbers: &[f32; 9],
     mode: u8,

@@ -1,5 +1,5 @@
 -- What holds of each element: of one, of a part of a list, of lists joined, of those that pass a test, of the first ones changed, and along a fold.
-use mathlib.Core.Path.{_≡_, refl}
+use mathlib.Core.Path.{_≡_}
 use mathlib.Core.Bool.{Bool, true, false, not, cond}
 use mathlib.Core.List.{List, [], _∷_, _++_, map, foldl}
 use Prim.Native.Nat.{ℕ, zero, suc, _<_}
@@ -61,11 +61,6 @@ pub all-each : {A : Type 0} (p : A → Bool) (l : List A) → allOf p l ≡ true
 unfolding allOf
 all-each p [] e = tt
 all-each p (x ∷ l) e = let b = both (p x) (allOf p l) e in (b .0, all-each p l (b .1))
-
-pub each-all : {A : Type 0} (p : A → Bool) (l : List A) → Each (λ x. p x ≡ true) l → allOf p l ≡ true
-unfolding allOf
-each-all p [] e = refl
-each-all p (x ∷ l) e = rw (e .0) (each-all p l (e .1))
 
 -- ---- those that pass a test
 module _ {A B : Type 0} (p : A → Bool) (f : A → B) (C : A → Type 0) where

@@ -13,10 +13,8 @@ use lib.Ieee.Bits.{ofBits-toBits}
 use lib.Ieee.Fits.{down-pos}
 use lib.Ieee.Nearest.{div-same}
 use Rattle.prelude.proofs.Booleans.{both}
-use Rattle.prelude.specs.Each.{Each}
 use Rattle.float.specs.Float.{k0}
 use Rattle.geometry.specs.declared.Rect.{Rect}
-use Rattle.geometry.specs.Rect.{rectIsF32}
 use Rattle.wire.specs.Wire.{writtenBitsOf, numberBytes, rectBytes, plusZero, plusZeroRect}
 use Rattle.wire.proofs.ReadBack.{plus-zero-ind, zero-size, zero-form, minusZero, zero-ind}
 
@@ -87,7 +85,8 @@ eq-same x y = zeros-same (λ z. eq z y) (λ s m g h. go s m g h y) x
     go s m g h (inf t) = refl
     go s m g h (fin t n d) =
         let size = n * up d in
-        rw (h, zero-mul (down d)) (same-test (eqb 0 (size * 1)) (eqb 0 (size * down g)) (Bool·beq false t) (Bool·beq s t) (sym (zero-level size 1 (omega arith)) ∙ zero-level size (down g) (down-pos g)))
+        let same = sym (zero-level size 1 (omega arith)) ∙ zero-level size (down g) (down-pos g) in
+        rw (h, zero-mul (down d)) (same-test (eqb 0 (size * 1)) (eqb 0 (size * down g)) (Bool·beq false t) (Bool·beq s t) same)
 
 -- ---- equal numbers
 

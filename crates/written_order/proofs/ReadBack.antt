@@ -10,10 +10,8 @@ use lib.Ieee.{Float}
 use lib.ListN.{length, length-map}
 use lib.Seq.{length-take-le}
 use Rattle.prelude.specs.Answer.{accepted}
-use Rattle.prelude.specs.Lists.{allOf, isEmpty}
-use Rattle.prelude.proofs.EachLaws.{all-each}
+use Rattle.prelude.specs.Lists.{isEmpty}
 use Rattle.geometry.specs.declared.Rect.{Rect}
-use Rattle.geometry.specs.Rect.{rectIsF32}
 use Rattle.geometry.specs.declared.Offset.{Offset}
 use Rattle.geometry.specs.Offset.{centred}
 use Rattle.layout.specs.Layout.{cutoutList}
@@ -40,9 +38,9 @@ module _ (k : ℕ) {s t : Settings} (small : k ≤ 7) (rest : List ℕ) where
       → Ends (suc k) (next b) t rest → Ends k s t (byteField absent k b ++ rest)
   ends-byte next absent b e reads on = ends-field k (eqb b absent) (b ∷ []) rest small (λ z. ap next (eqb-true b absent z) ∙ e) reads on
 
-  ends-rects : (next : List Rect → Settings) (l : List Rect) → allOf rectIsF32 l ≡ true → next [] ≡ s → readFieldOf (fromByteOf k) (flatMap rectBytes l) s ≡ accepted (next l)
+  ends-rects : (next : List Rect → Settings) (l : List Rect) → next [] ≡ s → readFieldOf (fromByteOf k) (flatMap rectBytes l) s ≡ accepted (next l)
       → Ends (suc k) (next l) t rest → Ends k s t (rectsField k (map plusZeroRect l) ++ rest)
-  ends-rects next l f e reads on =
+  ends-rects next l e reads on =
       rw (rects-same l, length-map l plusZeroRect) (ends-field k (isEmpty l) (flatMap rectBytes l) rest small (λ z. ap next (empty-list l z) ∙ e) reads on)
 
 module _ (s : Settings) (f : IsF32 s) (a : Accepted s) (fit-arrays : Fitting s) where
@@ -121,13 +119,13 @@ module _ (s : Settings) (f : IsF32 s) (a : Accepted s) (fit-arrays : Fitting s) 
   ends7 =
       let few : leb (length saved) 32 ≡ true = rw (counted p (fit-arrays .1)) (a .few-saved) in
       let ok = all-writable (savedList p) (f .saved) in
-      ends-rects 7 (omega arith) [] (savedGiven s6) saved ok refl (saved-given s6 saved ok ∙ passed _ 7 _ few) (ends s7)
+      ends-rects 7 (omega arith) [] (savedGiven s6) saved refl (saved-given s6 saved ok ∙ passed _ 7 _ few) (ends s7)
 
   ends6 : Ends 6 s5 s7 from6
   unfolding absentOf cutoutsInLimitsOf
   ends6 =
       let few : leb (length cut) 16 ≡ true = rw (length-take-le (s .cutouts .count) (s .cutouts .at) (fit-arrays .0)) (a .few-cutouts) in
-      ends-rects 6 (omega arith) from7 (cutoutsGiven s5) cut (f .cutouts) refl (cutouts-given s5 cut (f .cutouts) ∙ passed _ 7 _ few ∙ passed _ 6 _ (a .cutouts)) ends7
+      ends-rects 6 (omega arith) from7 (cutoutsGiven s5) cut refl (cutouts-given s5 cut (f .cutouts) ∙ passed _ 7 _ few ∙ passed _ 6 _ (a .cutouts)) ends7
 
   no-place : untouchedOf placed ≡ true → s5 ≡ s4
   unfolding absentOf defaultOf untouchedOf
