@@ -17,7 +17,7 @@ use Rattle.order_writer.proofs.put_last_from.Tie as tie
 
 module _ (c : tie.After-untouched) where
   abbrev entered : tie.Start
-  entered = c .before .before .before .before .before .before
+  entered = let lent = c .before .before .before in lent .before .before .before
 
   lengths : let a = entered .args in
       length (lastFields (a .preset) (rectsIn (now (a .cutouts))) (map writableOf (rectsIn (now (a .saved)))))

@@ -1,4 +1,4 @@
--- Test by test, in tag order: the first that fails gives its number. Past the fit, `met` has what the four tests before leave.
+-- Test by test, in tag order: the first that fails gives its number. `met` has what is left past the fit, `within` past the cutouts.
 use borrow.Author.Needs.{needs}
 use borrow.Author.Tests.{eq-eqb, ne-eqb, le-leb, lt-leb, not-true, not-false}
 use mathlib.Core.Path.{_≡_, sym, _∙_}
@@ -47,7 +47,7 @@ odd-fit c =
     )
 
 abbrev entered : tie.Else4 → tie.Start
-entered c = c .before .before .before .before .before .before
+entered c = let picture = c .before .before .before in picture .before .before .before
 
 met : (c : tie.Else4) →
     let a = entered c .args in
@@ -89,38 +89,21 @@ off-cutouts c =
       not-true (c .before .cutouts-in-limits .result) (c .if7 .taken),
     )
 
-many-saved : tie.Need-returns-8
+-- past the cutouts, the saved rectangles are left
+within : (c : tie.Else7) → let few = c .before .before in let place = few .before .before .before .before in
+    let a = entered (place .before .before) .args in
+    firstFaultOf (a .mode) (a .fit) (a .s) ≡ refusalOf (mustSaved (a .s .preset .count) (accepted (a .s)))
 unfolding must
-many-saved c =
-    let within = c .before .before in
-    let few = within .before .before in
+within c =
+    let test = c .before in
+    let few = test .before in
     let placed = few .before .before .before in
     let place = placed .before in
-    rw (
-      met (place .before .before),
-      ← place .place-in-limits .ensures,
-      not-false (place .place-in-limits .result) (placed .if5 .left),
+    met (place .before .before)
+    ∙ rw (
+      sym (place .place-in-limits .ensures) ∙ not-false (place .place-in-limits .result) (placed .if5 .left),
       le-leb _ _ (few .if6 .left),
-      ← within .before .cutouts-in-limits .ensures,
-      not-false (within .before .cutouts-in-limits .result) (within .if7 .left),
-      lt-leb _ _ (c .if8 .taken),
-    )
-
-none : tie.Need-returns-9
-unfolding must
-none c =
-    let within = c .before .before in
-    let few = within .before .before in
-    let placed = few .before .before .before in
-    let place = placed .before in
-    rw (
-      met (place .before .before),
-      ← place .place-in-limits .ensures,
-      not-false (place .place-in-limits .result) (placed .if5 .left),
-      le-leb _ _ (few .if6 .left),
-      ← within .before .cutouts-in-limits .ensures,
-      not-false (within .before .cutouts-in-limits .result) (within .if7 .left),
-      le-leb _ _ (c .if8 .left),
+      sym (test .cutouts-in-limits .ensures) ∙ not-false (test .cutouts-in-limits .result) (c .if7 .left),
     )
 
 pub first-fault-spec : {M : Type 1} → statement M
@@ -139,5 +122,5 @@ first-fault-spec =
     many-cutouts
     (λ c κs. search needs)
     off-cutouts
-    many-saved
-    none)
+    (λ c. rw (within (c .before .before), lt-leb _ _ (c .if8 .taken)))
+    (λ c. rw (within (c .before .before), le-leb _ _ (c .if8 .left))))
