@@ -5,7 +5,7 @@ use native.Mathlib.Nat.{le-of-lt, lt-of-not-le, zero-mul}
 use native.Mathlib.Omega.{arith}
 use mathlib.Core.Bool.{true, false, not}
 use lib.Dec.{T, T-not, ltb, leb→le, le→leb, ltb→lt, nltb→le}
-use lib.IntN.{ℤ, pos, negsuc, negℤ, subℕ, _+ℤ_, _*ℤ_}
+use lib.IntN.{ℤ, pos, negsuc, negℤ, subℕ, _+ℤ_, _-ℤ_, _*ℤ_}
 use lib.Signed.{leZ, ltZ, ltZ-no}
 use lib.Ieee.{Float, nan, inf, fin}
 use Rattle.prelude.proofs.Booleans.{by-test}
@@ -29,19 +29,22 @@ nle-parts a b t = le-of-lt (lt-of-not-le (λ h. T-not (leZ a b) t (parts-le a b 
 pub nlt-parts : (a b : ℤ) → T (not (ltZ a b)) → above b + below a ≤ above a + below b
 nlt-parts a b t = le-parts b a (ltZ-no {a = a} {b = b} t .le)
 
-sub-parts : (a b : ℕ) → above (subℕ a b) + b ≡ below (subℕ a b) + a
-sub-parts a b = by-test (λ z. above z + b ≡ below z + a) (ltb a b) (λ t. omega (arith, ltb→lt a b t)) (λ t. omega (arith, nltb→le a b t))
+natural-parts : (a b : ℕ) → above (subℕ a b) + b ≡ below (subℕ a b) + a
+natural-parts a b = by-test (λ z. above z + b ≡ below z + a) (ltb a b) (λ t. omega (arith, ltb→lt a b t)) (λ t. omega (arith, nltb→le a b t))
 
 pub add-parts : (a b : ℤ) → above (a +ℤ b) + below a + below b ≡ below (a +ℤ b) + above a + above b
 add-parts (pos a) (pos b) = omega arith
-add-parts (pos a) (negsuc b) = let k = sub-parts a (suc b) in omega arith
-add-parts (negsuc a) (pos b) = let k = sub-parts b (suc a) in omega arith
+add-parts (pos a) (negsuc b) = let k = natural-parts a (suc b) in omega arith
+add-parts (negsuc a) (pos b) = let k = natural-parts b (suc a) in omega arith
 add-parts (negsuc a) (negsuc b) = omega arith
 
 pub neg-parts : (a : ℤ) → (above (negℤ a) ≡ below a) × (below (negℤ a) ≡ above a)
 neg-parts (pos zero) = (refl, refl)
 neg-parts (pos (suc n)) = (refl, refl)
 neg-parts (negsuc n) = (refl, refl)
+
+pub sub-parts : (a b : ℤ) → above (a -ℤ b) + below a + above b ≡ below (a -ℤ b) + above a + below b
+sub-parts a b = omega (arith, add-parts a (negℤ b), neg-parts b .0, neg-parts b .1)
 
 pub mul-parts : (a : ℤ) (d : ℕ) → (above (a *ℤ pos d) ≡ above a * d) × (below (a *ℤ pos d) ≡ below a * d)
 mul-parts (pos a) d = (refl, sym (zero-mul d))

@@ -8,7 +8,7 @@ use lib.Dec.{T}
 use lib.ListN.{length, take, drop, getD, set}
 use Rattle.prelude.proofs.Booleans.{either, both}
 use Rattle.prelude.specs.Lists.{allOf, mapFirst, replaceFirst, filterMap, retain, compact}
-use Rattle.prelude.specs.Each.{Each}
+use Rattle.prelude.specs.Each.{Each, Pairwise}
 
 module _ {A : Type 0} (C : A → Type 0) where
   pub each-take : (n : ℕ) (xs : List A) → Each C xs → Each C (take n xs)
@@ -55,6 +55,20 @@ module _ {A : Type 0} (C D : A → Type 0) where
   pub each-both : (xs : List A) → Each C xs → Each D xs → Each (λ x. C x × D x) xs
   each-both [] e f = tt
   each-both (x ∷ xs) e f = ((e .0, f .0), each-both xs (e .1) (f .1))
+
+-- ---- two lists in pairs
+module _ {A B : Type 0} (C : A → B → Type 0) where
+  pub pairwise-append : (xs : List A) (ys : List B) (zs : List A) (ws : List B) → Pairwise C xs ys → Pairwise C zs ws → Pairwise C (xs ++ zs) (ys ++ ws)
+  pairwise-append [] [] zs ws e f = f
+  pairwise-append [] (y ∷ ys) zs ws e f = absurd e
+  pairwise-append (x ∷ xs) [] zs ws e f = absurd e
+  pairwise-append (x ∷ xs) (y ∷ ys) zs ws e f = (e .0, pairwise-append xs ys zs ws (e .1) f)
+
+  pub pairwise-imp : (D : A → B → Type 0) → ((x : A) (y : B) → C x y → D x y) → (xs : List A) (ys : List B) → Pairwise C xs ys → Pairwise D xs ys
+  pairwise-imp D g [] [] e = tt
+  pairwise-imp D g [] (y ∷ ys) e = absurd e
+  pairwise-imp D g (x ∷ xs) [] e = absurd e
+  pairwise-imp D g (x ∷ xs) (y ∷ ys) e = (g x y (e .0), pairwise-imp D g xs ys (e .1))
 
 -- a test that each passes
 pub all-each : {A : Type 0} (p : A → Bool) (l : List A) → allOf p l ≡ true → Each (λ x. p x ≡ true) l
