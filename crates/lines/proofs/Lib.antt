@@ -1,4 +1,4 @@
 pub mod LineLaws
-mod Patterns
+pub mod EdgeLaws
 pub mod Puts
 mod Numbers

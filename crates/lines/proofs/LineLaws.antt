@@ -2,21 +2,22 @@
 use mathlib.Core.Path.{_≡_, refl, ap, _∙_}
 use mathlib.Core.Bool.{Bool, true, false, cond}
 use mathlib.Core.List.{List, [], _∷_, _++_}
-use Prim.Native.Nat.{ℕ, zero, suc, _+_, _-_, _*_, _/_, _%_, _^_, _≤_, _<_, zero-le}
-use native.Mathlib.Nat.{pow-suc, sub-zero, div-eq-of-lt, add-div-right, div-lt-iff-lt-mul, le-trans}
+use Prim.Native.Nat.{ℕ, zero, suc, _+_, _/_, _%_, _^_, _≤_, _<_, zero-le}
+use native.Mathlib.Nat.{pow-suc, le-trans}
 use native.Mathlib.Omega.{arith}
 use borrow.Author.Tests.{lt-ltb, le-ltb, ltb-false}
-use lib.Dec.{ltb, lit≤, ltb→lt, nltb→le}
-use lib.Ieee.{Float, nan, inf, fin}
-use lib.IntN.{ℤ, pos, negsuc, negℤ, _+ℤ_, _*ℤ_}
+use lib.Dec.{ltb, lit≤}
+use lib.Ieee.{Float}
+use lib.IntN.{ℤ, pos, negsuc, _+ℤ_}
 use lib.ListN.{length, length-append}
-use lib.Pow.{pow-pos}
-use lib.Signed.{shrZ, mag}
-use Rattle.prelude.proofs.Booleans.{by-test}
+use Rattle.float.specs.Float.{k0}
 use Rattle.geometry.specs.declared.Rect.{Rect}
-use Rattle.numerics.proofs.Bounds.{eps-pos, most-magnitude}
-use Rattle.numerics.specs.Value.{magnitude, sign, Whole, eps, AtMost}
-use Rattle.lines.specs.Line.{Line, tenthsOf, tenthsSizeOf, lineOf, digitsIn, digitsOf, numberText, fieldText, lineText, headText, most, mostTenths, Printable}
+use Rattle.numerics.proofs.Bounds.{most-more, zero-most}
+use Rattle.numerics.specs.Value.{value, limit, AtMost}
+use Rattle.tenths.specs.Tenths.{tenthsOf, spanOf}
+use Rattle.tenths.proofs.Floors.{Small, difference-small, small-abs, more}
+use Rattle.tenths.proofs.TenthsLaws.{edge-small, edge-alone}
+use Rattle.lines.specs.Line.{Line, lineOf, digitsIn, digitsOf, numberText, fieldText, lineText, headText, most, Printable, Numbers, SixDigits}
 
 -- ---- digits
 -- the steps left over change nothing
@@ -58,59 +59,44 @@ pub length-digits : (k n : ℕ) → n < 10 ^ suc k → length (digitsOf n) ≤ s
 unfolding digitsOf
 length-digits k n h = length-digitsIn (suc n) k n h
 
--- ---- tenths
--- n units below zero, and a half more, where a half is p units
-rounded-below : (n p : ℕ) → 0 < p → shrZ (negsuc n +ℤ pos p) (2 * p) ≡ negℤ (pos ((suc n + p - 1) / (2 * p)))
-rounded-below n p h = by-test (λ z. shrZ z (2 * p) ≡ negℤ (pos ((suc n + p - 1) / (2 * p)))) (ltb p (suc n))
-    (λ t.
-    let l = ltb→lt p (suc n) t in
-    let q : suc n + p - 1 ≡ (suc n - suc p) + 2 * p = omega arith in
-    let s : (suc n - suc p) / (2 * p) + 1 ≡ suc ((suc n - suc p) / (2 * p)) = omega arith in
-    rw (q, add-div-right (suc n - suc p) {k = 2 * p} (omega arith), s))
-    (λ t.
-    let l = nltb→le p (suc n) t in
-    rw (div-eq-of-lt {n = p - suc n} {m = 2 * p} (omega arith), div-eq-of-lt {n = suc n + p - 1} {m = 2 * p} (omega arith)))
+-- ---- numbers in range
+-- `most` and `most` in tenths
+abbrev pub mostEdge : ℕ
+mostEdge = 451222
 
-rounded-minus : (g p : ℕ) → 0 < p → shrZ (pos 20 *ℤ negℤ (pos g) +ℤ pos p) (2 * p) ≡ negℤ (pos ((20 * g + p - 1) / (2 * p)))
-rounded-minus zero p h = rw (div-eq-of-lt {n = 0 + p} {m = 2 * p} (omega arith), div-eq-of-lt {n = 0 + p - 1} {m = 2 * p} (omega arith))
-rounded-minus (suc k) p h = let e : 20 * suc k ≡ suc (20 * k + 19) = omega arith in rw e (rounded-below (20 * k + 19) p h)
+pub edge-within : (x w : Float) → AtMost x most → AtMost w most → Small mostEdge (tenthsOf (value x +ℤ value w))
+edge-within x w a b = edge-small x w mostEdge a b (lit≤ tt)
 
--- the whole number by its size and its sign
-pub tenths-is : (x : Float) → Whole x → tenthsOf x ≡ cond (sign x) (negℤ (pos (tenthsSizeOf x))) (pos (tenthsSizeOf x))
-unfolding tenthsOf tenthsSizeOf
-tenths-is nan w = absurd w
-tenths-is (inf s) w = absurd w
-tenths-is (fin false m e) w = rw (sub-zero (20 * magnitude (fin false m e) + 2 ^ 149))
-tenths-is (fin true m e) w = rounded-minus (magnitude (fin true m e)) (2 ^ 149) (pow-pos 149)
+pub in-limit : {x : Float} → AtMost x most → AtMost x limit
+in-limit a = most-more a limit tt
 
--- `omega` takes no number of more than 38 digits, so the powers are variables here
-few-units : (g less p q unit : ℕ) → 0 < unit → g ≤ unit * most → p ≡ 256 * unit → q ≡ 2 * p → 20 * g + p - less < mostTenths * q
-few-units g less p q unit u h e f = omega arith
+pub zero-in-range : AtMost k0 most
+zero-in-range = most-more zero-most most tt
 
-pub size-most : (x : Float) → AtMost x most → tenthsSizeOf x < mostTenths
-unfolding tenthsSizeOf eps
-size-most x a =
-    div-lt-iff-lt-mul {k = 2 ^ 150} {x = 20 * magnitude x + 2 ^ 149 - cond (sign x) 1 0} {y = mostTenths} (pow-pos 150) .1
-    (few-units (magnitude x) (cond (sign x) 1 0) (2 ^ 149) (2 ^ 150) (2 ^ 141) eps-pos (most-magnitude a) refl refl)
+corner-within : (x : Float) → AtMost x most → Small mostEdge (tenthsOf (value x))
+corner-within x a = rw edge-alone at (edge-within x k0 a zero-in-range)
 
-mag-signed : (b : Bool) (n k : ℕ) → n < k → mag (cond b (negℤ (pos n)) (pos n)) < k
-mag-signed true zero k h = h
-mag-signed true (suc n) k h = omega arith
-mag-signed false n k h = h
+six-digits : {z : ℤ} → Small (mostEdge + mostEdge) z → SixDigits z
+six-digits {z} s = omega (arith, small-abs z s)
 
-pub tenths-most : (x : Float) → AtMost x most → mag (tenthsOf x) < mostTenths
-tenths-most x a = rw (tenths-is x (a .whole)) (mag-signed (sign x) (tenthsSizeOf x) mostTenths (size-most x a))
+pub line-numbers : (name : List ℕ) (r : Rect) → Printable r → Numbers SixDigits (lineOf name r)
+unfolding lineOf spanOf
+line-numbers name r p =
+    let x = corner-within (r .x) (p .x) in
+    let y = corner-within (r .y) (p .y) in
+    record {
+      x = six-digits (more x (lit≤ tt));
+      y = six-digits (more y (lit≤ tt));
+      w = six-digits (difference-small (edge-within (r .x) (r .w) (p .x) (p .w)) x);
+      h = six-digits (difference-small (edge-within (r .y) (r .h) (p .y) (p .h)) y);
+    }
 
 -- ---- lengths
 -- six digits and a minus
-length-number : (z : ℤ) → mag z < mostTenths → length (numberText z) ≤ 7
+pub length-number : (z : ℤ) → SixDigits z → length (numberText z) ≤ 7
 unfolding numberText
-length-number (pos n) h = le-trans (length-digits 5 n (omega arith)) (lit≤ tt)
-length-number (negsuc n) h = omega (arith, length-digits 5 (suc n) (omega arith))
-
-length-field : (x : Float) → AtMost x most → length (fieldText (tenthsOf x)) ≤ 8
-unfolding fieldText
-length-field x a = omega (arith, length-number (tenthsOf x) (tenths-most x a))
+length-number (pos n) h = le-trans (length-digits 5 n h) (lit≤ tt)
+length-number (negsuc n) h = omega (arith, length-digits 5 (suc n) h)
 
 pub length-head : (word : List ℕ) (n : ℕ) → length (headText word n) ≡ length word + (length (digitsOf n) + 1)
 unfolding headText
@@ -121,7 +107,7 @@ pub length-parts : (l : Line)
 unfolding lineText
 length-parts l = simp length-append
 
-pub length-line : (name : List ℕ) (r : Rect) → Printable r → length (lineText (lineOf name r)) ≤ length name + 33
-unfolding lineOf
-length-line name r p =
-    rw (length-parts (lineOf name r)) (omega (arith, length-field (r .x) (p .x), length-field (r .y) (p .y), length-field (r .w) (p .w), length-field (r .h) (p .h)))
+pub length-line : (l : Line) → Numbers SixDigits l → length (lineText l) ≤ length (l .name) + 33
+unfolding fieldText
+length-line l p =
+    rw (length-parts l) (omega (arith, length-number (l .x) (p .x), length-number (l .y) (p .y), length-number (l .w) (p .w), length-number (l .h) (p .h)))

@@ -1,17 +1,16 @@
 -- A line of the film sheet of document 01, and its text.
 use mathlib.Core.Bool.{cond}
 use mathlib.Core.List.{List, [], _∷_, _++_}
-use Prim.Native.Nat.{ℕ, zero, suc, _+_, _-_, _*_, _/_, _%_, _^_, _≤_, _<_}
+use Prim.Native.Nat.{ℕ, zero, suc, _+_, _/_, _%_, _≤_, _<_}
 use lib.Dec.{ltb}
-use lib.Ieee.{Float}
-use lib.IntN.{ℤ, pos, negsuc, _+ℤ_, _*ℤ_}
+use lib.IntN.{ℤ, pos, negsuc, natAbs}
 use lib.ListN.{length, take}
-use lib.Signed.{shrZ, mag}
 use Rattle.prelude.specs.Lists.{stored}
 use Rattle.geometry.specs.declared.Rect.{Rect}
 use Rattle.layout.specs.declared.Name.{Name}
-use Rattle.numerics.specs.Value.{value, magnitude, sign, AtMost}
+use Rattle.numerics.specs.Value.{value, AtMost}
 use Rattle.numerics.specs.Rects.{maxGameCorner}
+use Rattle.tenths.specs.Tenths.{tenthsOf, spanOf}
 use Rattle.lines.specs.declared.SheetLine.{SheetLine}
 
 -- a name in ASCII, and ten times x, y, w and h in whole numbers
@@ -22,16 +21,16 @@ pub record Line : Type 0 where
   pub w : ℤ
   pub h : ℤ
 
--- The nearest whole number to ten times v, halves upward: 10 v + 1/2 rounded down, as `shrZ` does. `value` counts in 2^-149.
-unfoldable pub tenthsOf : Float → ℤ
-tenthsOf v = shrZ (pos 20 *ℤ value v +ℤ pos (2 ^ 149)) (2 ^ 150)
-
--- its size: below zero a half goes toward zero
-unfoldable pub tenthsSizeOf : Float → ℕ
-tenthsSizeOf v = (20 * magnitude v + 2 ^ 149 - cond (sign v) 1 0) / 2 ^ 150
-
+-- W-202: x and y are rounded, and so are the right and lower edges; w and h are what lies between.
 unfoldable pub lineOf : List ℕ → Rect → Line
-lineOf name r = record { name = name; x = tenthsOf (r .x); y = tenthsOf (r .y); w = tenthsOf (r .w); h = tenthsOf (r .h) }
+lineOf name r =
+    record {
+      name = name;
+      x = tenthsOf (value (r .x));
+      y = tenthsOf (value (r .y));
+      w = spanOf (value (r .x)) (value (r .w));
+      h = spanOf (value (r .y)) (value (r .h));
+    }
 
 -- a name without the zeros after it, and the line that the code holds
 abbrev pub nameText : Name → List ℕ
@@ -74,22 +73,26 @@ headText word n = word ++ (digitsOf n ++ (10 ∷ []))
 abbrev pub most : ℕ
 most = maxGameCorner
 
--- more than ten times that
-abbrev pub mostTenths : ℕ
-mostTenths = 225611
-
 pub record Printable (r : Rect) : Type 0 where
   pub x : AtMost (r .x) most
   pub y : AtMost (r .y) most
   pub w : AtMost (r .w) most
   pub h : AtMost (r .h) most
 
+-- C holds of the four numbers
+pub record Numbers (C : ℤ → Type 0) (l : Line) : Type 0 where
+  pub x : C (l .x)
+  pub y : C (l .y)
+  pub w : C (l .w)
+  pub h : C (l .h)
+
+-- a number has six digits at most
+abbrev pub SixDigits : ℤ → Type 0
+SixDigits z = natAbs z < 1000000
+
 pub record PrintableLine (l : SheetLine) : Type 0 where
   pub name : l .name .length ≤ 6
-  pub x : mag (l .x) < mostTenths
-  pub y : mag (l .y) < mostTenths
-  pub w : mag (l .w) < mostTenths
-  pub h : mag (l .h) < mostTenths
+  pub numbers : Numbers SixDigits (lineIn l)
 
 -- the output with a text stored from `at` on, and where the text ends
 unfoldable pub putOf : List ℕ → ℕ → List ℕ → List ℕ × ℕ

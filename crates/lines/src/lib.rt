@@ -1,15 +1,13 @@
 // The lines of document 01's film sheet, as data and as text: a name or a word, and whole numbers.
 ghost use mathlib.Core.Path.{_≡_};
-ghost use Prim.Native.Nat.{_+_, _≤_, _<_, _/_, _%_, _^_};
-ghost use lib.Ieee.{binary32, ofBits};
+ghost use Prim.Native.Nat.{_+_, _≤_};
 ghost use lib.ListN.{length};
-ghost use lib.Signed.{mag};
-ghost use Rattle.numerics.specs.Value.{AtMost};
-ghost use Rattle.lines.specs.Line.{tenthsOf, tenthsSizeOf, nameText, lineOf, lineIn, digitsOf, numberText, fieldText, lineText, headText, most, mostTenths, Printable, PrintableLine, putOf};
+ghost use Rattle.lines.specs.Line.{nameText, lineOf, lineIn, digitsOf, numberText, fieldText, lineText, headText, SixDigits, Printable, PrintableLine, putOf};
 use geometry::Rect;
 use layout::Name;
+use tenths::edge;
 
-// A line as data: a name, and ten times x, y, w and h in whole numbers.
+// A line as data: a name, and x, y, w and h in tenths.
 pub struct SheetLine {
     pub name: Name,
     pub x: i32,
@@ -18,42 +16,20 @@ pub struct SheetLine {
     pub h: i32,
 }
 
-// The size of ten times an f32 in whole numbers, by its bit pattern: the mantissa's last bit is worth 2^(exponent - 150), so that 2^j of it are 1.
-// A half is added, a bit less below zero so that halves go upward, and what is less than 1 is shifted out. Below 2^-17 nothing is left.
-fn tenths_size(n: u32) -> u64
-    requires { ⌜ n % 2 ^ 31 / 2 ^ 23 < 150 ⌝ }
-    ensures { λ r. ⌜ r ≡ tenthsSizeOf (ofBits binary32 n) ⌝ }
-{
-    let exponent = n % 0x8000_0000 / 0x80_0000;
-    if exponent < 110 {
-        return 0;
-    }
-    let mantissa = 0x80_0000 + n % 0x80_0000;
-    let minus = n / 0x8000_0000;
-    let j = 150 - exponent;
-    (20 * mantissa as u64 + (1u64 << j) - minus as u64) >> (j + 1)
-}
-
-// The nearest whole number to ten times x, halves upward.
-fn tenths(x: f32) -> i32
-    requires { ⌜ AtMost x most ⌝ }
-    ensures { λ r. ⌜ r ≡ tenthsOf x ⌝ }
-{
-    let n = f32::to_bits(x);
-    let size = tenths_size(n) as i32;
-    if n < 0x8000_0000 { size } else { -size }
-}
-
 pub fn sheet_line(name: Name, r: Rect) -> SheetLine
     requires { ⌜ (name .length ≤ 6) × Printable r ⌝ }
     ensures { λ l. ⌜ (lineIn l ≡ lineOf (nameText name) r) × PrintableLine l ⌝ }
 {
+    let x = edge(r.x, 0.0);
+    let y = edge(r.y, 0.0);
+    let right = edge(r.x, r.w);
+    let lower = edge(r.y, r.h);
     SheetLine {
         name,
-        x: tenths(r.x),
-        y: tenths(r.y),
-        w: tenths(r.w),
-        h: tenths(r.h),
+        x,
+        y,
+        w: right - x,
+        h: lower - y,
     }
 }
 
@@ -82,7 +58,7 @@ fn put_digits(out: &mut [u8], at: usize, n: u32) -> usize
 }
 
 fn put_number(out: &mut [u8], at: usize, n: i32) -> usize
-    requires { ⌜ (mag n < mostTenths) × (at + length (numberText n) ≤ length (now out)) ⌝ }
+    requires { ⌜ (SixDigits n) × (at + length (numberText n) ≤ length (now out)) ⌝ }
     ensures { λ r. ⌜ (now (out .exit), r) ≡ putOf (now (out .entry)) at (numberText n) ⌝ }
 {
     if n < 0 {
@@ -94,7 +70,7 @@ fn put_number(out: &mut [u8], at: usize, n: i32) -> usize
 
 // A blank, and a number.
 fn put_field(out: &mut [u8], at: usize, n: i32) -> usize
-    requires { ⌜ (mag n < mostTenths) × (at + length (fieldText n) ≤ length (now out)) ⌝ }
+    requires { ⌜ (SixDigits n) × (at + length (fieldText n) ≤ length (now out)) ⌝ }
     ensures { λ r. ⌜ (now (out .exit), r) ≡ putOf (now (out .entry)) at (fieldText n) ⌝ }
 {
     out[at] = b' ';

@@ -1,4 +1,4 @@
--- Laws of the film sheet: its numbers are in range, and it fits its array.
+-- Laws of the film sheet: its numbers are in range, it fits its array, and each line is that of its rectangle.
 use mathlib.Core.Path.{_≡_, refl}
 use mathlib.Core.List.{List, [], _∷_, _++_, map, flatMap, zipWith}
 use Prim.Native.Nat.{ℕ, _+_, _*_, _≤_, zero-le}
@@ -6,34 +6,35 @@ use native.Mathlib.Omega.{arith}
 use lib.Dec.{T, leb, leb→le, le→leb}
 use lib.ListN.{length, length-append, length-map, length-take}
 use lib.Seq.{length-take-le}
-use Rattle.prelude.specs.Each.{Each, _&_}
-use Rattle.prelude.proofs.EachLaws.{each-take, each-append, each-map, each-imp}
+use Rattle.prelude.specs.Each.{Each, Pairwise, _&_}
+use Rattle.prelude.proofs.EachLaws.{each-take, each-append, each-map, each-imp, pairwise-append}
 use Rattle.geometry.specs.declared.Rect.{Rect}
 use Rattle.layout.specs.declared.Control.{Control}
 use Rattle.layout.specs.declared.Layout.{Layout}
 use Rattle.layout.specs.Label.{nameOf}
-use Rattle.layout.specs.Layout.{controlList, stickList, Few}
+use Rattle.layout.specs.Layout.{controlList, stickList, boundsOf, elementsOf, Few}
 use Rattle.layout.specs.Labels.{Arrays}
 use Rattle.layout.proofs.Names.{length-name}
 use Rattle.numerics.proofs.Bounds.{most-more}
 use Rattle.numerics.specs.Rects.{Element}
 use Rattle.layout_ranges.specs.Bounded.{Bounded, BoundedGame}
-use Rattle.lines.specs.Line.{Line, lineOf, lineText, headText, most, Printable}
-use Rattle.lines.proofs.LineLaws.{length-digits, length-head, length-line}
+use Rattle.lines.specs.Line.{Line, lineOf, headText, most, Printable, Numbers, SixDigits}
+use Rattle.lines.proofs.LineLaws.{length-digits, length-head, length-line, line-numbers}
 use Rattle.sheet.specs.Sheet.{gameName, dpadName, pauseName, playName, speedName, muteName, leftName, rightName}
-use Rattle.sheet.specs.Sheet.{controlLine, toolbarLines, stickLines, linesOf, linesText, film, refusal, sheetText}
+use Rattle.sheet.specs.Sheet.{controlLine, toolbarLines, stickLines, linesOf, lineRects, linesText, film, refusal, sheetText}
 
 -- a line of 39 bytes at most
-abbrev Short : Line → Type 0
-Short l = length (lineText l) ≤ 39
+abbrev pub Short : Line → Type 0
+Short l = (length (l .name) ≤ 6) × Numbers SixDigits l
 
 short : (name : List ℕ) (r : Rect) → T (leb (length name) 6) → Printable r → Short (lineOf name r)
-short name r t p = omega (arith, length-line name r p, leb→le (length name) 6 t)
+unfolding lineOf
+short name r t p = (leb→le (length name) 6 t, line-numbers name r p)
 
 length-lines : (ls : List Line) → Each Short ls → length (linesText ls) ≤ 39 * length ls
 unfolding flatMap
 length-lines [] e = zero-le
-length-lines (l ∷ ls) e = simp length-append (omega (arith, e .0, length-lines ls (e .1)))
+length-lines (l ∷ ls) e = simp length-append (omega (arith, e .0 .0, length-line l (e .0 .1), length-lines ls (e .1)))
 
 pub head-fits : (n : ℕ) → n ≤ 20 → length (headText film n) ≤ 8
 head-fits n h = omega (arith, length-head film n, length-digits 1 n (omega arith))
@@ -74,7 +75,7 @@ module _ (l : Layout) (few : Few l) where
   line-count a = rw (length-linesOf, length-take-le (l .count) (l .controls) (omega arith), length-take-le (l .stickcount) (l .sticks) (omega arith))
 
 module _ (l : Layout) (few : Few l) (b : Bounded l) where
-  lines-short : BoundedGame (l .game) → Each Short (linesOf l)
+  pub lines-short : BoundedGame (l .game) → Each Short (linesOf l)
   unfolding linesOf toolbarLines
   lines-short g =
       short gameName (l .game) tt (game-printable g)
@@ -99,3 +100,26 @@ module _ (l : Layout) (few : Few l) (b : Bounded l) where
   pub sheet-fits : BoundedGame (l .game) → length (sheetText (linesOf l)) ≤ 788
   unfolding sheetText
   sheet-fits g = simp length-append (omega (arith, lines-fit g, head-fits (length (linesOf l)) (few-lines l few)))
+
+-- ---- each line is that of its rectangle
+abbrev pub LineOf : Line → Rect → Type 0
+LineOf line r = line ≡ lineOf (line .name) r
+
+controls-lined : (cs : List Control) → Pairwise LineOf (map controlLine cs) (map (λ c. c .bounds) cs)
+unfolding lineOf
+controls-lined [] = tt
+controls-lined (c ∷ cs) = refl & controls-lined cs
+
+sticks-lined : (rs : List Rect) → length rs ≤ 2 → Pairwise LineOf (stickLines rs) rs
+unfolding stickLines zipWith lineOf
+sticks-lined [] h = tt
+sticks-lined (a ∷ []) h = refl & tt
+sticks-lined (a ∷ b ∷ []) h = refl & refl & tt
+sticks-lined (a ∷ b ∷ c ∷ rs) h = absurd (let z : ⊥ = omega arith in z)
+
+pub lines-lined : (l : Layout) → Few l → Pairwise LineOf (linesOf l) (lineRects l)
+unfolding linesOf toolbarLines elementsOf lineOf
+lines-lined l few =
+    refl & refl
+    & pairwise-append LineOf (map controlLine (controlList l)) (boundsOf l) _ _ (controls-lined (controlList l))
+    (refl & refl & refl & refl & sticks-lined (stickList l) (rw length-take (omega arith)))

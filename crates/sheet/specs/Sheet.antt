@@ -6,7 +6,7 @@ use Rattle.geometry.specs.declared.Rect.{Rect}
 use Rattle.layout.specs.declared.Control.{Control}
 use Rattle.layout.specs.declared.Layout.{Layout}
 use Rattle.layout.specs.Label.{nameOf}
-use Rattle.layout.specs.Layout.{controlList, stickList}
+use Rattle.layout.specs.Layout.{controlList, stickList, elementsOf}
 use Rattle.lines.specs.Line.{Line, lineOf, lineIn, lineText, headText}
 use Rattle.sheet.specs.declared.Sheet.{Sheet}
 use Rattle.sheet.specs.declared.SheetLines.{SheetLines}
@@ -51,6 +51,10 @@ stickLines sticks = zipWith lineOf (leftName ∷ rightName ∷ []) sticks
 unfoldable pub linesOf : Layout → List Line
 linesOf l =
     lineOf gameName (l .game) ∷ lineOf dpadName (l .dpad) ∷ (map controlLine (controlList l) ++ (toolbarLines l ++ stickLines (stickList l)))
+
+-- what they are the lines of
+abbrev pub lineRects : Layout → List Rect
+lineRects l = l .game ∷ elementsOf l
 
 -- the lines that an array and its count stand for
 abbrev pub linesIn : SheetLines → List Line

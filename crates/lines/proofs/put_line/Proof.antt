@@ -51,14 +51,14 @@ slice-aggregate-put-text c =
 put-field-requires : tie.Need-put-field-requires
 put-field-requires c κs =
     let s = entry (c .before .before .before .before) in
-    let p = printable s in
+    let p = printable s .numbers in
     (search needs, omega (arith, put-ends, put-length, room s))
 
 put-field-requires-2 : tie.Need-put-field-requires-2
 put-field-requires-2 c κs =
     let x-put = c .before .before .before .before in
     let s = entry (at-x x-put) in
-    let p = printable s in
+    let p = printable s .numbers in
     (search needs, omega (arith, put-ends, put-length, room s))
 
 put-field-requires-3 : tie.Need-put-field-requires-3
@@ -66,7 +66,7 @@ put-field-requires-3 c κs =
     let y-put = c .before .before .before .before in
     let x-put = at-y y-put in
     let s = entry (at-x x-put) in
-    let p = printable s in
+    let p = printable s .numbers in
     (search needs, omega (arith, put-ends, put-length, room s))
 
 put-field-requires-4 : tie.Need-put-field-requires-4
@@ -75,7 +75,7 @@ put-field-requires-4 c κs =
     let y-put = at-w w-put in
     let x-put = at-y y-put in
     let s = entry (at-x x-put) in
-    let p = printable s in
+    let p = printable s .numbers in
     (search needs, omega (arith, put-ends, put-length, room s))
 
 -- the line feed is the last of what is asked room for
