@@ -1,5 +1,5 @@
 -- The edges, sides and numbers of an accepted order's film sheet: each line is that of its rectangle, and the laws of a line do the rest.
-use mathlib.Core.Path.{_≡_, sym, ap, subst, _∙_}
+use mathlib.Core.Path.{sym, ap, subst, _∙_}
 use mathlib.Core.List.{List}
 use Prim.Native.Nat.{ℕ}
 use Rattle.prelude.proofs.EachLaws.{each-imp, pairwise-imp}
@@ -15,8 +15,7 @@ use Rattle.lines.proofs.LineLaws.{length-number}
 use Rattle.lines.proofs.EdgeLaws.{edge-rounded}
 use Rattle.sheet.specs.Sheet.{linesOf, lineRects}
 use Rattle.sheet.proofs.SheetLaws.{LineOf, Short, lines-lined, lines-short}
-use Rattle.film_sheet.specs.Promises.{OfLines, RoundedEdge, EdgesRounded, MeetsEdge, EdgesMeet, NearSides, SidesNear, SidesKept, SidesAtLeastZero}
-use Rattle.film_sheet.specs.Promises.{SevenCharacters, NumbersFit}
+use Rattle.film_sheet.specs.Promises.{OfLines, RoundedEdge, EdgesRounded, MeetsEdge, EdgesMeet, NearSides, SidesNear, SidesKept, SidesAtLeastZero, SevenCharacters, NumbersFit}
 use Rattle.film_sheet.proofs.FilmLaws.{order-bounded}
 
 -- what holds of every rectangle's line

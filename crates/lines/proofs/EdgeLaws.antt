@@ -1,5 +1,5 @@
 -- Laws of printed edges: each is the exact edge, rounded; so equal ones are printed alike.
-use mathlib.Core.Path.{_≡_, refl, sym, ap, _∙_}
+use mathlib.Core.Path.{_≡_, refl}
 use mathlib.Core.List.{List}
 use Prim.Native.Nat.{ℕ}
 use Rattle.geometry.specs.declared.Rect.{Rect}

@@ -1,8 +1,8 @@
 -- Laws of exact tenths: the tenths of a sum are those of its summands' tenfolds, and how large they are.
-use mathlib.Core.Path.{_≡_, refl, ap, _∙_}
+use mathlib.Core.Path.{_≡_, refl, ap}
 use mathlib.Core.Logic.{_⊎_, inl, inr}
-use Prim.Native.Nat.{ℕ, suc, _+_, _*_, _^_, _≤_, _<_}
-use native.Mathlib.Nat.{lt-of-mul-lt-mul-right, mul-le-mul-right}
+use Prim.Native.Nat.{ℕ, _+_, _*_, _^_, _≤_, _<_}
+use native.Mathlib.Nat.{mul-le-mul-right}
 use native.Mathlib.Omega.{arith}
 use lib.Ieee.{Float, ofBits}
 use lib.IntN.{ℤ, pos, _+ℤ_, _*ℤ_, +ℤ-idr}
@@ -13,7 +13,7 @@ use Rattle.float.specs.Float.{k0}
 use Rattle.numerics.specs.Value.{magnitude, value, above, below, eps, AtMost}
 use Rattle.numerics.proofs.Integers.{add-parts, mul-parts, value-parts}
 use Rattle.tenths.specs.Tenths.{tenthsOf, tenfoldOf}
-use Rattle.tenths.proofs.Floors.{Floor, floor, moved, floor-le, floor-one, Small, floor-small}
+use Rattle.tenths.proofs.Floors.{Floor, floor, moved, floor-one, Small, floor-small}
 
 -- ten times v and h more
 ten-parts : (v : ℤ) (h : ℕ) → above (v *ℤ pos 10 +ℤ pos h) + below v * 10 ≡ above v * 10 + h + below (v *ℤ pos 10 +ℤ pos h)

@@ -98,11 +98,14 @@ fn film_sheets() {
     for mode in 0..4 {
         let order = order(&[field(3, &[mode])]);
         let lines = Layout::of_order(&order).unwrap().lines();
-        let tenths = |v: f32| (10. * f64::from(v) + 0.5).floor();
+        let tenths = |v: f64| (10. * v + 0.5).floor();
         let mut text = format!("FILM {}\n", lines.len());
         for (name, r) in lines {
-            let [x, y, w, h] = [r.x, r.y, r.w, r.h].map(tenths);
-            text += &format!("{name} {x} {y} {w} {h}\n");
+            // Their sums are exact.
+            let [x, y, w, h] = [r.x, r.y, r.w, r.h].map(f64::from);
+            let [left, upper, right, lower] = [x, y, x + w, y + h].map(tenths);
+            let [w, h] = [right - left, lower - upper];
+            text += &format!("{name} {left} {upper} {w} {h}\n");
         }
         assert_eq!(film(&order), text);
     }
