@@ -17,7 +17,8 @@ use Rattle.layout.specs.Layout.{anyRect, anyControl, Few}
 use Rattle.layout_ranges.specs.Bounded.{Bounded, BoundedGame}
 use Rattle.lines.specs.declared.SheetLine.{SheetLine}
 use Rattle.lines.specs.Line.{lineOf, lineIn, headText, PrintableLine, putOf}
-use Rattle.sheet.specs.Sheet.{gameName, dpadName, leftName, rightName, controlLine, stickLines, linesOf, linesText, film, refusal, sheetText, refusedText, zeros, pageOf, layoutSheetOf, refusedSheetOf}
+use Rattle.sheet.specs.Sheet.{gameName, dpadName, leftName, rightName, controlLine, stickLines, linesOf}
+use Rattle.sheet.specs.Sheet.{linesText, film, refusal, sheetText, refusedText, zeros, pageOf, layoutSheetOf, refusedSheetOf}
 use Rattle.sheet.proofs.SheetLaws.{refused-fits, sheet-fits}
 
 -- what an array of lines gives past its end

@@ -20,7 +20,8 @@ use Rattle.numerics.specs.Rects.{Element}
 use Rattle.layout_ranges.specs.Bounded.{Bounded, BoundedGame}
 use Rattle.lines.specs.Line.{Line, lineOf, headText, most, Printable, Numbers, SixDigits}
 use Rattle.lines.proofs.LineLaws.{length-digits, length-head, length-line, line-numbers}
-use Rattle.sheet.specs.Sheet.{gameName, dpadName, pauseName, playName, speedName, muteName, leftName, rightName, controlLine, toolbarLines, stickLines, linesOf, lineRects, linesText, film, refusal, sheetText}
+use Rattle.sheet.specs.Sheet.{gameName, dpadName, pauseName, playName, speedName, muteName, leftName, rightName}
+use Rattle.sheet.specs.Sheet.{controlLine, toolbarLines, stickLines, linesOf, lineRects, linesText, film, refusal, sheetText}
 
 -- a line of 39 bytes at most
 abbrev pub Short : Line → Type 0

@@ -1,3 +1,4 @@
+-- `tenfold` is 0 or -1 below 2^-40, by the sign, and else the shifted product of the mantissa.
 use mathlib.Core.Path.{_∙_}
 use native.Mathlib.Nat.{le-of-lt}
 use lib.Ieee.{binary32, toBits}
@@ -9,16 +10,16 @@ use Rattle.tenths.proofs.tenfold.Statement.{statement}
 use Rattle.tenths.proofs.tenfold.Tie as tie
 
 returns : tie.Need-returns
-returns c = let a = c .before .before in low-minus (a .args .x) (search needs) (a .pre) (c .before .if1 .taken) (c .if2 .taken)
+returns c = let entered = c .before .before in low-minus (entered .args .x) (search needs) (entered .pre) (c .before .if1 .taken) (c .if2 .taken)
 
 returns-2 : tie.Need-returns-2
-returns-2 c = let a = c .before .before in low-plus (a .args .x) (search needs) (a .pre) (c .before .if1 .taken) (c .if2 .left)
+returns-2 c = let entered = c .before .before in low-plus (entered .args .x) (search needs) (entered .pre) (c .before .if1 .taken) (c .if2 .left)
 
 returns-3 : tie.Need-returns-3
-returns-3 c = let a = c .before .before in minus-shifted (toBits binary32 (a .args .x)) _ ∙ high-minus (a .args .x) (search needs) (a .pre) (c .before .if1 .left) (c .if3 .taken)
+returns-3 c = let entered = c .before .before in minus-shifted (toBits binary32 (entered .args .x)) _ ∙ high-minus (entered .args .x) (search needs) (entered .pre) (c .before .if1 .left) (c .if3 .taken)
 
 returns-4 : tie.Need-returns-4
-returns-4 c = let a = c .before .before in plus-shifted (toBits binary32 (a .args .x)) _ ∙ high-plus (a .args .x) (search needs) (a .pre) (c .before .if1 .left) (c .if3 .left)
+returns-4 c = let entered = c .before .before in plus-shifted (toBits binary32 (entered .args .x)) _ ∙ high-plus (entered .args .x) (search needs) (entered .pre) (c .before .if1 .left) (c .if3 .left)
 
 pub tenfold-spec : {M : Type 1} → statement M
 tenfold-spec =
