@@ -1,7 +1,6 @@
 //! Comparison of functions over generated cases.
 #![forbid(unsafe_code)]
 pub mod driver;
-pub mod exact;
 pub mod generate;
 #[cfg(feature = "probe")]
 pub mod host;

@@ -3,9 +3,9 @@
 //! more both across and down. The terms are document 01's, in its paragraph
 //! "For the widest picture". The widest rival is found by trying every pair of
 //! levels that it can lie between, not by the search of the source.
-use crate::exact::Exact;
 use player::{
     PictureFit, Preset, Rect,
+    exact::Exact,
     order::{self, Settings},
 };
 
@@ -19,8 +19,7 @@ struct Edges {
 }
 
 impl Edges {
-    /// None if its numbers are not finite or far too great, or its size is
-    /// negative.
+    /// None if its numbers are not finite, or its size is negative.
     fn of(r: Rect) -> Option<Self> {
         let [x, y, w, h] = [r.x, r.y, r.w, r.h].map(Exact::of);
         let edges = Self {

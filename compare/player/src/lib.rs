@@ -13,6 +13,7 @@ mod saves {
         unreachable!("nothing is saved here")
     }
 }
+pub mod exact;
 pub mod float;
 pub mod order;
 pub mod sheet;

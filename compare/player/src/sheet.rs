@@ -1,16 +1,14 @@
-//! The film sheet as document 01 has it, of the layout that the Rust gives.
+//! The film sheet as document 01 has it, with the edges of document 02's W-202,
+//! of the layout that the Rust gives.
 use crate::access::native::Layout;
-use crate::float::parts;
+use crate::exact::Exact;
 use crate::order::{self, Answer};
 
-/// The nearest whole number to ten times `x`, halves upward.
-pub fn tenths(x: f32) -> i128 {
-    match parts(x) {
-        (m, e @ 0..) => (10 * m) << e,
-        // Less than 2^-76, and nearest 0; the shift below would be too long.
-        (_, ..-100) => 0,
-        (m, e) => (20 * m + (1 << -e)) >> (1 - e),
-    }
+/// The nearest whole number to ten times the exact x + w, halves upward, of any
+/// finite numbers. It panics if an i128 does not hold that: from 1.7e37 on.
+pub fn edge(x: f32, w: f32) -> i128 {
+    let [x, w] = [x, w].map(|n| Exact::of(n).expect("a finite number"));
+    ((x + w).times(10) + Exact::HALF).floor()
 }
 
 /// The lines of a layout, after their number.
@@ -24,9 +22,11 @@ fn lines(layout: &Layout) -> String {
     let mut text = format!("FILM {}\n", count + 1);
     for (name, r) in names.zip(rects) {
         text += name;
-        for number in [r.x, r.y, r.w, r.h] {
+        let [x, y] = [r.x, r.y].map(|n| edge(n, 0.));
+        let [right, bottom] = [edge(r.x, r.w), edge(r.y, r.h)];
+        for number in [x, y, right - x, bottom - y] {
             text.push(' ');
-            text += &tenths(number).to_string();
+            text += &number.to_string();
         }
         text.push('\n');
     }

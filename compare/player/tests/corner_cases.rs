@@ -109,42 +109,6 @@ fn fits_looks_at_sticks() {
     assert!(!fits(&layout));
 }
 
-/// The nearest whole number to ten times `x`, halves upward: exact in f64.
-fn tenths(x: f32) -> i64 {
-    (f64::from(x) * 10. + 0.5).floor() as i64
-}
-
-#[test]
-fn film_example() {
-    let layout = access::layout_with_cutouts(&Preset::default(), 1000., 1000., &[]);
-    let names = ["GAME", "DPAD"].into_iter().chain(layout.labels());
-    let names = names.chain(["PAUSE", "PLAY", "SPEED", "MUTE"]);
-    let rects = std::iter::once(layout.game).chain(layout.elements());
-    let lines: Vec<_> = names
-        .zip(rects)
-        .map(|(name, r)| (name, [r.x, r.y, r.w, r.h].map(tenths)))
-        .collect();
-    let sheet = [
-        ("GAME", [0, 180, 10000, 7500]),
-        ("DPAD", [120, 8300, 1600, 1600]),
-        ("TRI", [8760, 8300, 639, 639]),
-        ("O", [9241, 8780, 639, 639]),
-        ("X", [8760, 9261, 639, 639]),
-        ("SQ", [8280, 8780, 639, 639]),
-        ("L1", [240, 7780, 640, 440]),
-        ("L2", [960, 7780, 640, 440]),
-        ("R2", [8400, 7780, 640, 440]),
-        ("R1", [9120, 7780, 640, 440]),
-        ("SELECT", [4320, 9460, 640, 440]),
-        ("START", [5040, 9460, 640, 440]),
-        ("PAUSE", [9320, 0, 400, 180]),
-        ("PLAY", [280, 0, 400, 180]),
-        ("SPEED", [760, 0, 560, 180]),
-        ("MUTE", [8840, 0, 400, 180]),
-    ];
-    assert_eq!(lines, sheet);
-}
-
 #[test]
 fn an_unset_fit_follows_the_picture() {
     let fit = |game_scale, game_offset| {

@@ -1,22 +1,6 @@
 //! The sheets in examples/, made from their orders by the unchanged Rust.
-use player::sheet::{film_sheet, tenths};
+use player::sheet::film_sheet;
 use std::{fs, path::Path};
-
-#[test]
-fn tenths_go_upward() {
-    let cases = [
-        (0.25, 3),
-        (-0.25, -2),
-        (0.05, 1),
-        (-1e-30, 0),
-        (1e-30, 0),
-        (8192., 81920),
-        (1e9, 10_000_000_000),
-    ];
-    for (x, want) in cases {
-        assert_eq!(tenths(x), want, "{x}");
-    }
-}
 
 #[test]
 fn sheets_are_those_of_the_rust() {
