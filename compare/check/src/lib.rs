@@ -2,6 +2,7 @@
 #![forbid(unsafe_code)]
 pub mod driver;
 pub mod generate;
+pub mod halves;
 #[cfg(feature = "probe")]
 pub mod host;
 pub mod hypot;

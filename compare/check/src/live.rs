@@ -1,7 +1,8 @@
 //! Orders compared in every way at once: the layout's bytes or its refusal,
 //! the film sheet, touches, a viewport; and demand 3 measured of what was
 //! written. Each order is read and laid out by the Rust once. [`written`]
-//! compares the writer of orders.
+//! compares the writer of orders, [`sheets`] more film sheets.
+pub mod sheets;
 pub mod written;
 
 use crate::{
@@ -34,10 +35,10 @@ use std::{
     panic::{AssertUnwindSafe, catch_unwind},
 };
 
-/// How many orders, or settings, a block has.
+/// How many orders, settings or sheets a block has.
 pub const BLOCK: u64 = 10_000;
 
-/// What is compared of an order, and then of settings.
+/// What is compared of an order, then of settings, then of orders for sheets.
 #[derive(Clone, Copy)]
 enum What {
     Layout,
@@ -52,9 +53,10 @@ enum What {
     Again,
     EveryField,
     FromOrder,
+    EdgeSheet,
 }
 
-const NAMES: [&str; 12] = [
+const NAMES: [&str; 13] = [
     "layouts and refusals, every byte of the lent output",
     "film sheets, 1,024 bytes and the length",
     "touches by order",
@@ -67,6 +69,7 @@ const NAMES: [&str; 12] = [
     "settings read back, written to the same bytes",
     "settings in an order with every field, read or refused as they are written",
     "generated orders, read, written and read back",
+    "film sheets with edges next to halves, 1,024 bytes and the length",
 ];
 
 /// How many cases there were, and how many of them differed: listed in
@@ -98,6 +101,9 @@ impl Counts {
     pub fn settings(&self) -> u64 {
         self.compared[What::Written as usize].cases
     }
+    pub fn sheets(&self) -> u64 {
+        self.compared[What::EdgeSheet as usize].cases
+    }
     pub fn unlisted(&self) -> u64 {
         self.compared.iter().map(|c| c.unlisted).sum()
     }
@@ -120,6 +126,11 @@ impl Counts {
             let shown = shown(function, &input(), &Some(our), &Some(their));
             self.shown.push(shown);
         }
+    }
+    /// Counts a case in which a side panicked.
+    fn panicked(&mut self, what: What, function: &str, input: &impl Value) {
+        self.compared[what as usize].unlisted += 1;
+        self.shown.push(shown::<u16>(function, input, &None, &None));
     }
     /// Adds what was compared, without the texts.
     pub fn add(&mut self, more: Counts) {
@@ -164,12 +175,13 @@ impl fmt::Display for Counts {
         let listed: u64 = self.compared.iter().map(|c| c.listed).sum();
         write!(
             f,
-            "{} orders, {} touches, {} viewports, demand 3 measured {} times, {} settings: {listed} listed, {} unlisted differences",
+            "{} orders, {} touches, {} viewports, demand 3 measured {} times, {} settings, {} sheets alone: {listed} listed, {} unlisted differences",
             self.orders(),
             cases(What::Touch) + cases(What::Mask),
             cases(What::Viewport),
             cases(What::Widest),
             self.settings(),
+            self.sheets(),
             self.unlisted()
         )
     }
@@ -184,16 +196,14 @@ pub fn block(seed: u64, number: u64) -> Counts {
         let (order, aimed) = case(r);
         let mut one = || Case::new(&order).compare(aimed, r, &mut counts);
         if catch_unwind(AssertUnwindSafe(&mut one)).is_err() {
-            counts.compared[What::Layout as usize].unlisted += 1;
-            let panicked = shown::<u16>("order_layout", &order, &None, &None);
-            counts.shown.push(panicked);
+            counts.panicked(What::Layout, "order_layout", &order);
         }
     }
     counts
 }
 
-/// An order; now and then one with a touch aimed at a tie of hypot, and often
-/// one that is hard for demand 3.
+/// An order; now and then one with a touch aimed at a tie of hypot, or with
+/// edges next to halves of tenths, and often one that is hard for demand 3.
 fn case(r: &mut Random) -> (Order, Option<[f32; 2]>) {
     match r.below(64) {
         0 => {
@@ -201,6 +211,7 @@ fn case(r: &mut Random) -> (Order, Option<[f32; 2]>) {
             (order, Some(at))
         }
         1..9 => (orders::keep_clear(r), None),
+        9..11 => (orders::edges(r), None),
         _ => (orders::order(r), None),
     }
 }
@@ -400,18 +411,21 @@ mod tests {
 
     #[test]
     fn a_block_is_the_same_again_and_compares_everything() {
-        let both = |seed, number| {
-            let mut counts = block(seed, number);
-            let more = written::block(seed, number);
-            assert_eq!([&counts.shown, &more.shown], [&[""; 0]; 2]);
-            counts.add(more);
+        let all = |seed, number| {
+            let mut counts = Counts::default();
+            for block in [block, written::block, sheets::block] {
+                let more = block(seed, number);
+                assert_eq!(more.shown, [""; 0]);
+                counts.add(more);
+            }
             counts
         };
-        let counts = both(1, 0);
-        assert_eq!([counts.orders(), counts.settings()], [BLOCK; 2]);
+        let counts = all(1, 0);
+        let counted = [counts.orders(), counts.settings(), counts.sheets()];
+        assert_eq!(counted, [BLOCK; 3]);
         assert!(counts.compared.iter().all(|c| c.cases > 1000));
-        assert_eq!(counts.to_string(), both(1, 0).to_string());
-        assert_ne!(counts.to_string(), both(1, 1).to_string());
-        assert_ne!(counts.to_string(), both(2, 0).to_string());
+        assert_eq!(counts.to_string(), all(1, 0).to_string());
+        assert_ne!(counts.to_string(), all(1, 1).to_string());
+        assert_ne!(counts.to_string(), all(2, 0).to_string());
     }
 }

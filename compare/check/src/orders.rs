@@ -1,4 +1,5 @@
 //! Generated orders: sound ones of several kinds, and damaged ones.
+mod edges;
 mod keep_clear;
 
 use crate::{
@@ -54,6 +55,11 @@ pub fn sound(r: &mut Random) -> Order {
 /// A sound order of which demand 3 speaks.
 pub fn keep_clear(r: &mut Random) -> Order {
     undamaged("keep clear", keep_clear::parts(r))
+}
+
+/// A sound order whose layout has edges at and next to halves of tenths.
+pub fn edges(r: &mut Random) -> Order {
+    undamaged("film edges", edges::parts(r))
 }
 
 fn undamaged(kind: &'static str, parts: Parts) -> Order {

@@ -2,20 +2,17 @@
 //! orders that it writes.
 use super::{BLOCK, Counts, What};
 use crate::{
-    driver::{Class, shown},
+    driver::Class,
     lent::given,
     orders,
     random::Random,
     settings::{Made, settings},
 };
 use ours::{host, probe};
-use player::{
-    order::{
-        self, Answer, ODD_MARK, OFF_THE_SCALE, OVERFULL, ROOM, SHEET_TOO_SMALL, field, lent_noise,
-        number_bytes,
-        writer::{BAD_CALL, Given, ORDER_MOST},
-    },
-    words::Value,
+use player::order::{
+    self, Answer, ODD_MARK, OFF_THE_SCALE, OVERFULL, ROOM, SHEET_TOO_SMALL, field, lent_noise,
+    number_bytes,
+    writer::{BAD_CALL, Given, ORDER_MOST},
 };
 use std::panic::{AssertUnwindSafe, catch_unwind};
 
@@ -42,14 +39,6 @@ pub fn block(seed: u64, number: u64) -> Counts {
         }
     }
     counts
-}
-
-impl Counts {
-    /// Counts a case in which a side panicked.
-    fn panicked(&mut self, what: What, function: &str, input: &impl Value) {
-        self.compared[what as usize].unlisted += 1;
-        self.shown.push(shown::<u16>(function, input, &None, &None));
-    }
 }
 
 fn write(given: &Given, out: &mut [u8]) -> Answer<usize> {
