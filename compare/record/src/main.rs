@@ -19,6 +19,8 @@ use steps::List;
 const SEED: u64 = 77;
 const ORDERS: usize = 600;
 const LONGEST: usize = 800;
+/// The last of them have edges at and next to halves of tenths, for their sheets.
+const EDGES: usize = 40;
 
 /// Generated orders, each with its layout, its sheet, three touches, of every
 /// tenth a viewport, and its settings written.
@@ -27,7 +29,11 @@ fn orders() -> (List, Tally) {
     let (mut list, mut tally) = (List::default(), Tally::default());
     let mut count = 0;
     while count < ORDERS {
-        let order = orders::order(r);
+        let order = if count < ORDERS - EDGES {
+            orders::order(r)
+        } else {
+            orders::edges(r)
+        };
         if order.bytes.len() > LONGEST {
             continue;
         }
