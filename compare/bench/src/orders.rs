@@ -6,9 +6,11 @@ use check::{
     orders::{self, fit_word},
     random::Random,
 };
+use ours::host;
 use player::{
     access,
     order::{self, Settings},
+    sheet,
 };
 use std::{collections::BTreeMap, hint::black_box};
 use thumb_layout::LAYOUT_MOST;
@@ -62,18 +64,19 @@ fn classes(r: &mut Random) -> BTreeMap<String, Vec<Case>> {
     classes
 }
 
+/// Times the orders of a class, under a name.
+type Run = fn(&str, &[Case]);
+
+const CALLS: [(&str, Run); 3] = [("layout", layouts), ("touch", touches), ("film", films)];
+
 pub fn run(chosen: &dyn Fn(&str) -> bool) {
     let classes = classes(&mut Random::new(1));
-    for (class, cases) in &classes {
-        let name = format!("layout {class}");
-        if chosen(&name) {
-            layouts(&name, cases);
-        }
-    }
-    for (class, cases) in &classes {
-        let name = format!("touch {class}");
-        if chosen(&name) {
-            touches(&name, cases);
+    for (call, run) in CALLS {
+        for (class, cases) in &classes {
+            let name = format!("{call} {class}");
+            if chosen(&name) {
+                run(&name, cases);
+            }
         }
     }
 }
@@ -105,6 +108,21 @@ fn touches(name: &str, cases: &[Case]) {
             let [x, y] = case.touch;
             thumb_layout::touch(&case.order, x, y, case.previous)
         },
+    );
+}
+
+/// The library writes to a lent sheet, the Rust returns one.
+fn films(name: &str, cases: &[Case]) {
+    let mut ours = [0; 1024];
+    for Case { order, .. } in cases {
+        let length = host::film(order, &mut ours);
+        assert!(sheet::film_sheet(order) == (ours, length), "{name}");
+    }
+    duel(
+        name,
+        cases,
+        |case| sheet::film_sheet(&case.order),
+        |case| host::film(&case.order, black_box(&mut ours)),
     );
 }
 

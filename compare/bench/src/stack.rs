@@ -17,18 +17,6 @@ const CASES: i64 = 20_000;
 /// Room for a film sheet, and so for any layout.
 const OUT: usize = 1024;
 
-unsafe extern "C" {
-    fn tl_film(order: *const u8, order_len: usize, sheet: &mut [u8; OUT]) -> i32;
-}
-
-/// `tl_film` without the wrapper of `host/rust`, which has a sheet of its own
-/// on the stack.
-fn film(order: &[u8], out: &mut [u8; OUT]) -> bool {
-    // SAFETY: the pointer is passed with the length of what it points to.
-    let length = unsafe { tl_film(order.as_ptr(), order.len(), out) };
-    length > 0 && out.starts_with(b"FILM")
-}
-
 /// The bytes of stack below this frame that `call` uses, at least `NEXT`.
 #[inline(never)]
 fn depth(call: &mut dyn FnMut()) -> usize {
@@ -95,7 +83,7 @@ const CALLS: &[(&str, Call<Vec<u8>>, Call<Vec<u8>>)] = &[
     (
         "stack film",
         |order, _| sheet::film_sheet(order).0.starts_with(b"FILM"),
-        |order, out| film(order, out),
+        |order, out| host::film(order, out) > 0 && out.starts_with(b"FILM"),
     ),
 ];
 

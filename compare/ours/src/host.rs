@@ -3,6 +3,7 @@
 use thumb_layout as _;
 
 unsafe extern "C" {
+    fn tl_film(order: *const u8, order_len: usize, sheet: &mut [u8; 1024]) -> i32;
     fn tl_write_order(
         numbers: &[f32; 9],
         mode: u8,
@@ -117,6 +118,13 @@ pub fn safe_edges(numbers: &[i32; 12], local_side_camera: bool) -> Answer<[i32; 
         probe_safe_edges(numbers, local_side_camera, &mut edges),
         edges,
     )
+}
+
+/// Writes the sheet to lent bytes: its length.
+#[inline]
+pub fn film(order: &[u8], sheet: &mut [u8; 1024]) -> usize {
+    // SAFETY: the pointer is passed with the length of what it points to.
+    unsafe { tl_film(order.as_ptr(), order.len(), sheet) as usize }
 }
 
 /// The sheet and its length.
