@@ -2,6 +2,8 @@
 mod edges;
 mod keep_clear;
 
+pub use edges::summands;
+
 use crate::{
     generate::{self, LIMIT, any_rect, cameras, number, rect, rect_on, signed, stacked},
     random::Random,

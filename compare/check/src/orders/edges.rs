@@ -106,3 +106,22 @@ fn game(r: &mut Random) -> [f32; 3] {
     };
     [r.pick(&[1., 0.5, 0.75, 0.25]), offset(r), offset(r)]
 }
+
+/// Two numbers up to 2^17 in size: of any bits, or such that their exact sum is
+/// at a half or next to it.
+pub fn summands(r: &mut Random) -> [f32; 2] {
+    const MOST: f32 = 131072.;
+    let any = [0; 2].map(|_| signed(r, 0, MOST.to_bits()));
+    let end = half(r, -MOST / 2., MOST / 2.);
+    let rest = (end - f64::from(any[0])) as f32;
+    let rest = r.pick(&[rest, rest.next_up(), rest.next_down()]);
+    let far = r.pick(&[1., 64., 1000., LIMIT - 1.]);
+    let end = half(r, -far, far);
+    let on_film = span(r, -far, end);
+    let [a, b] = match r.below(8) {
+        0 => any,
+        1..4 => [any[0], rest.clamp(-MOST, MOST)],
+        _ => on_film,
+    };
+    r.pick(&[[a, b], [b, a], [-a, -b]])
+}
