@@ -36,21 +36,25 @@ fn ways(x: f32, w: f32) -> [bool; WAYS.len()] {
     ]
 }
 
-/// The ways that some right or lower edge has, of the game and of elements.
-pub fn classes(layout: &Layout) -> Vec<Class> {
+/// The ways of the edge x + w.
+pub fn of_edge(x: f32, w: f32) -> Vec<Class> {
+    met("film edge", [(x, w)])
+}
+
+/// Those that some right or lower edge has, of elements and of the game.
+pub fn of_layout(layout: &Layout) -> Vec<Class> {
+    let edges = |r: Rect| [(r.x, r.w), (r.y, r.h)];
     let elements = (0..layout.element_count()).map(|i| layout.element(i));
-    let mut classes = met("film edges of elements", elements);
-    classes.extend(met("film edges of the game", [layout.game]));
+    let mut classes = met("film edges of elements", elements.flat_map(edges));
+    classes.extend(met("film edges of the game", edges(layout.game)));
     classes
 }
 
-fn met(by: &'static str, rects: impl IntoIterator<Item = Rect>) -> Vec<Class> {
+fn met(by: &'static str, edges: impl IntoIterator<Item = (f32, f32)>) -> Vec<Class> {
     let mut met = [false; WAYS.len()];
-    for r in rects {
-        for (x, w) in [(r.x, r.w), (r.y, r.h)] {
-            for (met, way) in met.iter_mut().zip(ways(x, w)) {
-                *met |= way;
-            }
+    for (x, w) in edges {
+        for (met, way) in met.iter_mut().zip(ways(x, w)) {
+            *met |= way;
         }
     }
     let met = WAYS.into_iter().zip(met).filter(|(_, met)| *met);
@@ -73,7 +77,7 @@ mod tests {
         for _ in 0..ORDERS {
             let order = orders::edges(r);
             let settings = order::read(&order.bytes).expect("a sound order");
-            for class in classes(&settings.layout()) {
+            for class in of_layout(&settings.layout()) {
                 *tally.entry(class).or_default() += 1;
             }
         }
@@ -83,8 +87,12 @@ mod tests {
 
     #[test]
     fn ways_by_hand() {
-        let met = |x, w| WAYS.into_iter().zip(ways(x, w)).filter(|(_, met)| *met);
-        let met = |x, w| met(x, w).map(|(way, _)| way).collect::<Vec<_>>();
+        let met = |x, w| {
+            of_edge(x, w)
+                .iter()
+                .map(|class| class.1)
+                .collect::<Vec<_>>()
+        };
         let [at, below_0, no_f32, next_to, size, f32_sum, f64_sum] = WAYS;
         assert_eq!(met(1., 2.), [""; 0]);
         assert_eq!(met(1., 2.25), [at]);

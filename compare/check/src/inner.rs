@@ -1,19 +1,20 @@
 //! Inner functions against the Rust. Cases named `any` have numbers without
 //! limits where the Rust does not panic.
 use crate::{
-    driver::{Comparison, compare},
+    driver::{Comparison, compare, compare_classes},
     generate::{
         self, CameraRails, Surface, any_layout, any_number, any_rect, beside, layout, number,
         rect_on, screen, stacked, surface, tablet, tie_below,
     },
-    hypot,
+    halves, hypot,
     lent::{self, layout_data, list},
     masks,
     nearest::nearest_hypot,
+    orders::summands,
     random::Random,
 };
 use ours::probe::{self, ONCE};
-use player::{Rect, access, access::LayoutData};
+use player::{Rect, access, access::LayoutData, sheet};
 
 pub fn comparisons() -> Vec<Comparison> {
     let hypot = compare(
@@ -21,6 +22,13 @@ pub fn comparisons() -> Vec<Comparison> {
         |r| r.pick(&hypot::KINDS).1(r),
         |&(a, b)| probe::hypot(a, b),
         |&(a, b)| nearest_hypot(a, b),
+    );
+    let edge = compare_classes(
+        "film_edge",
+        summands,
+        |&[x, w]| probe::edge(x, w),
+        |&[x, w]| sheet::edge(x, w) as i32,
+        |&[x, w], _| halves::of_edge(x, w),
     );
     let clear = [
         ("clear_picture_aspect", area as fn(&mut Random) -> Area),
@@ -225,7 +233,7 @@ pub fn comparisons() -> Vec<Comparison> {
             },
         )
     });
-    let list = [hypot].into_iter().chain(clear).chain(anchor);
+    let list = [hypot, edge].into_iter().chain(clear).chain(anchor);
     let list = list.chain(masks).chain(arranged).chain(rails);
     let list = list.chain(band).chain(avoid).chain(defaults);
     list.chain(sticks).chain(psp).chain(camera).collect()

@@ -129,6 +129,7 @@ requests! {
     write_order(settings: Given, lent: usize, start: u16) -> (Answer<usize>, [u8; ROOM])
         = order::lent_noise(lent, start, |out| settings.write(out));
     order_film(order: Vec<u8>) -> ([u8; 1024], usize) = sheet::film_sheet(&order);
+    film_edge(x: f32, w: f32) -> i32 = sheet::edge(x, w).try_into().expect("an i32");
 }
 
 /// The answer to one request line.

@@ -6,6 +6,7 @@ pub type Rects = [[f32; 4]; 20];
 
 unsafe extern "C" {
     safe fn probe_hypot(a: f32, b: f32) -> f32;
+    fn probe_edge(x: f32, w: f32) -> i32;
     fn probe_clear_picture_aspect(
         w: f32,
         h: f32,
@@ -225,6 +226,13 @@ pub const ONCE: Runs = Runs { times: 1, step: 0. };
 
 pub fn hypot(a: f32, b: f32) -> f32 {
     probe_hypot(a, b)
+}
+
+/// The nearest whole number to ten times x + w, which are up to 2^17 in size.
+pub fn edge(x: f32, w: f32) -> i32 {
+    assert!(x.abs() <= 131072. && w.abs() <= 131072.);
+    // SAFETY: the numbers are what the function requires.
+    unsafe { probe_edge(x, w) }
 }
 
 pub fn clear_picture_aspect(w: f32, h: f32, obstacles: &List, aspect: f32, runs: Runs) -> [f32; 4] {

@@ -31,7 +31,7 @@ fn compare(order: &Order, counts: &mut Counts) {
     let theirs = sheet::padded(&sheet::sheet(layout.as_ref().map_err(|n| *n)));
     let input = || order.bytes.clone();
     counts.compare(What::EdgeSheet, "order_film", input, ours, theirs);
-    for class in layout.iter().flat_map(halves::classes) {
+    for class in layout.iter().flat_map(halves::of_layout) {
         counts.class(class);
     }
 }
