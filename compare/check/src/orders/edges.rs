@@ -87,7 +87,7 @@ fn saved(r: &mut Random, screen: [f32; 2]) -> Rect {
 /// below zero.
 fn picture(r: &mut Random) -> Rect {
     let [[x, w], [y, h]] = [0; 2].map(|_| {
-        let far = r.pick(&[64., 1000., LIMIT - 1.]);
+        let far = r.pick(&[1., 64., 1000., LIMIT - 1.]);
         let low = r.pick(&[0., 0., -far]);
         let end = half(r, low, far);
         span(r, -far, end)
