@@ -70,6 +70,10 @@ fn call(list: &mut List, name: &str, line: &str) {
             let got = list.end(length);
             return assert_eq!(got, hexadecimal(want), "{name}: {got:02X?}");
         }
+        ["film", line] => {
+            let got = list.line(line);
+            return assert_eq!(got.as_deref(), Some(want.trim()), "{name}: {line}");
+        }
         _ => (),
     }
     let float = |i: usize| asked[i].parse::<f32>().expect("a number");

@@ -138,6 +138,14 @@ impl List {
         });
         answer
     }
+    /// The numbers of a line of the order's film sheet.
+    pub fn line(&self, name: &str) -> Option<String> {
+        let (bytes, _) = sheet::film_sheet(&self.order);
+        let text = String::from_utf8_lossy(&bytes);
+        let lines = text.lines().filter_map(|line| line.split_once(' '));
+        let mut named = lines.filter(|line| line.0 == name);
+        named.next().map(|line| line.1.to_string())
+    }
     pub fn sheet(&mut self) {
         let (bytes, length) = sheet::film_sheet(&self.order);
         self.push(Step {

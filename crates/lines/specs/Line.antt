@@ -13,7 +13,7 @@ use Rattle.numerics.specs.Rects.{maxGameCorner}
 use Rattle.tenths.specs.Tenths.{tenthsOf, spanOf}
 use Rattle.lines.specs.declared.SheetLine.{SheetLine}
 
--- a name in ASCII, and ten times x, y, w and h in whole numbers
+-- a name in ASCII, and x, y, w and h in tenths
 pub record Line : Type 0 where
   pub name : List ℕ
   pub x : ℤ
@@ -21,7 +21,7 @@ pub record Line : Type 0 where
   pub w : ℤ
   pub h : ℤ
 
--- W-202: x and y are rounded, and so are the right and lower edges; w and h are what lies between.
+-- x and y are rounded, and so are the right and lower edges: w and h are what lies between (W-202).
 unfoldable pub lineOf : List ℕ → Rect → Line
 lineOf name r =
     record {

@@ -16,6 +16,7 @@ pub struct SheetLine {
     pub h: i32,
 }
 
+// x and y are rounded, and so are the right and lower edges: w and h are what lies between.
 pub fn sheet_line(name: Name, r: Rect) -> SheetLine
     requires { ⌜ (name .length ≤ 6) × Printable r ⌝ }
     ensures { λ l. ⌜ (lineIn l ≡ lineOf (nameText name) r) × PrintableLine l ⌝ }
