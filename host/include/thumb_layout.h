@@ -91,7 +91,8 @@ int32_t tl_touch(const uint8_t *order, size_t order_len, float x, float y, uint1
    Answers: the number of bytes written. Or -1 to -8. */
 int32_t tl_viewport_layout(const uint8_t *order, size_t order_len, float reusable_top, float covered_top, uint8_t *out, size_t out_len);
 
-/* The film sheet of an order: lines of ASCII text, with zeros after the text's end up to the 1,024th byte.
+/* The film sheet of an order: lines of ASCII text, with zeros after the text's end up to the 1,024th byte. A line has a name and x, y, w, h
+   in tenths; x, y and the edges x + w, y + h are the exact ones, rounded, so that elements that touch are cut on one line.
    A refused order has a sheet too, the line REFUSED with the refusal's number, and its answer is that text's length.
    Answers: the text's length, at most 788. Nothing is refused. */
 int32_t tl_film(const uint8_t *order, size_t order_len, uint8_t sheet[1024]);

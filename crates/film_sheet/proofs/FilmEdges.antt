@@ -14,25 +14,25 @@ use Rattle.lines.specs.Line.{Line, lineOf, Numbers}
 use Rattle.lines.proofs.LineLaws.{length-number}
 use Rattle.lines.proofs.EdgeLaws.{edge-rounded}
 use Rattle.sheet.specs.Sheet.{linesOf, lineRects}
-use Rattle.sheet.proofs.SheetLaws.{LineOf, Short, lines-lined, lines-short}
-use Rattle.film_sheet.specs.Promises.{OfLines, RoundedEdge, EdgesRounded, MeetsEdge, EdgesMeet, NearSides, SidesNear, SidesKept, SidesAtLeastZero, SevenCharacters, NumbersFit}
+use Rattle.sheet.proofs.SheetLaws.{OfRect, Short, lines-lined, lines-short}
+use Rattle.film_sheet.specs.Promises.{OfLines, RoundedEdge, EdgesRounded, MeetsEdge, EdgesMeet, NearSides, SidesNear, AtLeastZeroSides, SidesAtLeastZero, SevenCharacters, NumbersFit}
 use Rattle.film_sheet.proofs.FilmLaws.{order-bounded}
 
 -- what holds of every rectangle's line
 of-lines : (C : Line → Rect → Type 0) → ((name : List ℕ) (r : Rect) → C (lineOf name r) r) → (s : Settings) → OfLines C s
 of-lines C g s =
     let l = settingsLayoutOf s in
-    pairwise-imp LineOf C (λ line r e. subst (λ (z : Line). C z r) (sym e) (g (line .name) r)) (linesOf l) (lineRects l) (lines-lined l (settings-few s))
+    pairwise-imp OfRect C (λ line r e. subst (λ (z : Line). C z r) (sym e) (g (line .name) r)) (linesOf l) (lineRects l) (lines-lined l (settings-few s))
 
 pub edges-rounded : EdgesRounded
-edges-rounded order s a e = of-lines (RoundedEdge e) (λ name r. edge-rounded name r e) s
+edges-rounded e order s a = of-lines (RoundedEdge e) (λ name r. edge-rounded name r e) s
 
 pub edges-meet : EdgesMeet
-edges-meet order s a e f =
+edges-meet e f order s a =
     let l = settingsLayoutOf s in
     pairwise-imp (RoundedEdge e) (λ line r. OfLines (MeetsEdge e f line r) s)
-    (λ line r p. pairwise-imp (RoundedEdge f) (MeetsEdge e f line r) (λ other q t h. p ∙ ap tenthsOf h ∙ sym t) (linesOf l) (lineRects l) (edges-rounded order s a f))
-    (linesOf l) (lineRects l) (edges-rounded order s a e)
+    (λ line r p. pairwise-imp (RoundedEdge f) (MeetsEdge e f line r) (λ other q t h. p ∙ ap tenthsOf h ∙ sym t) (linesOf l) (lineRects l) (edges-rounded f order s a))
+    (linesOf l) (lineRects l) (edges-rounded e order s a)
 
 pub sides-near : SidesNear
 unfolding lineOf
@@ -40,7 +40,7 @@ sides-near order s a = of-lines NearSides (λ name r. (span-near (value (r .x)) 
 
 pub sides-at-least-zero : SidesAtLeastZero
 unfolding lineOf
-sides-at-least-zero order s a = of-lines SidesKept (λ name r. (span-at-least-zero (value (r .x)) (value (r .w)), span-at-least-zero (value (r .y)) (value (r .h)))) s
+sides-at-least-zero order s a = of-lines AtLeastZeroSides (λ name r. (span-at-least-zero (value (r .x)) (value (r .w)), span-at-least-zero (value (r .y)) (value (r .h)))) s
 
 pub numbers-fit : NumbersFit
 numbers-fit order s a =

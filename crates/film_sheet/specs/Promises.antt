@@ -30,9 +30,13 @@ Byte b = b < 256
 abbrev pub FirstBytes : Type 0
 FirstBytes = (order : List ℕ) → Each Byte order → (n : ℕ) → 69658 ≤ n → filmTextOf (take n order) ≡ filmTextOf order
 
--- ---- W-202, of every accepted order
+-- ---- W-202
 
--- C holds of each line and the rectangle that it is of
+-- C holds of the settings of every accepted order
+abbrev pub OfAccepted : (Settings → Type 0) → Type 0
+OfAccepted C = (order : List ℕ) (s : Settings) → readOrderOf order ≡ accepted s → C s
+
+-- C holds of each line of their sheet and the rectangle that it is of
 abbrev pub OfLines : (Line → Rect → Type 0) → Settings → Type 0
 OfLines C s = let l = settingsLayoutOf s in Pairwise C (linesOf l) (lineRects l)
 
@@ -41,35 +45,35 @@ abbrev pub RoundedEdge : FilmEdge → Line → Rect → Type 0
 RoundedEdge e line r = printedEdge e line ≡ tenthsOf (exactEdge e r)
 
 abbrev pub EdgesRounded : Type 0
-EdgesRounded = (order : List ℕ) (s : Settings) → readOrderOf order ≡ accepted s → (e : FilmEdge) → OfLines (RoundedEdge e) s
+EdgesRounded = (e : FilmEdge) → OfAccepted (OfLines (RoundedEdge e))
 
 -- So of any two lines, edges that are equal are printed equal.
 abbrev pub MeetsEdge : FilmEdge → FilmEdge → Line → Rect → Line → Rect → Type 0
 MeetsEdge e f line r other q = exactEdge e r ≡ exactEdge f q → printedEdge e line ≡ printedEdge f other
 
 abbrev pub EdgesMeet : Type 0
-EdgesMeet = (order : List ℕ) (s : Settings) → readOrderOf order ≡ accepted s → (e f : FilmEdge) → OfLines (λ line r. OfLines (MeetsEdge e f line r) s) s
+EdgesMeet = (e f : FilmEdge) → OfAccepted (λ s. OfLines (λ line r. OfLines (MeetsEdge e f line r) s) s)
 
 -- A printed w or h differs from document 01's, which was rounded by itself, by one tenth at most,
 abbrev pub NearSides : Line → Rect → Type 0
 NearSides line r = (natAbs (line .w -ℤ tenthsOf (value (r .w))) ≤ 1) × (natAbs (line .h -ℤ tenthsOf (value (r .h))) ≤ 1)
 
 abbrev pub SidesNear : Type 0
-SidesNear = (order : List ℕ) (s : Settings) → readOrderOf order ≡ accepted s → OfLines NearSides s
+SidesNear = OfAccepted (OfLines NearSides)
 
 -- and is at least zero if the exact one is.
 abbrev pub AtLeastZero : ℤ → Type 0
 AtLeastZero z = T (leZ (pos 0) z)
 
-abbrev pub SidesKept : Line → Rect → Type 0
-SidesKept line r = (AtLeastZero (value (r .w)) → AtLeastZero (line .w)) × (AtLeastZero (value (r .h)) → AtLeastZero (line .h))
+abbrev pub AtLeastZeroSides : Line → Rect → Type 0
+AtLeastZeroSides line r = (AtLeastZero (value (r .w)) → AtLeastZero (line .w)) × (AtLeastZero (value (r .h)) → AtLeastZero (line .h))
 
 abbrev pub SidesAtLeastZero : Type 0
-SidesAtLeastZero = (order : List ℕ) (s : Settings) → readOrderOf order ≡ accepted s → OfLines SidesKept s
+SidesAtLeastZero = OfAccepted (OfLines AtLeastZeroSides)
 
 -- No number has more than seven characters.
 abbrev pub SevenCharacters : ℤ → Type 0
 SevenCharacters z = length (numberText z) ≤ 7
 
 abbrev pub NumbersFit : Type 0
-NumbersFit = (order : List ℕ) (s : Settings) → readOrderOf order ≡ accepted s → Each (Numbers SevenCharacters) (linesOf (settingsLayoutOf s))
+NumbersFit = OfAccepted (λ s. Each (Numbers SevenCharacters) (linesOf (settingsLayoutOf s)))

@@ -60,7 +60,7 @@ unfolding digitsOf
 length-digits k n h = length-digitsIn (suc n) k n h
 
 -- ---- numbers in range
--- `most` and `most` in tenths
+-- twice `most`, in tenths
 abbrev pub mostEdge : ℕ
 mostEdge = 451222
 

@@ -11,7 +11,7 @@ use lib.Ieee.{Float}
 use lib.Signed.{mag, ltZ}
 use mir.Syntax.{w32}
 use mir.Val.{SFits}
-use Rattle.prelude.proofs.Signed.{back, kept, read-back, minus-fits, minus-is}
+use Rattle.prelude.proofs.Signed.{mag-abs, back, kept, read-back, minus-fits, minus-is}
 use Rattle.float.specs.Float.{k0}
 use Rattle.numerics.specs.Value.{value, AtMost}
 use Rattle.tenths.specs.Tenths.{tenthsOf, spanOf}
@@ -21,12 +21,8 @@ use Rattle.lines.specs.declared.SheetLine.{SheetLine}
 use Rattle.lines.specs.Line.{numberText, digitsOf, most, SixDigits, PrintableLine}
 use Rattle.lines.proofs.LineLaws.{mostEdge, edge-within, zero-in-range}
 
-few : (z : ℤ) → SixDigits z → mag z < 2 ^ 31
-few (pos n) h = omega arith
-few (negsuc n) h = omega arith
-
 pub kept-number : (z : ℤ) → SixDigits z → back z ≡ z
-kept-number z h = kept z (few z h)
+kept-number z h = kept z (omega (arith, mag-abs z))
 
 -- a difference of edges
 module _ {p q : ℤ} (a : Small mostEdge p) (b : Small mostEdge q) where

@@ -59,7 +59,7 @@ fn put_digits(out: &mut [u8], at: usize, n: u32) -> usize
 }
 
 fn put_number(out: &mut [u8], at: usize, n: i32) -> usize
-    requires { ⌜ (SixDigits n) × (at + length (numberText n) ≤ length (now out)) ⌝ }
+    requires { ⌜ SixDigits n × (at + length (numberText n) ≤ length (now out)) ⌝ }
     ensures { λ r. ⌜ (now (out .exit), r) ≡ putOf (now (out .entry)) at (numberText n) ⌝ }
 {
     if n < 0 {
@@ -71,7 +71,7 @@ fn put_number(out: &mut [u8], at: usize, n: i32) -> usize
 
 // A blank, and a number.
 fn put_field(out: &mut [u8], at: usize, n: i32) -> usize
-    requires { ⌜ (SixDigits n) × (at + length (fieldText n) ≤ length (now out)) ⌝ }
+    requires { ⌜ SixDigits n × (at + length (fieldText n) ≤ length (now out)) ⌝ }
     ensures { λ r. ⌜ (now (out .exit), r) ≡ putOf (now (out .entry)) at (fieldText n) ⌝ }
 {
     out[at] = b' ';

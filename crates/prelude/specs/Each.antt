@@ -5,7 +5,7 @@ abbrev pub Each : {A : Type 0} → (A → Type 0) → List A → Type 0
 Each C [] = Unit {0}
 Each C (x ∷ xs) = C x × Each C xs
 
--- both lists have one length
+-- the lists have one length
 abbrev pub Pairwise : {A B : Type 0} → (A → B → Type 0) → List A → List B → Type 0
 Pairwise C [] [] = Unit {0}
 Pairwise C [] (y ∷ ys) = ⊥

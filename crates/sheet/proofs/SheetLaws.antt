@@ -23,7 +23,7 @@ use Rattle.lines.proofs.LineLaws.{length-digits, length-head, length-line, line
 use Rattle.sheet.specs.Sheet.{gameName, dpadName, pauseName, playName, speedName, muteName, leftName, rightName}
 use Rattle.sheet.specs.Sheet.{controlLine, toolbarLines, stickLines, linesOf, lineRects, linesText, film, refusal, sheetText}
 
--- a line of 39 bytes at most
+-- a name of six letters and numbers of six digits at most, so that the line has 39 bytes at most
 abbrev pub Short : Line → Type 0
 Short l = (length (l .name) ≤ 6) × Numbers SixDigits l
 
@@ -102,24 +102,24 @@ module _ (l : Layout) (few : Few l) (b : Bounded l) where
   sheet-fits g = simp length-append (omega (arith, lines-fit g, head-fits (length (linesOf l)) (few-lines l few)))
 
 -- ---- each line is that of its rectangle
-abbrev pub LineOf : Line → Rect → Type 0
-LineOf line r = line ≡ lineOf (line .name) r
+abbrev pub OfRect : Line → Rect → Type 0
+OfRect line r = line ≡ lineOf (line .name) r
 
-controls-lined : (cs : List Control) → Pairwise LineOf (map controlLine cs) (map (λ c. c .bounds) cs)
+controls-lined : (cs : List Control) → Pairwise OfRect (map controlLine cs) (map (λ c. c .bounds) cs)
 unfolding lineOf
 controls-lined [] = tt
 controls-lined (c ∷ cs) = refl & controls-lined cs
 
-sticks-lined : (rs : List Rect) → length rs ≤ 2 → Pairwise LineOf (stickLines rs) rs
+sticks-lined : (rs : List Rect) → length rs ≤ 2 → Pairwise OfRect (stickLines rs) rs
 unfolding stickLines zipWith lineOf
 sticks-lined [] h = tt
 sticks-lined (a ∷ []) h = refl & tt
 sticks-lined (a ∷ b ∷ []) h = refl & refl & tt
 sticks-lined (a ∷ b ∷ c ∷ rs) h = absurd (let z : ⊥ = omega arith in z)
 
-pub lines-lined : (l : Layout) → Few l → Pairwise LineOf (linesOf l) (lineRects l)
+pub lines-lined : (l : Layout) → Few l → Pairwise OfRect (linesOf l) (lineRects l)
 unfolding linesOf toolbarLines elementsOf lineOf
 lines-lined l few =
     refl & refl
-    & pairwise-append LineOf (map controlLine (controlList l)) (boundsOf l) _ _ (controls-lined (controlList l))
+    & pairwise-append OfRect (map controlLine (controlList l)) (boundsOf l) _ _ (controls-lined (controlList l))
     (refl & refl & refl & refl & sticks-lined (stickList l) (rw length-take (omega arith)))

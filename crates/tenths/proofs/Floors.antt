@@ -1,10 +1,11 @@
 -- Whole numbers divided and rounded down, as `shrZ` does: by their parts above and below zero, for `omega`.
 use mathlib.Core.Path.{_≡_, ap}
 use Prim.Native.Nat.{ℕ, _+_, _*_, _≤_, _<_}
-use native.Mathlib.Nat.{div-add-mod', mod-lt, lt-of-mul-lt-mul-right, mul-le-mul-right}
+use native.Mathlib.Nat.{div-add-mod', mod-lt, lt-of-mul-lt-mul-right, mul-le-mul-right, le-trans}
 use native.Mathlib.Omega.{arith}
 use lib.IntN.{ℤ, pos, negsuc, natAbs, _+ℤ_, _-ℤ_}
 use lib.Signed.{shrZ, mag}
+use Rattle.prelude.proofs.Signed.{mag-abs}
 use Rattle.numerics.specs.Value.{above, below}
 use Rattle.numerics.proofs.Integers.{add-parts, sub-parts}
 
@@ -77,8 +78,7 @@ small-abs (pos n) a = a .above
 small-abs (negsuc n) a = a .below
 
 pub small-mag : {s : ℕ} (f : ℤ) → Small s f → mag f ≤ s
-small-mag (pos n) a = a .above
-small-mag (negsuc n) a = omega arith
+small-mag f a = le-trans (mag-abs f) (small-abs f a)
 
 pub more : {s k : ℕ} {f : ℤ} → Small s f → s ≤ k → Small k f
 more a h = record { above = omega arith; below = omega arith }

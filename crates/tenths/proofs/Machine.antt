@@ -10,7 +10,7 @@ use mir.Syntax.{w32, w64}
 use mir.Val.{SFits, toZ}
 use mir.Facts.{toZ-pos}
 use borrow.Author.Needs.{sfits-of}
-use Rattle.prelude.proofs.Signed.{backIn, kept-in, back, kept}
+use Rattle.prelude.proofs.Signed.{backIn, kept-in, mag-minus, minus-fits-in, minus-is-in, back, kept}
 use Rattle.tenths.proofs.Floors.{Small, floor, floor-small, sum-small, small-mag}
 
 abbrev pub back64 : ℤ → ℤ
@@ -20,10 +20,6 @@ shifted : (z : ℤ) (d : ℕ) → mag z < 2 ^ 63 → back64 (shrZ z d) ≡ shrZ 
 shifted z d h = kept-in w64 (shrZ z d) (lt-of-le-of-lt (mag-shr z d) h)
 
 -- ---- a mantissa times 10 * 2^35
-mag-minus : (n : ℕ) → mag (negℤ (pos n)) ≤ n
-mag-minus zero = omega arith
-mag-minus (suc n) = omega arith
-
 module _ (n : ℕ) where
   abbrev mantissa : ℕ
   mantissa = 0x80_0000 + n % 0x80_0000
@@ -37,23 +33,14 @@ module _ (n : ℕ) where
   pub product-fits : SFits w64 (toZ w64 mantissa *ℤ pos 0x50_0000_0000)
   product-fits = rw product (sfits-of (omega arith))
 
-  size-is : back64 (toZ w64 mantissa *ℤ pos 0x50_0000_0000) ≡ size
-  size-is = rw product (kept-in w64 size (omega arith))
-
-  minus-is : pos 0 -ℤ back64 (toZ w64 mantissa *ℤ pos 0x50_0000_0000) ≡ negℤ size
-  minus-is = rw size-is (+ℤ-idl (negℤ size))
-
-  few : mag (negℤ size) < 2 ^ 63
-  few = omega (arith, mag-minus (mantissa * 0x50_0000_0000))
-
   pub minus-fits : SFits w64 (pos 0 -ℤ back64 (toZ w64 mantissa *ℤ pos 0x50_0000_0000))
-  minus-fits = rw minus-is (sfits-of few)
+  minus-fits = rw product (minus-fits-in w64 size (omega arith))
 
   pub plus-shifted : (d : ℕ) → back64 (shrZ (back64 (toZ w64 mantissa *ℤ pos 0x50_0000_0000)) d) ≡ shrZ size d
-  plus-shifted d = rw size-is (shifted size d (omega arith))
+  plus-shifted d = rw (product, kept-in w64 size (omega arith)) (shifted size d (omega arith))
 
   pub minus-shifted : (d : ℕ) → back64 (shrZ (back64 (pos 0 -ℤ back64 (toZ w64 mantissa *ℤ pos 0x50_0000_0000))) d) ≡ shrZ (negℤ size) d
-  minus-shifted d = rw (minus-is, kept-in w64 (negℤ size) few) (shifted (negℤ size) d few)
+  minus-shifted d = rw (product, minus-is-in w64 size (omega arith)) (shifted (negℤ size) d (omega (arith, mag-minus size)))
 
 -- ---- two tenfolds, and k more
 module _ (a b : ℤ) (p : Small (2 ^ 56) a) (q : Small (2 ^ 56) b) where

@@ -1,6 +1,6 @@
 -- An f32 by its bit pattern: its size, and ten times it in whole numbers of 2^-35.
 use mathlib.Core.Path.{_≡_, refl, sym, ap, _∙_}
-use mathlib.Core.Logic.{inl, inr}
+use mathlib.Core.Logic.{_⊎_, inl, inr}
 use mathlib.Core.Bool.{Bool, true, false, cond}
 use Prim.Native.Nat.{ℕ, zero, suc, _+_, _-_, _*_, _/_, _%_, _^_, _<_, _≤_}
 use native.Mathlib.Nat.{mul-le-mul, lt-of-lt-of-le, lt-of-not-le, eq-or-lt-of-le}
@@ -78,6 +78,11 @@ shifted p q y j s a =
     let e : 2 ^ j * 2 ^ y ≡ 2 ^ 114 * 2 ^ 35 = sym (pow-add 2 j y) ∙ ap (λ (z : ℕ). 2 ^ z) s in
     coarser (2 ^ 35) (pow-pos 35) (moved _ _ (omega arith) (rw e at (finer (pow-pos y) a)))
 
+-- of two parts of which one is 0, the lesser is
+one-sided : {p n : ℕ} → (p ≡ 0) ⊎ (n ≡ 0) → (n ≤ p → n ≡ 0) × (p ≤ n → p ≡ 0)
+one-sided (inl e) = (λ h. omega arith, λ h. e)
+one-sided (inr e) = (λ h. e, λ h. omega arith)
+
 -- ---- the number
 module _ (x : Float) (held : T (fits binary32 x)) (a : AtMost x limit) where
   abbrev n : ℕ
@@ -107,22 +112,14 @@ module _ (x : Float) (held : T (fits binary32 x)) (a : AtMost x limit) where
   minus : lt x k0 ≡ true → (above (value x) ≡ 0) × (below (value x) ≡ magnitude x) × (0 < magnitude x)
   minus h =
       let l = lt-true x k0 (a .whole) (zero-most .whole) (rw h tt) in
-      let z = zero-most .size in
-      let s = size-is x in
-      elim (one-zero x) [
-        | inl p ↦ omega (arith, parts .0, parts .1)
-        | inr p ↦ absurd (let z : ⊥ = omega arith in z)
-      ]
+      let z = one-sided (one-zero x) .1 (omega (arith, zero-most .size)) in
+      omega (arith, zero-most .size, parts .0, parts .1, size-is x)
 
   plus : lt x k0 ≡ false → (above (value x) ≡ magnitude x) × (below (value x) ≡ 0)
   plus h =
       let l = lt-false x k0 (a .whole) (zero-most .whole) (rw h tt) in
-      let z = zero-most .size in
-      let s = size-is x in
-      elim (one-zero x) [
-        | inl p ↦ omega (arith, parts .0, parts .1)
-        | inr p ↦ omega (arith, parts .0, parts .1)
-      ]
+      let z = one-sided (one-zero x) .0 (omega (arith, zero-most .size)) in
+      omega (arith, parts .0, parts .1, size-is x)
 
   pub low-minus : e < 87 → lt x k0 ≡ true → negsuc 0 ≡ tenfoldOf (value x)
   low-minus h l = let m = minus l in let b = size-below 86 (omega arith) in floor-one (record { lo = omega arith; hi = omega arith }) (tenfold-floor (value x))

@@ -4,7 +4,7 @@ ghost use lib.IntN.{_+ℤ_};
 ghost use Rattle.numerics.specs.Value.{value, limit, AtMost};
 ghost use Rattle.tenths.specs.Tenths.{tenfoldOf, tenthsOf};
 
-// Ten times x in whole numbers of 2^-35, rounded down. The mantissa's last bit is worth 2^(exponent - 150), so that 2^(150 - exponent) of it are 1.
+// Ten times x in whole numbers of 2^-35, rounded down: the mantissa, whose last bit is worth 2^(exponent - 150), times 10 * 2^35.
 // Below 2^-40 what is left is the sign.
 fn tenfold(x: f32) -> i64
     requires { ⌜ AtMost x limit ⌝ }
@@ -26,8 +26,9 @@ fn tenfold(x: f32) -> i64
     size >> (150 - exponent)
 }
 
-// The nearest whole number to ten times x + w, halves upward. As exact as from the sum itself: a mantissa has 24 bits, so that a tenfold is rounded only below 2^-13.
-// If one of the two is, rounding it down and then the sum is rounding the sum down once; if both are, the sum is nearest to 0. To 2^17 a tenfold is below 2^56.
+// The nearest whole number to ten times the exact x + w, halves upward: with a half, 2^34, it is rounded down.
+// Nothing is lost by adding tenfolds. A mantissa has 24 bits, so that a tenfold is rounded only below 2^-13: if one of the two is, rounding it down
+// and then the sum is rounding the sum down once; if both are, the sum is nearest to 0. Of numbers to 2^17 a tenfold is below 2^56.
 pub fn edge(x: f32, w: f32) -> i32
     requires { ⌜ AtMost x limit × AtMost w limit ⌝ }
     ensures { λ r. ⌜ r ≡ tenthsOf (value x +ℤ value w) ⌝ }

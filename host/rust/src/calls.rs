@@ -78,8 +78,10 @@ pub fn viewport_layout(
     Ok(answer(number)? as usize)
 }
 
-/// The film sheet of an order, which is ASCII. A refused order has one too:
-/// the line `REFUSED` with the number of the refusal.
+/// The film sheet of an order, which is ASCII: of each line x, y and the edges
+/// x + w, y + h are the exact ones in tenths, rounded, so that elements that
+/// touch are cut on one line. A refused order has one too: the line `REFUSED`
+/// with the number of the refusal.
 pub fn film(order: &[u8]) -> String {
     let mut sheet = [0; 1024];
     // SAFETY: the pointer is passed with the length of what it points to.

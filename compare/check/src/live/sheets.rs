@@ -1,12 +1,16 @@
 //! Film sheets of orders that have edges at and next to halves of tenths.
 use super::{BLOCK, Counts, What};
 use crate::{
+    driver::Class,
     halves,
     orders::{self, Order},
     random::Random,
 };
 use ours::host;
-use player::{order, sheet};
+use player::{
+    order::{self, Settings},
+    sheet,
+};
 use std::panic::{AssertUnwindSafe, catch_unwind};
 
 /// The orders of one block. The same seed and number give the same orders,
@@ -26,7 +30,8 @@ pub fn block(seed: u64, number: u64) -> Counts {
 }
 
 fn compare(order: &Order, counts: &mut Counts) {
-    let layout = order::read(&order.bytes).map(|settings| settings.layout());
+    let read = order::read(&order.bytes);
+    let layout = read.as_ref().map(Settings::layout).map_err(|n| *n);
     let ours = host::film_sheet(&order.bytes);
     let theirs = sheet::padded(&sheet::sheet(layout.as_ref().map_err(|n| *n)));
     let input = || order.bytes.clone();
@@ -34,4 +39,20 @@ fn compare(order: &Order, counts: &mut Counts) {
     for class in layout.iter().flat_map(halves::of_layout) {
         counts.class(class);
     }
+    for class in read.iter().flat_map(saved_classes) {
+        counts.class(class);
+    }
+}
+
+/// What saved numbers an order has that are no usual parts of a screen.
+fn saved_classes(settings: &Settings) -> Vec<Class> {
+    let saved = settings.preset.elements.iter();
+    let numbers: Vec<f32> = saved.flat_map(|r| [r.x, r.y, r.w, r.h]).collect();
+    let odd: [(&str, fn(&f32) -> bool); 3] = [
+        ("subnormal", |n| n.is_subnormal()),
+        ("over 2^20", |n| n.is_finite() && n.abs() > 1048576.),
+        ("not finite", |n| !n.is_finite()),
+    ];
+    let met = odd.iter().filter(|(_, is)| numbers.iter().any(is));
+    met.map(|(name, _)| ("film edges, saved", *name)).collect()
 }
