@@ -1,4 +1,6 @@
 // The arrangements `arranged` and `side_rails` of input.rs.
+#![tactic(auto)]
+
 ghost use Rattle.std.specs.Prelude.{◌≡◌, ◌≤◌};
 ghost use Rattle.layout.specs.Layout.{cutout_list, Few};
 ghost use Rattle.arranged.specs.Arranged.{anchored_of, finished_of, dock_places_of, docked_of, arranged_of, rail_places_of, requested_of, give_way_of, cluster_of, side_rails_of};

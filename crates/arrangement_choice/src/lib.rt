@@ -1,4 +1,6 @@
 // The first steps of `Preset::layout_in` of input.rs: the layout at first, the area that the game gets and the arrangement for it.
+#![tactic(auto)]
+
 ghost use Rattle.std.specs.Prelude.{◌≡◌, true, ◌||◌, ◌≤◌, T};
 ghost use Rattle.std.proofs.Math.Option.{get_or};
 ghost use Rattle.std.specs.Float.Ieee.{le};

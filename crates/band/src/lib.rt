@@ -1,4 +1,6 @@
 // `controller_band` of input.rs: mirrored controls in the room that a picture of full width leaves.
+#![tactic(auto)]
+
 ghost use Rattle.std.specs.Prelude.{◌≡◌, ◌≤◌};
 ghost use Rattle.layout.specs.Maybe.{maybe};
 ghost use Rattle.band.specs.Band.{find_room_of, measure_band_of, plain_places_of, deep_places_of, middle_places_of, band_places_of, controller_band_of};
@@ -13,7 +15,7 @@ use search::aspect;
 use toolbar::TOOLBAR_HEIGHT;
 
 // The room below the whole picture and the width of a digital well in it.
-#[derive(Drop)]
+#[derive(Clone, Copy)]
 struct Room {
     available: f32,
     deep: bool,
@@ -21,7 +23,7 @@ struct Room {
     face: f32,
 }
 
-#[derive(Drop)]
+#[derive(Clone, Copy)]
 struct Band {
     w: f32,
     h: f32,

@@ -1,5 +1,7 @@
 // `analog_camera_rails` of input.rs: rails beside a picture of full height, with a camera between the digital well and
 // the stick.
+#![tactic(auto)]
+
 ghost use Rattle.std.specs.Prelude.{◌≡◌, ◌≤◌};
 ghost use Rattle.layout.specs.Layout.{cutout_list, element_list};
 ghost use Rattle.layout.specs.Maybe.{maybe};

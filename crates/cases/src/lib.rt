@@ -1,1 +1,3 @@
 // The worked cases of document 01, in specs/ and proofs/.
+#![tactic(auto)]
+

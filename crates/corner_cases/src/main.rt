@@ -1,5 +1,7 @@
 // Document 01's corner cases of single functions: runs the list data/functions, whose README has its form, and compares every bit of
 // the answers. A case prints `ok NAME`, or `WRONG NAME` if one of its calls is wrong.
+#![tactic(auto)]
+
 ghost use Rattle.std.specs.Prelude.{◌≡◌, ◌≤◌};
 
 use float::{from_bits, to_bits};
@@ -43,7 +45,7 @@ fn say(step: [u8; 116], right: bool) {
 }
 
 // A number, and a rectangle; of one f32, that is its x.
-#[derive(Drop)]
+#[derive(Clone, Copy)]
 struct Answer {
     number: usize,
     at: Rect,

@@ -1,4 +1,6 @@
 // `avoid_cutouts` of input.rs: a camera hole is a local obstruction, not an unusable strip, and elements that lie on one move off it.
+#![tactic(auto)]
+
 ghost use Rattle.std.specs.Prelude.{◌≡◌, [], ◌∷◌, ◌≤◌, length, take};
 ghost use Rattle.layout.specs.Actions.{action_elements_of};
 ghost use Rattle.layout.specs.Layout.{cutout_list, element_count_of, element_list, Few};
@@ -9,7 +11,7 @@ use layout::{Cutouts, Elements, Layout};
 use moves::Move;
 
 // Elements that move together, by index.
-#[derive(Drop)]
+#[derive(Clone, Copy)]
 struct Group {
     at: [usize; 4],
     count: usize,

@@ -1,4 +1,6 @@
 // `Layout::new`, `default_in`, `analog_default` and `psp` of input.rs: the layouts before a user changes them.
+#![tactic(auto)]
+
 ghost use Rattle.std.specs.Prelude.{◌≡◌, map, ◌≤◌};
 ghost use Rattle.layout.specs.Layout.{cutout_list, element_list, Few};
 ghost use Rattle.defaults.specs.Controls.{finished_in_of, analog_controls_of};
@@ -95,7 +97,7 @@ pub fn new_layout(w: f32, h: f32) -> Layout
     default_with_cutouts(w, h, NO_CUTOUTS)
 }
 
-#[derive(Drop)]
+#[derive(Clone, Copy)]
 struct Sizes {
     bottom: f32,
     stick: f32,
@@ -130,7 +132,7 @@ fn size_halves(w: f32, h: f32) -> Sizes
 }
 
 // The digital well at digitalx and facey, the stick at mainy, and the left shoulders L1 at x1 and y1, L2 at x2 and y2.
-#[derive(Drop)]
+#[derive(Clone, Copy)]
 struct Halves {
     w: f32,
     stick: f32,
@@ -205,7 +207,7 @@ fn analog_controls(w: f32, h: f32) -> Layout
     controller(half_places(b), dpad, 12, sticks, 2)
 }
 
-#[derive(Drop)]
+#[derive(Clone, Copy)]
 struct Size {
     w: f32,
     h: f32,

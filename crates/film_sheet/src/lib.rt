@@ -1,4 +1,6 @@
 // The film sheet of document 01, made from an order's bytes.
+#![tactic(auto)]
+
 ghost use Rattle.std.specs.Prelude.{◌≡◌};
 ghost use Rattle.film_sheet.specs.Film.{film_sheet_of};
 

@@ -1,4 +1,6 @@
 // `fits` of input/picture.rs: whether a controller's elements lie clear of a picture, of the camera holes and of each other.
+#![tactic(auto)]
+
 ghost use Rattle.std.specs.Prelude.{◌≡◌, ◌≤◌, ◌<◌, ◌+◌, take, drop};
 ghost use Rattle.prelude.specs.Lists.{all_of};
 ghost use Rattle.layout.specs.Layout.{cutout_list, Few};
@@ -9,14 +11,14 @@ use hypot::hypot;
 use layout::{Cutouts, Layout};
 
 // A controller element, and whether it is a face cap.
-#[derive(Drop)]
+#[derive(Clone, Copy)]
 struct Input {
     bounds: Rect,
     face: bool,
 }
 
 // The first `count` of the array: the d-pad, the controls, the sticks; at most 1, 12 and 2.
-#[derive(Drop)]
+#[derive(Clone, Copy)]
 struct InputList {
     at: [Input; 15],
     count: usize,

@@ -1,8 +1,10 @@
 // Rectangles in layout units, as input.rs has them.
+#![tactic(auto)]
+
 ghost use Rattle.std.specs.Prelude.{◌≡◌};
 ghost use Rattle.geometry.specs.Rect.{new_of, shifted_of, contains_of, inside_of, fit_of, overlaps_of, near_of, same_bounds_of};
 
-#[derive(Drop)]
+#[derive(Clone, Copy)]
 pub struct Rect {
     pub x: f32,
     pub y: f32,
@@ -19,7 +21,7 @@ pub const EMPTY: Rect = Rect {
 };
 
 // Where the game lies in the room that a smaller size factor leaves, from 0 to 1 across and down.
-#[derive(Drop)]
+#[derive(Clone, Copy)]
 pub struct Offset {
     pub x: f32,
     pub y: f32,

@@ -1,6 +1,8 @@
 // `hypot` of two f32: the f32 nearest the exact root of the sum of squares, ties to even.
 // An f64 estimate of the root gives a candidate. It is surely the nearest f32 if the sum of squares, rounded to f64, lies between the rounded
 // squares of the midpoints beside it: rounding keeps the order. If not, the root is taken in whole numbers and rounded.
+#![tactic(auto)]
+
 ghost use Rattle.std.specs.Prelude.{◌≡◌, not, ◌⊎◌, T, ltb};
 ghost use Prim.Native.Nat.{ℕ, ◌+◌, ◌*◌, ◌^◌, ◌≤◌, ◌<◌, compare, min, max};
 ghost use Rattle.std.specs.Float.Ieee.{nearest, is_nan};

@@ -1,4 +1,6 @@
 // `fit_landscape_controls` of input.rs: on a wide screen, the keys beside the sticks in a row at the bottom.
+#![tactic(auto)]
+
 ghost use Rattle.std.specs.Prelude.{◌≡◌, ◌≤◌};
 ghost use Rattle.prelude.specs.Lists.{map_first};
 ghost use Rattle.layout.specs.Layout.{Few};
@@ -10,7 +12,7 @@ use search::place_game_in_aspect;
 use toolbar::TOOLBAR_HEIGHT;
 
 // The sizes of the digital wells, the sticks and the shoulders, and where they and the row lie.
-#[derive(Drop)]
+#[derive(Clone, Copy)]
 struct KeyRow {
     w: f32,
     face: f32,

@@ -1,4 +1,6 @@
 // The layout record of input.rs: a game, a d-pad, controls, the toolbar's four keys, sticks.
+#![tactic(auto)]
+
 ghost use Rattle.std.specs.Prelude.{◌≡◌, cond, ◌+◌, ◌≤◌, ◌<◌, drop};
 ghost use Rattle.std.proofs.Math.Option.{none};
 ghost use Rattle.layout.specs.Label.{mask_of, is_face_of, on_psp_of, padded_name_of};
@@ -13,7 +15,7 @@ ghost use Rattle.layout.specs.Elements.{controller_elements_of, set_elements_of}
 
 use geometry::{EMPTY, Rect};
 
-#[derive(Drop)]
+#[derive(Clone, Copy)]
 pub enum Label {
     Tri,
     O,
@@ -29,21 +31,21 @@ pub enum Label {
     R3,
 }
 
-#[derive(Drop)]
+#[derive(Clone, Copy)]
 pub struct Control {
     pub bounds: Rect,
     pub label: Label,
 }
 
 // A name in ASCII: the first `length` bytes of the array, zeros after them.
-#[derive(Drop)]
+#[derive(Clone, Copy)]
 pub struct Name {
     pub bytes: [u8; 6],
     pub length: usize,
 }
 
 // The first `count` controls and the first `stickcount` sticks are in use.
-#[derive(Drop)]
+#[derive(Clone, Copy)]
 pub struct Layout {
     pub game: Rect,
     pub dpad: Rect,
@@ -58,14 +60,14 @@ pub struct Layout {
 }
 
 // All elements of a layout, or some of them: the first `count` of the array.
-#[derive(Drop)]
+#[derive(Clone, Copy)]
 pub struct Elements {
     pub at: [Rect; 19],
     pub count: usize,
 }
 
 // The camera holes of a screen: the first `count` of the array.
-#[derive(Drop)]
+#[derive(Clone, Copy)]
 pub struct Cutouts {
     pub at: [Rect; 16],
     pub count: usize,
@@ -101,7 +103,7 @@ pub const EMPTY_LAYOUT: Layout = Layout {
 };
 
 // A layout, where there is one.
-#[derive(Drop)]
+#[derive(Clone, Copy)]
 pub struct MaybeLayout {
     pub some: bool,
     pub layout: Layout,

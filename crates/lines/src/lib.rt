@@ -1,4 +1,6 @@
 // The lines of document 01's film sheet, as data and as text: a name or a word, and whole numbers.
+#![tactic(auto)]
+
 ghost use Rattle.std.specs.Prelude.{◌≡◌, ◌+◌, ◌≤◌, length};
 ghost use Rattle.lines.specs.Line.{name_text, line_of, line_in, digits_of, number_text, field_text, line_text, head_text, SixDigits, Printable, PrintableLine, put_of};
 
@@ -7,7 +9,7 @@ use layout::Name;
 use tenths::edge;
 
 // A line as data: a name, and x, y, w and h in tenths.
-#[derive(Drop)]
+#[derive(Clone, Copy)]
 pub struct SheetLine {
     pub name: Name,
     pub x: i32,

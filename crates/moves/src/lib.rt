@@ -1,4 +1,6 @@
 // The search for a move that takes a group of elements off the cutouts, as in `Layout::avoid_cutouts` of input.rs.
+#![tactic(auto)]
+
 ghost use Rattle.std.specs.Prelude.{◌≡◌, ◌+◌, ◌<◌, ◌≤◌, length, take};
 ghost use mathlib.Core.List.{foldl, flat_map};
 ghost use Rattle.layout.specs.Layout.{cutout_list, element_list};
@@ -8,7 +10,7 @@ use geometry::Rect;
 use layout::{Cutouts, Elements};
 
 // What becomes of a group.
-#[derive(Drop)]
+#[derive(Clone, Copy)]
 pub enum Move {
     Stay,
     Go(f32, f32),

@@ -1,4 +1,6 @@
 // The functions that hosts call with an order: its layout in bytes, the mask of a touch, fingers on its layout, and `PlayerViewport::layout`.
+#![tactic(auto)]
+
 ghost use Rattle.std.specs.Prelude.{◌≡◌};
 ghost use Rattle.layout.specs.Layout.{Few};
 ghost use Rattle.tracker.specs.Tracker.{Press, MoveTo, Lift, masks_of, kept_or, finger_answer};
@@ -15,14 +17,14 @@ use tracker::{Tracked, Tracker, lifted, moved, pressed};
 use writer::{Written, write_layout};
 
 // How many bytes were written, or the number of a refusal.
-#[derive(Drop)]
+#[derive(Clone, Copy)]
 pub enum LayoutAnswer {
     Bytes(usize),
     Refused(u8),
 }
 
 // A button mask, or the number of a refusal.
-#[derive(Drop)]
+#[derive(Clone, Copy)]
 pub enum TouchAnswer {
     Mask(u16),
     Refused(u8),

@@ -1,4 +1,6 @@
 // The writer of orders: settings as bytes into output that the caller lends.
+#![tactic(auto)]
+
 ghost use Rattle.std.specs.Prelude.{◌≡◌, true, cond, [], ◌++◌, map, ◌+◌, ◌/◌, ◌≤◌, eqb, length, take};
 ghost use Rattle.prelude.specs.Lists.{all_of, stored};
 ghost use Rattle.layout.specs.Layout.{cutout_list};
@@ -14,7 +16,7 @@ use settings::{Preset, Settings};
 use wire::{put_f32, put_field_head, put_rect};
 
 // How many bytes were written, or the number of a refusal.
-#[derive(Drop)]
+#[derive(Clone, Copy)]
 pub enum OrderAnswer {
     Bytes(usize),
     Refused(u8),

@@ -1,4 +1,6 @@
 // Controls beside or below a picture that keeps its size: input/picture.rs.
+#![tactic(auto)]
+
 ghost use Rattle.std.specs.Prelude.{◌≡◌, ◌≤◌, ◌&&◌, T};
 ghost use Rattle.std.specs.Float.Ieee.{le};
 ghost use Rattle.float.specs.Float.{k0};
@@ -74,7 +76,7 @@ fn square(column: Rect, y: f32, size: f32) -> Rect
 }
 
 // The width and the lower edge that both columns have, the size of a stick, 0 without one, and of the wells.
-#[derive(Drop)]
+#[derive(Clone, Copy)]
 struct Stack {
     width: f32,
     bottom: f32,
@@ -143,7 +145,7 @@ pub fn vertical(base: Layout, left: Rect, right: Rect, analog: bool) -> MaybeLay
 
 // The wells of a row and the room between its halves. `digital` and `rightdigital` are the outer distances of the
 // d-pad and of the face caps.
-#[derive(Drop)]
+#[derive(Clone, Copy)]
 struct Row {
     well: f32,
     required: f32,

@@ -1,4 +1,6 @@
 // A place for each label, and the controls of a layout put there: the loops over `layout.controls` of input.rs.
+#![tactic(auto)]
+
 ghost use Rattle.std.specs.Prelude.{◌≡◌, ◌≤◌};
 ghost use Rattle.prelude.specs.Lists.{map_first};
 ghost use Rattle.places.specs.Places.{cap_of, place_faces_of, well_faces_of, at_of, control_at_of, controls_at_of, controller_of, placed_control, placed_of};
@@ -8,7 +10,7 @@ use geometry::Rect;
 use layout::{Control, EMPTY_LAYOUT, Label, Layout};
 
 // The four face caps.
-#[derive(Drop)]
+#[derive(Clone, Copy)]
 pub struct Faces {
     pub tri: Rect,
     pub o: Rect,
@@ -46,7 +48,7 @@ pub fn well_faces(fx: f32, fy: f32, well: f32) -> Faces
 }
 
 // A place for each label.
-#[derive(Drop)]
+#[derive(Clone, Copy)]
 pub struct Places {
     pub faces: Faces,
     pub l1: Rect,

@@ -1,4 +1,6 @@
 // The reader of orders: bytes to settings, or the number of their first fault.
+#![tactic(auto)]
+
 ghost use Rattle.std.specs.Prelude.{◌≡◌, ◌*◌, ◌≤◌, ◌<◌, length};
 ghost use Rattle.prelude.specs.Answer.{accepted, refused};
 ghost use Rattle.settings.specs.Settings.{with_preset};
@@ -11,13 +13,13 @@ use settings::{Preset, Settings};
 use wire::{number_at, rect_at, short};
 
 // Refusal 0 is none; with any other the settings mean nothing.
-#[derive(Drop)]
+#[derive(Clone, Copy)]
 pub struct Reading {
     pub refusal: u8,
     pub settings: Settings,
 }
 
-#[derive(Drop)]
+#[derive(Clone, Copy)]
 pub enum Tag {
     Screen,
     Picture,

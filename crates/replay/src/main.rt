@@ -1,6 +1,8 @@
 // Makes the sheets of the examples, and runs the lists in data/, whose README has their form: orders, calls and the Rust's answers,
 // every byte of which is compared. A case with a name prints `ok NAME` or `WRONG NAME`; a list prints how many calls
 // of each kind it has, and how many are wrong.
+#![tactic(auto)]
+
 ghost use Rattle.io.specs.Counts.{IsPrefixLen};
 
 use film_sheet::film_sheet;
@@ -212,7 +214,7 @@ fn at_most(n: usize, bytes: &[u8]) -> usize
 // ---- tallies
 
 // How many steps of each kind a list has, and how many are wrong.
-#[derive(Drop)]
+#[derive(Clone, Copy)]
 struct Tally {
     orders: u64,
     layouts: u64,

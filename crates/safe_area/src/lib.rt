@@ -1,17 +1,19 @@
 // The part of a screen that the system leaves free, as input.rs has it. Integers off document 01's scale are refused.
+#![tactic(auto)]
+
 ghost use Rattle.std.specs.Prelude.{◌≡◌, true, ◌<◌, T};
 ghost use Rattle.std.specs.Int.Signed.{le_z};
 ghost use Rattle.safe_area.specs.Safe.{max_z, clamp_z, within_limits_of, on_scale_of, all_on_scale_of, same_size_of, current_edges_of, content_of, safe_content_of, merged_edge_of, merged_of, safe_edges_of, content_answer, edges_answer};
 
 use geometry::Rect;
 
-#[derive(Drop)]
+#[derive(Clone, Copy)]
 pub enum SafeContent {
     Area(Rect),
     OffScale,
 }
 
-#[derive(Drop)]
+#[derive(Clone, Copy)]
 pub struct Edges {
     pub left: i32,
     pub top: i32,
@@ -19,7 +21,7 @@ pub struct Edges {
     pub bottom: i32,
 }
 
-#[derive(Drop)]
+#[derive(Clone, Copy)]
 pub enum SafeEdges {
     Merged(Edges),
     OffScale,

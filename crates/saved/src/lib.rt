@@ -1,4 +1,6 @@
 // Saved rectangles as parts of the screen: put back by `Preset::layout_in`, taken by `Preset::capture` of input.rs.
+#![tactic(auto)]
+
 ghost use Rattle.std.specs.Prelude.{◌≡◌, map, ◌≤◌, T, take};
 ghost use Rattle.std.specs.Float.Ieee.Scale.{finite};
 ghost use Rattle.prelude.specs.Lists.{replace_first};

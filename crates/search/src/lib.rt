@@ -1,4 +1,6 @@
 // The largest clear picture of input.rs, and the game placed in it.
+#![tactic(auto)]
+
 ghost use Rattle.std.specs.Prelude.{◌≡◌, cond, [], ◌≤◌, take};
 ghost use Rattle.layout.specs.Layout.{element_list, elements_of, Few};
 ghost use Rattle.search.specs.Search.{aspect_of, within_of, better_of, narrow_of, narrow_side_of, centered_of, side_of, clear_picture_aspect_of, clear_picture_of, obstacles_of, game_of, place_game_in_aspect_of, place_game_in_of, place_game_of};

@@ -1,4 +1,6 @@
 // What an order sets: the screen, the picture's area, the preset of input.rs, the cutouts.
+#![tactic(auto)]
+
 ghost use Rattle.std.specs.Prelude.{◌≡◌, cond, ◌≤◌};
 ghost use Rattle.settings.specs.Settings.{default_of, absent_of, with_fit, screen_picture_of, with_mode_byte, mode_byte_of, fit_mark_of, fit_byte_of, untouched_of, picture_fit_of, usable_of};
 ghost use Rattle.settings.specs.Settings.{in_limits_of, screen_in_limits_of, rect_in_limits_of, place_in_limits_of, cutouts_in_limits_of, tops_in_limits_of, first_fault_of};
@@ -8,7 +10,7 @@ use geometry::{CENTRED, EMPTY, Offset, Rect};
 use layout::{Cutouts, NO_CUTOUTS};
 
 // `Option<PictureFit>`
-#[derive(Drop)]
+#[derive(Clone, Copy)]
 pub enum Fit {
     Unset,
     Maximum,
@@ -16,7 +18,7 @@ pub enum Fit {
 }
 
 // The saved rectangles are the first `count` of `elements`.
-#[derive(Drop)]
+#[derive(Clone, Copy)]
 pub struct Preset {
     pub psp: bool,
     pub analog: bool,
@@ -28,7 +30,7 @@ pub struct Preset {
     pub count: usize,
 }
 
-#[derive(Drop)]
+#[derive(Clone, Copy)]
 pub struct Settings {
     pub w: f32,
     pub h: f32,

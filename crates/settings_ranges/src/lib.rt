@@ -1,1 +1,3 @@
 // No code: specs/ has the ranges of accepted settings, proofs/ that they hold.
+#![tactic(auto)]
+

@@ -1,4 +1,6 @@
 // The film sheet of document 01: a layout as lines, and these as text.
+#![tactic(auto)]
+
 ghost use Rattle.std.specs.Prelude.{◌≡◌, ◌+◌, ◌≤◌, length};
 ghost use Rattle.prelude.specs.Each.{Each};
 ghost use Rattle.layout.specs.Layout.{Few};
@@ -10,14 +12,14 @@ use layout::{Layout, Name};
 use lines::{SheetLine, put_head, put_line, sheet_line};
 
 // The text is the first `len` bytes, and zeros follow it.
-#[derive(Drop)]
+#[derive(Clone, Copy)]
 pub struct Sheet {
     pub bytes: [u8; 1024],
     pub len: usize,
 }
 
 // The first `count` lines of the array are in use.
-#[derive(Drop)]
+#[derive(Clone, Copy)]
 struct SheetLines {
     at: [SheetLine; 20],
     count: usize,

@@ -1,4 +1,6 @@
 // Edges of rectangles in exact tenths.
+#![tactic(auto)]
+
 ghost use Rattle.std.specs.Prelude.{◌≡◌, ◌+ℤ◌};
 ghost use Rattle.numerics.specs.Value.{value, limit, AtMost};
 ghost use Rattle.tenths.specs.Tenths.{tenfold_of, tenths_of};

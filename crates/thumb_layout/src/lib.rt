@@ -1,5 +1,7 @@
 // The functions for hosts in other languages, through the C calling convention; host/include/thumb_layout.h declares them.
 // An answer below 0 is minus the number of a refusal, and then every lent output is as it was.
+#![tactic(auto)]
+
 ghost use Rattle.std.specs.Prelude.{◌≡◌, ◌+◌, ◌≤◌, pos, neg_ℤ, length};
 ghost use Rattle.std.specs.Int.Signed.{mag};
 ghost use Rattle.order.specs.Demands.{WidestWritten};
@@ -70,14 +72,14 @@ fn minus(refusal: u8) -> i32
 
 // The finger's mask and the combined mask, or minus the number of a refusal in both.
 #[repr(C)]
-#[derive(Drop)]
+#[derive(Clone, Copy)]
 pub struct Masks {
     pub mask: i32,
     pub combined: i32,
 }
 
 // What a call leaves of a tracker, and what it answers in numbers.
-#[derive(Drop)]
+#[derive(Clone, Copy)]
 pub struct Numbered {
     pub next: Tracker,
     pub masks: Masks,

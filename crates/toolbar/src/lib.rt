@@ -1,4 +1,6 @@
 // `anchor_toolbar` of input.rs: the toolbar's four keys, playback and speed at the left, mute and pause at the right.
+#![tactic(auto)]
+
 ghost use Rattle.std.specs.Prelude.{◌≡◌, ◌++◌, ◌≤◌, T, take};
 ghost use Rattle.std.specs.Float.Ieee.{le};
 ghost use Rattle.float.specs.Float.{k0};
@@ -11,7 +13,7 @@ use layout::{Cutouts, Elements, Layout};
 pub const TOOLBAR_HEIGHT: f32 = 18.0;
 
 // What the toolbar must not overlap: the first `count` of the array, at most 16 cutouts and 15 controller elements.
-#[derive(Drop)]
+#[derive(Clone, Copy)]
 struct Obstacles {
     at: [Rect; 31],
     count: usize,
@@ -121,7 +123,7 @@ fn extended(obstacles: Obstacles, elements: Elements) -> Obstacles
 }
 
 // The bars of the two pairs of keys.
-#[derive(Drop)]
+#[derive(Clone, Copy)]
 struct Bars {
     left: Rect,
     right: Rect,

@@ -1,4 +1,6 @@
 // `mask_near` of input.rs: the buttons that a touch holds down.
+#![tactic(auto)]
+
 ghost use Rattle.std.specs.Prelude.{◌≡◌, false, cond, not, ◌&&◌, ◌≤◌};
 ghost use Rattle.std.specs.Float.Ieee.{lt, eq};
 ghost use Rattle.prelude.specs.Lists.{any_of};
@@ -14,7 +16,7 @@ use geometry::Rect;
 use layout::{Control, Layout};
 
 // The nearest face button so far.
-#[derive(Drop)]
+#[derive(Clone, Copy)]
 struct Face {
     // Its bit, or 0 where there is none.
     mask: u16,
@@ -22,7 +24,7 @@ struct Face {
 }
 
 // The nearest face button so far if the touch lies in free space, where margins count, and if in space that is taken.
-#[derive(Drop)]
+#[derive(Clone, Copy)]
 struct NearestFaces {
     free: Face,
     taken: Face,

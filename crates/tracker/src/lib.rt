@@ -1,5 +1,7 @@
 // Ten fingers on one film (document 02, W-203): each finger's mask is its own history. The calls are functions of a tracker by value,
 // `pressed`, `moved` and `lifted`; over them `press`, `move_to` and `lift` change a tracker where it lies.
+#![tactic(auto)]
+
 ghost use Rattle.std.specs.Prelude.{◌≡◌, ◌<◌};
 ghost use Rattle.prelude.specs.Answer.{accepted, refused};
 ghost use Rattle.tracker.specs.Tracker.{fresh_of, with_finger, held_mask_of, combined_of, Press, MoveTo, Lift, masks_of, answer_of, after_of, finger_answer};
@@ -9,27 +11,27 @@ use touch::mask_near;
 
 // `held` is 0 for a finger that is not held, and any other number for one that is: so whatever a host lends is a tracker.
 #[repr(C)]
-#[derive(Drop)]
+#[derive(Clone, Copy)]
 pub struct Finger {
     pub held: u16,
     pub mask: u16,
 }
 
 #[repr(C)]
-#[derive(Drop)]
+#[derive(Clone, Copy)]
 pub struct Tracker {
     pub fingers: [Finger; 10],
 }
 
 // The finger's mask and the combined mask, or the number of a refusal.
-#[derive(Drop)]
+#[derive(Clone, Copy)]
 pub enum FingerAnswer {
     Masks(u16, u16),
     Refused(u8),
 }
 
 // What a call leaves of a tracker, and what it answers.
-#[derive(Drop)]
+#[derive(Clone, Copy)]
 pub struct Tracked {
     pub next: Tracker,
     pub answer: FingerAnswer,

@@ -1,4 +1,6 @@
 // Numbers, rectangles and the heads of fields as document 01's bytes: read from a value, and put into output that the caller lends.
+#![tactic(auto)]
+
 ghost use Rattle.std.specs.Prelude.{◌≡◌, ◌+◌, ◌*◌, ◌≤◌, ◌<◌, length};
 ghost use Rattle.prelude.specs.Lists.{stored};
 ghost use Rattle.wire.specs.Wire.{short_of, word_of, number_at_of, rect_at_of, short_bytes, written_bits_of, number_bytes, rect_bytes, head_bytes};

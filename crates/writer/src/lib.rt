@@ -1,4 +1,6 @@
 // The writer of layouts: bytes into output that the caller lends.
+#![tactic(auto)]
+
 ghost use Rattle.std.specs.Prelude.{◌≡◌, ◌+◌, ◌*◌, ◌≤◌, length, take};
 ghost use Rattle.layout.specs.Layout.{element_list, Few};
 ghost use mathlib.Core.List.{flat_map};
@@ -10,7 +12,7 @@ use layout::{Control, Elements, Layout};
 use wire::{put_field_head, put_rect, put_short};
 
 // How many bytes were written; or the output is too small, and nothing was.
-#[derive(Drop)]
+#[derive(Clone, Copy)]
 pub enum Written {
     Bytes(usize),
     TooSmall,

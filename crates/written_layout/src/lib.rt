@@ -1,1 +1,3 @@
 // No code: specs/ has which fields of a written layout are the game and the elements, proofs/ that reading gives back what was written.
+#![tactic(auto)]
+
