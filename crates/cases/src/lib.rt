@@ -1,3 +1,2 @@
 // The worked cases of document 01, in specs/ and proofs/.
 #![tactic(auto)]
-

@@ -1,0 +1,31 @@
+-- The area below the toolbar over the blank layout is the one over every layout, by `same-below`.
+use mathlib.Core.Path.{◌∙◌}
+use lib.Dec.{T}
+use lib.Ieee.{le}
+use native.Mathlib.Omega.{arith}
+use borrow.Author.Rules.{rules}
+use Rattle.float.specs.Float.{k0}
+use Rattle.float.proofs.Ends.{zero_le_max}
+use Rattle.layout.specs.Layout.{cutout_list}
+use Rattle.arrangement_choice.proofs.Keys.{same_below}
+use Rattle.arrangement_choice.specs.Choice.{area_of}
+use Rattle.std.proofs.lemmas.Grind.{common_steps}
+use Rattle.arrangement_choice.proofs.area.Goals as goal
+
+pub anchor_toolbar-bar-requires : goal.anchor_toolbar-bar-requires
+unfolding area_of
+anchor_toolbar-bar-requires c =
+    let top : T (le k0 c.reusable_top.result) = rw c.reusable_top.ensures (zero_le_max _) in
+    search (rules, arith)
+
+-- LEFT returns-then-maximum: returns : tie.Need-returns
+-- LEFT unfolding area_of
+-- LEFT returns c l =
+-- LEFT     let top = c.before.before in
+-- LEFT     let maximum = top.before in
+-- LEFT     let a = maximum.before.args in
+-- LEFT     let below = rw c.before.anchor-toolbar.ensures at c.below-toolbar.ensures in
+-- LEFT     let same = same_below a.w a.h (cutout_list a.cutouts) a.picture _ l _ in
+-- LEFT     rw maximum.if1.true (below ∙ rw top.reusable-top.ensures same)
+
+-- LEFT returns: λ c l. rw c.if1.false

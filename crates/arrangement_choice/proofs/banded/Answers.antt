@@ -1,0 +1,10 @@
+-- The band, where there is one.
+use borrow.Author.Rules.{rules}
+use Rattle.std.proofs.lemmas.Grind.{common_steps}
+use Rattle.arrangement_choice.proofs.banded.Goals as goal
+
+pub returns-then-candidate : goal.returns-then-candidate
+returns-then-candidate c = rw (← c.controller_band-candidate.ensures.0, c.if-candidate.true)
+
+pub returns : goal.returns
+returns c = rw (← c.controller_band-candidate.ensures.0, c.if-candidate.false)

@@ -1,0 +1,20 @@
+-- Each place is the rectangle that its call gives.
+use borrow.Author.Rules.{rules}
+use Rattle.camera_rails.specs.CameraRails.{camera_places_of}
+use Rattle.std.proofs.lemmas.Grind.{common_steps}
+use Rattle.camera_rails.proofs.camera_places.Goals as goal
+
+pub returns : goal.returns
+unfolding camera_places_of
+returns c =
+    rw (
+      ← c.well_faces-faces.ensures,
+      ← c.new.ensures,
+      ← c.new-2.ensures,
+      ← c.new-3.ensures,
+      ← c.new-4.ensures,
+      ← c.new-5.ensures,
+      ← c.new-6.ensures,
+      ← c.new-7.ensures,
+      ← c.new-8.ensures,
+    )

@@ -1,0 +1,12 @@
+use borrow.Author.Rules.{rules}
+use native.Mathlib.Omega.{arith}
+use Prim.Native.Nat.{◌-◌}
+use lib.ListN.{take}
+use Rattle.prelude.proofs.Loops.{Rest, stops, goes_on, runs_out}
+use Rattle.prelude.specs.Lists.{any_of}
+use Rattle.layout.specs.Layout.{any_rect, cutout_list}
+use Rattle.cutouts.specs.Cutouts.{hits_of}
+use Rattle.cutouts.proofs.hits.Given as goal
+
+abbrev pub invariant-loop-i : goal.invariant-loop-i
+invariant-loop-i l = Rest (λ l. hits_of l (cutout_list l.holes)) l.original l.m (hits_of (take l.m l.original) (cutout_list l.holes)) l.i

@@ -1,0 +1,19 @@
+use Prim.Native.Nat.{◌-◌, ◌≤◌}
+use mathlib.Core.Path.{sym, ◌≡◌}
+use mathlib.Core.List.{◌++◌, append-nil}
+use lib.ListN.{length, take, get_or, length-set}
+use lib.Seq.{get_or-take, length-take-le}
+use Rattle.prelude.specs.Lists.{range}
+use Rattle.prelude.proofs.ListLaws.{length_range, range_at}
+use Rattle.prelude.proofs.Loops.{sized, Rest, rest_all, goes_on, runs_out}
+use Rattle.prelude.proofs.Stores.{put_rest}
+use Rattle.cutouts.specs.Cutouts.{group_list}
+use Rattle.cutouts.proofs.Groups.{outside}
+use Rattle.layout.specs.Layout.{any_rect}
+use borrow.Author.Rules.{rules}
+use native.Mathlib.Omega.{arith}
+use Rattle.cutouts.proofs.others.Given as goal
+
+abbrev pub invariant-loop-i : goal.invariant-loop-i
+invariant-loop-i l =    let rest = outside (group_list l.group) (λ l.i. get_or (take l.n l.el) l.i any_rect) in
+    (l.count ≤ l.i) × (length l.out ≡ 19) × Rest (λ is. take l.count l.out ++ rest is) (range 0 l.n) l.n (rest (range 0 l.n)) l.i

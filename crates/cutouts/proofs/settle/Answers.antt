@@ -1,0 +1,21 @@
+-- A group on no cutout stays; else it is shifted as the search answers.
+use borrow.Author.Tests.{not-true, not-false}
+use mathlib.Core.Path.{refl}
+use Rattle.cutouts.specs.Cutouts.{settle_of}
+use borrow.Author.Rules.{rules}
+use Rattle.std.proofs.lemmas.Grind.{common_steps}
+use Rattle.cutouts.proofs.settle.Goals as goal
+
+pub returns-then-not-hits : goal.returns-then-not-hits
+unfolding settle_of
+returns-then-not-hits c =
+    let q = c.hits in
+    (rw (← c.members-original.ensures, ← q.ensures, not-true q.result c.if-not-hits.true), refl)
+
+pub returns : goal.returns
+unfolding settle_of
+returns c =
+    let q = c.hits in
+    let m = c.members-original in
+    let chosen = c.search-to in
+    (rw (← m.ensures, ← q.ensures, not-false q.result c.if-not-hits.false, ← c.others-rest.ensures.0, ← chosen.ensures) c.shift.ensures.0, c.shift.ensures.1)

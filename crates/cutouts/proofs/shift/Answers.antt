@@ -1,0 +1,14 @@
+-- The two cases of the move.
+use mathlib.Core.Path.{refl}
+use Rattle.cutouts.specs.Cutouts.{shift_of}
+use borrow.Author.Rules.{rules}
+use Rattle.std.proofs.lemmas.Grind.{common_steps}
+use Rattle.cutouts.proofs.shift.Goals as goal
+
+pub returns-in-Stay : goal.returns-in-Stay
+unfolding shift_of
+returns-in-Stay c = (rw c.enum_told-1.given.1, refl)
+
+pub returns-in-Go : goal.returns-in-Go
+unfolding shift_of
+returns-in-Go c = (rw c.to-1.given.1 c.shift_by.ensures.0, c.shift_by.ensures.1)

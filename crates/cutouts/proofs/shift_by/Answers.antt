@@ -1,0 +1,54 @@
+-- The elements so far, and then the group's indices that are left; each index is below the count of the elements.
+use Prim.Native.Nat.{ℕ, ◌-◌, ◌<◌}
+use mathlib.Core.List.{List, foldl}
+use mathlib.Core.Path.{refl, ◌≡◌}
+use lib.ListN.{length, take, get_or, set, length-set}
+use Rattle.prelude.proofs.Loops.{in_array, sized, Rest, goes_on, runs_out}
+use Rattle.geometry.specs.declared.Rect.{Rect}
+use Rattle.geometry.specs.Rect.{shifted_of}
+use Rattle.cutouts.specs.Cutouts.{shift_by_of}
+use Rattle.cutouts.proofs.Groups.{below_index, put_first}
+use Rattle.layout.specs.Layout.{any_rect}
+use borrow.Author.Rules.{rules}
+use native.Mathlib.Omega.{arith}
+use Rattle.std.proofs.lemmas.Grind.{common_steps}
+use Rattle.cutouts.proofs.shift_by.Goals as goal
+
+pub loop-k-init : goal.loop-k-init
+loop-k-init c = (search sized, search (in_array, arith))
+
+pub offset_bounds-old-i : goal.offset_bounds-old-i
+offset_bounds-old-i c =
+    let index_below : get_or c.args.group.at c.loop-k.k 0 < c.args.elements.count = let l = c.loop-k in
+    below_index _ _ _ l.k c.requires.1 l.invariant.1.size c.loop-k-test.true in
+    omega (arith, index_below)
+
+pub bounds-old-i : goal.bounds-old-i
+bounds-old-i c =
+    let index_below : get_or c.args.group.at c.loop-k.k 0 < c.args.elements.count = let l = c.loop-k in
+    below_index _ _ _ l.k c.requires.1 l.invariant.1.size c.loop-k-test.true in
+    omega (arith, index_below)
+
+pub offset_bounds-el-i : goal.offset_bounds-el-i
+offset_bounds-el-i c =
+    let index_below : get_or c.args.group.at c.loop-k.k 0 < c.args.elements.count = let l = c.loop-k in
+    below_index _ _ _ l.k c.requires.1 l.invariant.1.size c.loop-k-test.true in
+    omega (arith, index_below)
+
+pub bounds-el-i : goal.bounds-el-i
+bounds-el-i c =
+    let index_below : get_or c.args.group.at c.loop-k.k 0 < c.args.elements.count = let l = c.loop-k in
+    below_index _ _ _ l.k c.requires.1 l.invariant.1.size c.loop-k-test.true in
+    omega (arith, index_below, c.loop-k.invariant.0)
+
+pub loop-k-preserved : goal.loop-k-preserved
+loop-k-preserved c =
+    let index_below : get_or c.args.group.at c.loop-k.k 0 < c.args.elements.count = let l = c.loop-k in
+    below_index _ _ _ l.k c.requires.1 l.invariant.1.size c.loop-k-test.true in
+    let a = c.args in
+    let l = c.loop-k in
+    let put = put_first (λ r. shifted_of r a.dx a.dy) a.elements.at l.el a.elements.count _ c.shifted.result index_below c.shifted.ensures in
+    (rw length-set l.invariant.0, goes_on 0 l.invariant.1 c.loop-k-test.true (rw (put, foldl)))
+
+pub returns : goal.returns
+returns c = (runs_out c.loop-k.invariant.1 c.loop-k-test.false, refl)

@@ -1,0 +1,36 @@
+-- What is stored, and behind it the cutouts with an area among those that are left.
+use Prim.Native.Nat.{◌-◌, ◌≤◌}
+use borrow.Author.Tests.{not-true, not-false}
+use mathlib.Core.Path.{sym, ◌≡◌}
+use mathlib.Core.List.{◌++◌, append-nil}
+use lib.ListN.{length, take, length-set}
+use Rattle.prelude.proofs.Loops.{in_array, sized, Rest, goes_on, runs_out}
+use Rattle.prelude.proofs.Stores.{put_rest}
+use Rattle.prelude.specs.Lists.{retain}
+use Rattle.cutouts.specs.Cutouts.{has_area_of}
+use Rattle.layout.specs.Layout.{any_rect}
+use borrow.Author.Rules.{rules}
+use native.Mathlib.Omega.{arith}
+use Rattle.std.proofs.lemmas.Grind.{common_steps}
+use Rattle.cutouts.proofs.with_area.Goals as goal
+
+pub loop-i-init : goal.loop-i-init
+loop-i-init c = (omega arith, search sized, search (in_array, arith))
+
+pub loop-i-preserved-then-not-has_area : goal.loop-i-preserved-then-not-has_area
+loop-i-preserved-then-not-has_area c =
+    let l = c.loop-i in
+    let empty = not-true c.has_area.result c.if-not-has_area.true in
+    (omega arith, l.invariant.1, goes_on any_rect l.invariant.2 c.loop-i-test.true (rw (← c.has_area.ensures, empty)))
+
+pub loop-i-preserved : goal.loop-i-preserved
+loop-i-preserved c =
+    let l = c.loop-i in
+    let full = not-false c.has_area.result c.if-not-has_area.false in (
+      omega arith,
+      rw length-set l.invariant.1,
+      goes_on any_rect l.invariant.2 c.loop-i-test.true (rw (← c.has_area.ensures, full) (sym (put_rest l.out l.count _ _ (omega arith)))),
+    )
+
+pub returns : goal.returns
+returns c = (rw append-nil at (runs_out c.loop-i.invariant.2 c.loop-i-test.false), omega arith)

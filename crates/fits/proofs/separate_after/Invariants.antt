@@ -1,0 +1,13 @@
+use borrow.Author.Rules.{rules}
+use borrow.Author.Tests.{not-true, not-false}
+use native.Mathlib.Omega.{arith}
+use Prim.Native.Nat.{◌+◌, ◌-◌}
+use lib.ListN.{take, drop}
+use Rattle.prelude.specs.Lists.{all_of}
+use Rattle.prelude.proofs.Loops.{in_array, Rest, stops, goes_on, runs_out}
+use Rattle.layout.specs.Layout.{any_rect}
+use Rattle.fits.specs.Fits.{from_stick, separate_of}
+use Rattle.fits.proofs.separate_after.Given as goal
+
+abbrev pub invariant-loop-j : goal.invariant-loop-j
+invariant-loop-j l = Rest (all_of (separate_of l.a)) l.inputs.at l.n (all_of (separate_of l.a) (drop (l.i + 1) (take l.n l.inputs.at))) l.j

@@ -1,0 +1,13 @@
+use borrow.Author.Rules.{rules}
+use native.Mathlib.Omega.{arith}
+use mathlib.Core.Path.{◌≡◌, sym, ◌∙◌}
+use Prim.Native.Nat.{◌+◌, ◌-◌, ◌*◌, ◌<◌, ◌≤◌}
+use borrow.Author.Tests.{ltb-true, ltb-false}
+use Rattle.hypot.proofs.Isqrt.{isqrt_is}
+use Rattle.hypot.proofs.whole_root.Given as goal
+
+abbrev pub invariant-loop-low : goal.invariant-loop-low
+invariant-loop-low l = (l.low < l.high) × (l.high ≤ l.s + l.n + 1) × (l.low * l.low ≤ l.s * l.s + l.n * l.n) × (l.s * l.s + l.n * l.n < l.high * l.high)
+
+abbrev pub decreases-loop-low : goal.decreases-loop-low
+decreases-loop-low l = l.high - l.low

@@ -1,0 +1,35 @@
+-- The rectangles that are left decide; one that does not come to lie clear ends the loop.
+use borrow.Author.Rules.{rules}
+use borrow.Author.Tests.{not-true, not-false}
+use native.Mathlib.Omega.{arith}
+use mathlib.Core.Bool.{Bool}
+use mathlib.Core.List.{List}
+use Prim.Native.Nat.{◌-◌}
+use lib.ListN.{take}
+use Rattle.prelude.specs.Lists.{all_of}
+use Rattle.prelude.proofs.Loops.{Rest, stops, goes_on, runs_out}
+use Rattle.geometry.specs.declared.Rect.{Rect}
+use Rattle.layout.specs.Layout.{cutout_list, element_list, any_rect}
+use Rattle.moves.specs.Moves.{all_clear_of}
+use Rattle.std.proofs.lemmas.Grind.{common_steps}
+use Rattle.moves.proofs.all_clear.Goals as goal
+
+pub loop-j-init : goal.loop-j-init
+unfolding all_of
+loop-j-init c = search arith
+
+pub returns-then-not-clear : goal.returns-then-not-clear
+unfolding all_of
+returns-then-not-clear c =
+    stops any_rect c.loop-j.invariant c.loop-j-test.true
+    (rw (← c.shifted.ensures, ← c.clear.ensures, not-true c.clear.result c.if-not-clear.true))
+
+pub loop-j-preserved : goal.loop-j-preserved
+unfolding all_of
+loop-j-preserved c =
+    goes_on any_rect c.loop-j.invariant c.loop-j-test.true
+    (rw (← c.shifted.ensures, ← c.clear.ensures, not-false c.clear.result c.if-not-clear.false))
+
+pub returns : goal.returns
+unfolding all_of
+returns c = runs_out c.loop-j.invariant c.loop-j-test.false

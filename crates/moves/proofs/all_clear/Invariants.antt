@@ -1,0 +1,17 @@
+use borrow.Author.Rules.{rules}
+use borrow.Author.Tests.{not-true, not-false}
+use native.Mathlib.Omega.{arith}
+use mathlib.Core.Bool.{Bool}
+use mathlib.Core.List.{List}
+use Prim.Native.Nat.{◌-◌}
+use lib.ListN.{take}
+use Rattle.prelude.specs.Lists.{all_of}
+use Rattle.prelude.proofs.Loops.{Rest, stops, goes_on, runs_out}
+use Rattle.geometry.specs.declared.Rect.{Rect}
+use Rattle.layout.specs.Layout.{cutout_list, element_list, any_rect}
+use Rattle.moves.specs.Moves.{all_clear_of}
+use Rattle.moves.proofs.all_clear.Given as goal
+
+abbrev pub invariant-loop-j : goal.invariant-loop-j
+invariant-loop-j l = let clear : List Rect → Bool = λ l. all_clear_of l.w l.h (cutout_list l.holes) (element_list l.others) l (l.dx, l.dy) in
+    Rest clear l.original l.m (clear (take l.m l.original)) l.j

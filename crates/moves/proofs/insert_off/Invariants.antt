@@ -1,0 +1,17 @@
+use borrow.Author.Rules.{rules}
+use borrow.Author.Tests.{not-true, not-false}
+use native.Mathlib.Omega.{arith}
+use mathlib.Core.List.{List, foldl, foldl-append, flat_map}
+use Prim.Native.Nat.{◌*◌, ◌+◌, ◌-◌, ◌≤◌}
+use lib.Ieee.{Float}
+use Rattle.prelude.proofs.Loops.{in_array, Rest, goes_on, runs_out}
+use Rattle.geometry.specs.declared.Rect.{Rect}
+use Rattle.layout.specs.Layout.{any_rect, cutout_list}
+use Rattle.moves.specs.Moves.{HoldMoves, moves_off, insert_of, moves_in}
+use Rattle.moves.proofs.Inserts.{held}
+use Rattle.moves.proofs.insert_off.Given as goal
+
+abbrev pub invariant-loop-k : goal.invariant-loop-k
+invariant-loop-k l = let off : List (Float × Float) → List Rect → List (Float × Float) = λ moves l. foldl insert_of moves (flat_map (moves_off l.r) l) in
+    (l.count ≤ l.n + 4 * l.k) × HoldMoves l.dxs l.dys l.lens l.count (moves_in l.dxs l.dys l.count)
+    × Rest (off (moves_in l.dxs l.dys l.count)) l.holes.at l.holecount (off (moves_in l.initial.dxs l.initial.dys l.n) (cutout_list l.holes)) l.k

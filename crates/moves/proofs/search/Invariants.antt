@@ -1,0 +1,17 @@
+use native.Mathlib.Omega.{arith}
+use mathlib.Core.Path.{refl, ap, ◌∙◌}
+use mathlib.Core.List.{List, foldl, foldl-append, flat_map}
+use Prim.Native.Nat.{◌*◌, ◌-◌, ◌≤◌}
+use lib.Ieee.{Float}
+use lib.ListN.{take}
+use Rattle.prelude.proofs.Loops.{Rest, goes_on, runs_out}
+use Rattle.geometry.specs.declared.Rect.{Rect}
+use Rattle.layout.specs.Layout.{any_rect, cutout_list}
+use Rattle.moves.specs.Moves.{HoldMoves, candidates_of, insert_of, ordered_of, moves_in, first_clear_of, search_of}
+use Rattle.moves.proofs.Inserts.{holds_none, held}
+use Rattle.moves.proofs.search.Given as goal
+
+abbrev pub invariant-loop-i : goal.invariant-loop-i
+invariant-loop-i l = let candidates : List Rect → List (Float × Float) = λ l. candidates_of l (cutout_list l.holes) in
+    (l.n ≤ 64 * l.i) × HoldMoves l.dxs l.dys l.lens l.n (moves_in l.dxs l.dys l.n)
+    × Rest (λ l. foldl insert_of (moves_in l.dxs l.dys l.n) (candidates l)) l.original l.m (ordered_of (candidates (take l.m l.original))) l.i

@@ -1,0 +1,11 @@
+use lib.Ieee.{nan}
+use lib.ListN.{take}
+use Rattle.prelude.proofs.Loops.{Rest, stops, goes_on, runs_out}
+use Rattle.moves.specs.Moves.{slot_of}
+use borrow.Author.Rules.{rules}
+use native.Mathlib.Omega.{arith}
+use Prim.Native.Nat.{◌+◌, ◌-◌}
+use Rattle.moves.proofs.slot.Given as goal
+
+abbrev pub invariant-loop-i : goal.invariant-loop-i
+invariant-loop-i l = Rest (λ l. l.i + slot_of l l.len) l.lens l.n (slot_of (take l.n l.lens) l.len) l.i

@@ -1,0 +1,48 @@
+-- Three fields, each where the one before it ended.
+use borrow.Author.Rules.{rules}
+use native.Mathlib.Omega.{arith}
+use mathlib.Core.Bool.{cond}
+use mathlib.Core.List.{map}
+use mathlib.Core.Path.{◌≡◌, ap, ◌∙◌}
+use Prim.Native.Nat.{◌+◌, ◌/◌}
+use lib.ListN.{length, length-map}
+use Rattle.prelude.proofs.Stores.{length_stored}
+use Rattle.order_writer.specs.OrderBytes.{writable_of, rects_length, last_fields}
+use Rattle.order_writer.specs.Numbers.{rects_in}
+use Rattle.order_writer.proofs.NumbersLaws.{length_rects}
+use Rattle.order_writer.proofs.Runs.{last_length, last_run}
+use Rattle.std.proofs.lemmas.Grind.{common_steps}
+use Rattle.order_writer.proofs.put_last_from.Goals as goal
+
+pub put_place-place_end-requires : goal.put_place-place_end-requires
+put_place-place_end-requires c = omega (arith, lengths c, (entered c).requires.2)
+
+pub put_cutouts_from-cutouts_end-requires : goal.put_cutouts_from-cutouts_end-requires
+put_cutouts_from-cutouts_end-requires c =
+    let same = ap length c.put_place-place_end.ensures.output ∙ length_stored _ _ _ in
+    ((entered c).requires.0, omega (arith, lengths c, (entered c).requires.2, same, c.put_place-place_end.ensures.next))
+
+pub put_saved_from-requires : goal.put_saved_from-requires
+put_saved_from-requires c =
+    let same = ap length c.put_place-place_end.ensures.output ∙ length_stored _ _ _ in
+    let same-2 = ap length c.put_cutouts_from-cutouts_end.ensures.output ∙ length_stored _ _ _ in
+    ((entered c).requires.1, omega (arith, lengths c, (entered c).requires.2, same, same-2, c.put_place-place_end.ensures.next, c.put_cutouts_from-cutouts_end.ensures.next))
+
+pub returns : goal.returns
+returns c =
+    let a = (entered c).args in
+    last_run a.preset (rects_in a.cutouts.now) (map writable_of (rects_in a.saved.now)) c.untouched.ensures a.out.now a.at
+    c.put_place-place_end.ensures.next c.put_place-place_end.ensures.output (rw (length_rects a.cutouts.now) c.put_cutouts_from-cutouts_end.ensures.next) c.put_cutouts_from-cutouts_end.ensures.output c.put_saved_from.ensures
+
+-- LEFT OLD: module _ (c : tie.After-untouched) where
+-- LEFT   abbrev entered : tie.Start
+-- LEFT   entered = let lent = c.before.before.before in lent.before.before.before
+-- LEFT
+-- LEFT   lengths : let a = entered.args in
+-- LEFT       length (last_fields a.preset (rects_in a.cutouts.now) (map writable_of (rects_in a.saved.now)))
+-- LEFT       ≡ cond c.untouched.result 0 15 + (rects_length (length a.cutouts.now / 4) + rects_length (length a.saved.now / 4))
+-- LEFT   lengths =
+-- LEFT       let a = entered.args in
+-- LEFT       let saved = rects_in a.saved.now in
+-- LEFT       last_length a.preset (rects_in a.cutouts.now) (map writable_of saved) c.untouched.ensures (length_rects a.cutouts.now)
+-- LEFT       (length-map saved writable_of ∙ length_rects a.saved.now)

@@ -1,0 +1,18 @@
+-- Each field has the numbers that were lent; the lists are those of absent fields.
+use borrow.Author.Rules.{rules}
+use Rattle.prelude.specs.Lists.{tabulate}
+use Rattle.settings.specs.Settings.{default_of, absent_of}
+use Rattle.order_writer.specs.Numbers.{rects_in, settings_from}
+use Rattle.std.proofs.lemmas.Grind.{common_steps}
+use Rattle.order_writer.proofs.settings_from.Goals as goal
+
+pub returns : goal.returns
+unfolding settings_from absent_of default_of rects_in tabulate
+returns c =
+    rw (
+      c.rect_from.ensures,
+      c.with_fit-preset.ensures,
+      c.fit_mark.ensures,
+      c.with_mode_byte-moded.ensures,
+      c.default-start.ensures,
+    )

@@ -1,0 +1,47 @@
+-- Either the output is too small and nothing is put, or the fields are put one after the other: `as_written`.
+use borrow.Author.Rules.{rules}
+use native.Mathlib.Omega.{arith}
+use mathlib.Core.List.{◌++◌, map}
+use mathlib.Core.Path.{◌≡◌, ap, ◌∙◌}
+use Prim.Native.Nat.{◌+◌}
+use lib.ListN.{length, length-append}
+use Rattle.prelude.proofs.Stores.{then, length_stored}
+use Rattle.layout.specs.Layout.{cutout_list}
+use Rattle.settings.specs.Settings.{saved_list}
+use Rattle.settings.proofs.Accepted.{few_settings}
+use Rattle.wire.proofs.Output.{too_small, has_room}
+use Rattle.order_writer.specs.OrderBytes.{writable_of, first_fields, last_fields, order_bytes}
+use Rattle.order_writer.proofs.Owned.{settings_fit}
+use Rattle.order_writer.proofs.Replaced.{as_written}
+use Rattle.std.proofs.lemmas.Grind.{common_steps}
+use Rattle.order_writer.proofs.write_accepted.Goals as goal
+
+pub returns-then-out-length : goal.returns-then-out-length
+returns-then-out-length c =
+    let a = c.args in
+    too_small (order_bytes a.s) a.out.now c.order_length-length.ensures.0 c.if-out-length.true
+
+pub put_first-at-requires : goal.put_first-at-requires
+put_first-at-requires c = omega (arith, lengths c, c.order_length-length.ensures.0, c.if-out-length.false)
+
+pub put_last-requires : goal.put_last-requires
+put_last-requires c =
+    let few = few_settings c.args.s c.requires in
+    let same = ap length c.put_first-at.ensures.output ∙ length_stored _ _ _ in
+    (few.0, few.1, omega (arith, lengths c, c.order_length-length.ensures.0, c.if-out-length.false, c.put_first-at.ensures.next, same))
+
+pub returns : goal.returns
+returns c =
+    let a = c.args in
+    let run = then _ _ _ _ _ c.put_first-at.ensures.output c.put_last.ensures (omega (arith, c.put_first-at.ensures.next)) in
+    has_room (order_bytes a.s) a.out.now c.order_length-length.ensures.0 c.if-out-length.false (rw (bytes c) run)
+
+-- LEFT OLD: -- the bytes, and their length in two parts
+-- LEFT module _ (start : tie.Start) where
+-- LEFT   bytes : let s = start.args.s in order_bytes s ≡ first_fields s ++ last_fields s.preset (cutout_list s.cutouts) (map writable_of (saved_list s.preset))
+-- LEFT   bytes =
+-- LEFT       let s = start.args.s in
+-- LEFT       as_written s (settings_fit s start.well-formed.0 start.requires)
+-- LEFT
+-- LEFT   lengths : let s = start.args.s in length (order_bytes s) ≡ length (first_fields s) + length (last_fields s.preset (cutout_list s.cutouts) (map writable_of (saved_list s.preset)))
+-- LEFT   lengths = ap length bytes ∙ length-append (first_fields start.args.s) _

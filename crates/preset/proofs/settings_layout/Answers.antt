@@ -1,0 +1,18 @@
+-- Accepted settings have few rectangles and a finite screen.
+use lib.Ieee.{of_bits}
+use borrow.Author.Rules.{rules}
+use Rattle.preset.specs.Preset.{settings_layout_of}
+use Rattle.settings.proofs.Accepted.{few_settings, finite_screen}
+use Rattle.std.proofs.lemmas.Grind.{common_steps}
+use Rattle.preset.proofs.settings_layout.Goals as goal
+
+pub layout_in-requires : goal.layout_in-requires
+unfolding settings_layout_of of_bits
+layout_in-requires c =
+    let n = few_settings c.args.s c.requires in
+    let f = finite_screen c.args.s c.requires in
+    search rules
+
+pub returns : goal.returns
+unfolding settings_layout_of
+returns c = c.layout_in.ensures

@@ -1,0 +1,41 @@
+-- Arm by arm, by what the match tells of the byte.
+use borrow.Author.Tests.{ne_eqb}
+use Rattle.reader.specs.Order.{from_byte_of}
+use Rattle.std.proofs.lemmas.Grind.{common_steps}
+use Rattle.reader.proofs.Tag.from_byte.Goals as goal
+
+pub returns-in-1 : goal.returns-in-1
+unfolding from_byte_of
+returns-in-1 c = rw c.in-1.keys1
+
+pub returns-in-2 : goal.returns-in-2
+unfolding from_byte_of
+returns-in-2 c = rw c.in-2.keys2
+
+pub returns-in-3 : goal.returns-in-3
+unfolding from_byte_of
+returns-in-3 c = rw c.in-3.keys3
+
+pub returns-in-4 : goal.returns-in-4
+unfolding from_byte_of
+returns-in-4 c = rw c.in-4.keys4
+
+pub returns-in-5 : goal.returns-in-5
+unfolding from_byte_of
+returns-in-5 c = rw c.in-5.keys5
+
+pub returns-in-6 : goal.returns-in-6
+unfolding from_byte_of
+returns-in-6 c = rw c.in-6.keys6
+
+pub returns-in_default : goal.returns-in_default
+unfolding from_byte_of
+returns-in_default c =
+    let r = c.in_default.rest in rw (
+      ne_eqb _ _ r.0.0.0.0.0.1,
+      ne_eqb _ _ r.0.0.0.0.1,
+      ne_eqb _ _ r.0.0.0.1,
+      ne_eqb _ _ r.0.0.1,
+      ne_eqb _ _ r.0.1,
+      ne_eqb _ _ r.1,
+    )

@@ -1,0 +1,25 @@
+-- The ends of each clamp are in order, by `side-ends` and `corner-ends`; the four numbers are those of `onScreenOf`.
+use borrow.Author.Rules.{rules}
+use Rattle.saved.specs.Saved.{on_screen_of}
+use Rattle.saved.proofs.SavedLaws.{usable_finite}
+use Rattle.saved.proofs.Ends.{side_ends, corner_ends}
+use Rattle.std.proofs.lemmas.Grind.{common_steps}
+use Rattle.saved.proofs.on_screen.Goals as goal
+
+pub clamp-width-requires : goal.clamp-width-requires
+clamp-width-requires c = rw c.min.ensures (side_ends _ _ c.requires.1)
+
+pub clamp-height-requires : goal.clamp-height-requires
+clamp-height-requires c = rw c.min-2.ensures (side_ends _ _ c.requires.2)
+
+pub clamp-requires : goal.clamp-requires
+clamp-requires c = rw (c.clamp-width.ensures, c.min.ensures) (corner_ends _ _ c.requires.1 _ (usable_finite c.args.r c.requires.0).2)
+
+pub clamp-requires-2 : goal.clamp-requires-2
+clamp-requires-2 c = rw (c.clamp-height.ensures, c.min-2.ensures) (corner_ends _ _ c.requires.2 _ (usable_finite c.args.r c.requires.0).3)
+
+pub returns : goal.returns
+unfolding on_screen_of
+returns c =
+    rw (← c.min.ensures, ← c.clamp-width.ensures, ← c.min-2.ensures, ← c.clamp-height.ensures)
+    (rw (← c.clamp.ensures, ← c.clamp-2.ensures, ← c.new.ensures))

@@ -1,0 +1,56 @@
+-- `centered` is the fold `centeredOf`: the outer loop has done the first part of it; what is left of the inner one gives the whole width, or is given up.
+use borrow.Author.Rules.{rules}
+use native.Mathlib.Omega.{arith}
+use mathlib.Core.Path.{◌≡◌, refl, ◌∙◌}
+use mathlib.Core.Logic.{⊎_elim, ⊎_map}
+use mathlib.Core.List.{foldl}
+use lib.ListN.{take, length, length-map}
+use Rattle.prelude.proofs.Booleans.{cond_yes, cond_no}
+use Rattle.prelude.proofs.Loops.{sized, fold_next, take_first, in_array, Rest, goes_on}
+use Rattle.float.specs.Float.{◌⊖◌, ◌⊘◌, k2}
+use Rattle.geometry.specs.Rect.{empty_rect}
+use Rattle.layout.specs.Layout.{any_rect}
+use Rattle.search.specs.Search.{bottom_of, bottoms, narrow_of, width_at, try_at, centered_of}
+use Rattle.search.proofs.Narrower.{narrow_below, turn_is_full}
+use Rattle.search.proofs.Steps.{first_start, later_start}
+use Prim.Native.Nat.{◌+◌, ◌-◌, ◌<◌, ◌≤◌, zero-le}
+use Rattle.std.proofs.lemmas.Grind.{common_steps}
+use Rattle.search.proofs.centered.Goals as goal
+
+pub loop-j-init : goal.loop-j-init
+unfolding width_at
+loop-j-init c = (zero-le, refl, refl)
+
+pub loop-k-init : goal.loop-k-init
+unfolding width_at
+loop-k-init c = record { most = zero-le; size = search (in_array, arith); left = rw (c.max-width.ensures, c.min.ensures) }
+
+pub loop-k-preserved : goal.loop-k-preserved
+unfolding width_at
+loop-k-preserved c = goes_on any_rect c.loop-k.invariant c.loop-k-test.true (rw c.narrow-width.ensures)
+
+-- OLD pub loop-j-preserved : goal.loop-j-preserved
+-- OLD unfolding width_at try_at
+-- OLD loop-j-preserved c =
+-- OLD     let n : length c.args.obstacles ≡ 19 = search sized in
+-- OLD     let h : c.loop-j.j < length (bottoms c.args.obstacles) = simp length-map (omega arith) in (
+-- OLD       omega arith,
+-- OLD       refl,
+-- OLD       fold_next _ _ _ _ _ h c.loop-j.invariant.2
+-- OLD           (⊎_elim
+-- OLD           (λ t. later_start bottom_of c.args.obstacles _ t.0.taken t.3)
+-- OLD           (λ t. first_start bottom_of c.args.obstacles _ t.0.left t.1)
+-- OLD           c.if-j-gt0.branch)
+-- OLD           (⊎_elim
+-- OLD           (λ t. cond_yes _ _ _ c.within.ensures t.0.taken
+-- OLD           (t.6 ∙ t.5.ensures ∙ turn_is_full _ (narrow_below _ _ _ _) (λ width. (c.args.w ⊖ width) ⊘ k2) _ _ t.3.inv
+-- OLD           (⊎_map (λ u. u.left) (λ u. u.2.taken) t.4.came)))
+-- OLD           (λ t. cond_no _ _ _ c.within.ensures t.0.left t.1)
+-- OLD           c.if-within.branch),
+-- OLD     )
+
+pub returns : goal.returns
+unfolding width_at centered_of
+returns c =
+    let e : c.loop-j.j ≡ c.args.count + 1 = omega arith in
+    rw (e, take_first) at c.loop-j.invariant.2

@@ -1,0 +1,7 @@
+-- By the calls' contracts.
+use borrow.Author.Rules.{rules}
+use Rattle.std.proofs.lemmas.Grind.{common_steps}
+use Rattle.search.proofs.place_game.Goals as goal
+
+pub returns : goal.returns
+returns c = rw (← c.new-bounds.ensures) c.place_game_in.ensures

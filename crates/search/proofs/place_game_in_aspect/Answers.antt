@@ -1,0 +1,9 @@
+-- By the calls' contracts.
+use borrow.Author.Rules.{rules}
+use Rattle.search.specs.Search.{place_game_in_aspect_of}
+use Rattle.std.proofs.lemmas.Grind.{common_steps}
+use Rattle.search.proofs.place_game_in_aspect.Goals as goal
+
+pub returns : goal.returns
+unfolding place_game_in_aspect_of
+returns c = rw (← c.uncovered-elements.ensures.0, ← c.game-game.ensures)

@@ -1,0 +1,9 @@
+-- Each value as document 01 has it, the preset by `Preset::default`.
+use Rattle.settings.specs.Settings.{absent_of}
+use borrow.Author.Rules.{rules}
+use Rattle.std.proofs.lemmas.Grind.{common_steps}
+use Rattle.settings.proofs.Settings.absent.Goals as goal
+
+pub returns : goal.returns
+unfolding absent_of
+returns c = rw c.default.ensures

@@ -1,0 +1,28 @@
+-- The loop stops at the first cutout off its limits; else all are within.
+use borrow.Author.Tests.{not-true, not-false}
+use lib.ListN.{take}
+use Rattle.prelude.specs.Lists.{all_of}
+use Rattle.prelude.proofs.Loops.{in_array, Rest, stops, goes_on, runs_out}
+use Rattle.layout.specs.Layout.{any_rect}
+use Rattle.settings.specs.Settings.{least, rect_in_limits_of, cutouts_in_limits_of}
+use borrow.Author.Rules.{rules}
+use native.Mathlib.Omega.{arith}
+use Prim.Native.Nat.{◌-◌}
+use Rattle.std.proofs.lemmas.Grind.{common_steps}
+use Rattle.settings.proofs.cutouts_in_limits.Goals as goal
+
+pub returns-then-not-rect_in_limits : goal.returns-then-not-rect_in_limits
+unfolding cutouts_in_limits_of all_of
+returns-then-not-rect_in_limits c =
+    let test = c.rect_in_limits in
+    stops any_rect c.loop-i.invariant c.loop-i-test.true (rw (← test.ensures, not-true test.result c.if-not-rect_in_limits.true))
+
+pub loop-i-preserved : goal.loop-i-preserved
+unfolding cutouts_in_limits_of all_of
+loop-i-preserved c =
+    let test = c.rect_in_limits in
+    goes_on any_rect c.loop-i.invariant c.loop-i-test.true (rw (← test.ensures, not-false test.result c.if-not-rect_in_limits.false))
+
+pub returns : goal.returns
+unfolding cutouts_in_limits_of all_of
+returns c = runs_out c.loop-i.invariant c.loop-i-test.false

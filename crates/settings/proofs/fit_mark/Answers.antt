@@ -1,0 +1,17 @@
+-- Arm by arm, by what the match tells of the byte.
+use borrow.Author.Tests.{ne_eqb}
+use Rattle.settings.specs.Settings.{fit_mark_of}
+use Rattle.std.proofs.lemmas.Grind.{common_steps}
+use Rattle.settings.proofs.fit_mark.Goals as goal
+
+pub returns-in-0 : goal.returns-in-0
+unfolding fit_mark_of
+returns-in-0 c = rw c.in-0.keys1
+
+pub returns-in-1 : goal.returns-in-1
+unfolding fit_mark_of
+returns-in-1 c = rw c.in-1.keys2
+
+pub returns-in_default : goal.returns-in_default
+unfolding fit_mark_of
+returns-in_default c = let r = c.in_default.rest in rw (ne_eqb _ _ r.0.1, ne_eqb _ _ r.1)

@@ -1,0 +1,10 @@
+-- `refused_sheet` puts the refusal's line at the start of zeros, where it fits.
+use native.Mathlib.Omega.{arith}
+use Rattle.sheet.proofs.SheetLaws.{refused_fits}
+use Rattle.sheet.proofs.Lines.{refused_is}
+use borrow.Author.Rules.{rules}
+use Rattle.std.proofs.lemmas.Grind.{common_steps}
+use Rattle.sheet.proofs.refused_sheet.Goals as goal
+
+pub returns : goal.returns
+returns c = omega (arith, refused_fits c.args.n c.requires)

@@ -1,0 +1,10 @@
+-- Two numbers are read back as they were stored.
+use Rattle.prelude.proofs.Signed.{kept}
+use Rattle.thumb_layout.specs.Interface.{two_of}
+use borrow.Author.Rules.{rules}
+use Rattle.std.proofs.lemmas.Grind.{common_steps}
+use Rattle.thumb_layout.proofs.two.Goals as goal
+
+pub returns : goal.returns
+unfolding two_of
+returns c = rw (kept _ c.result-1.given, kept _ c.result-2-1.given)

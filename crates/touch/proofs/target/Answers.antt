@@ -1,0 +1,9 @@
+-- `target`: the definition, with what `min` and `new` give.
+use borrow.Author.Rules.{rules}
+use Rattle.touch.specs.Touch.{target_of}
+use Rattle.std.proofs.lemmas.Grind.{common_steps}
+use Rattle.touch.proofs.target.Goals as goal
+
+pub returns : goal.returns
+unfolding target_of
+returns c = rw (← c.min.ensures, ← c.min-padding.ensures) c.new.ensures

@@ -1,0 +1,12 @@
+use borrow.Author.Tests.{eq-eqb, ne_eqb}
+use Rattle.tracker.specs.Tracker.{held_mask_of}
+use Rattle.std.proofs.lemmas.Grind.{common_steps}
+use Rattle.tracker.proofs.Finger.held_mask.Goals as goal
+
+pub returns-then-self-ne0 : goal.returns-then-self-ne0
+unfolding held_mask_of
+returns-then-self-ne0 c = rw (ne_eqb _ _ c.if-self-ne0.true)
+
+pub returns : goal.returns
+unfolding held_mask_of
+returns c = rw (eq-eqb _ _ c.if-self-ne0.false)
