@@ -1,3 +1,0 @@
-pub mod Tracker
-pub mod Runs
-pub mod Promises
