@@ -7,8 +7,8 @@ use Rattle.cutouts.proofs.shift.Goals as goal
 
 pub returns-in-Stay : goal.returns-in-Stay
 unfolding shift_of
-returns-in-Stay c = (rw c.enum_told-1.given.1, refl)
+returns-in-Stay c = (rw c.in-Stay.is, refl)
 
 pub returns-in-Go : goal.returns-in-Go
 unfolding shift_of
-returns-in-Go c = (rw c.to-1.given.1 c.shift_by.ensures.0, c.shift_by.ensures.1)
+returns-in-Go c = (rw c.in-Go.is c.shift_by.ensures.0, c.shift_by.ensures.1)

@@ -18,7 +18,7 @@ float_from_bits-result c = no_nan_bits binary32 c.args.p (omega arith)
 pub returns-then-e-f-gt12 : goal.returns-then-e-f-gt12
 returns-then-e-f-gt12 c =
     let a = c.args in
-    far a.p a.q c.requires.1 (omega arith)
+    far a.p a.q c.requires.p_bound (omega arith)
 
 pub overflow_mul-s : goal.overflow_mul-s
 overflow_mul-s c =
@@ -42,21 +42,18 @@ rounded-requires c =
     let small : c.times_power-s.result < 0x10_0000_0000 = let a = c.significand.result in
     let d = c.exponent-e.result - c.exponent-f.result in
     rw c.times_power-s.ensures (times_power_lt a d (omega arith) c.if-e-f-gt12.false) in
-    let sides : (4 * sum c ≡ scaled c * (2 ^ place c * 2 ^ place c)) × ((place c ≡ 0) ⊎ (0x200_0000 ≤ root_of (scaled c))) = near c.args.p c.args.q _ _ _ _ _ c.exponent-e.ensures c.exponent-f.ensures c.significand.ensures c.significand-n.ensures
-    c.times_power-s.ensures c.requires.0 in
+    let sum : ℕ = let a = c.args in pattern_value a.p * pattern_value a.p + pattern_value a.q * pattern_value a.q in
+    let scaled : ℕ = 2 * c.times_power-s.result * (2 * c.times_power-s.result) + 2 * c.significand-n.result * (2 * c.significand-n.result) in
+    let place : ℕ = c.exponent-f.result in
+    let sides : (4 * sum ≡ scaled * (2 ^ place * 2 ^ place)) × ((place ≡ 0) ⊎ (0x200_0000 ≤ root_of scaled)) = near c.args.p c.args.q _ _ _ _ _ c.exponent-e.ensures c.exponent-f.ensures c.significand.ensures c.significand-n.ensures
+    c.times_power-s.ensures c.requires.q_le_p in
     (rw c.root.ensures (root_small _ _ (omega (arith, small)) (omega arith)), (omega arith, rw c.root.ensures (sides).1))
 
 pub returns : goal.returns
 returns c =
-    let sides : (4 * sum c ≡ scaled c * (2 ^ place c * 2 ^ place c)) × ((place c ≡ 0) ⊎ (0x200_0000 ≤ root_of (scaled c))) = near c.args.p c.args.q _ _ _ _ _ c.exponent-e.ensures c.exponent-f.ensures c.significand.ensures c.significand-n.ensures
-    c.times_power-s.ensures c.requires.0 in
-    c.rounded.ensures (sum c) (scaled c) c.root.ensures (sides).0
-
--- LEFT OLD: abbrev sum : tie.After-significand2 → ℕ
--- LEFT sum c = let exponents = c.before.before.before.before in let a = exponents.before.before.args in pattern_value a.p * pattern_value a.p + pattern_value a.q * pattern_value a.q
-
--- LEFT OLD: abbrev scaled : tie.After-significand2 → ℕ
--- LEFT scaled c = 2 * c.before.times_power.result * (2 * c.before.times_power.result) + 2 * c.significand2.result * (2 * c.significand2.result)
-
--- LEFT OLD: abbrev place : tie.After-significand2 → ℕ
--- LEFT place c = c.before.before.before.before.exponent2.result
+    let sum : ℕ = let a = c.args in pattern_value a.p * pattern_value a.p + pattern_value a.q * pattern_value a.q in
+    let scaled : ℕ = 2 * c.times_power-s.result * (2 * c.times_power-s.result) + 2 * c.significand-n.result * (2 * c.significand-n.result) in
+    let place : ℕ = c.exponent-f.result in
+    let sides : (4 * sum ≡ scaled * (2 ^ place * 2 ^ place)) × ((place ≡ 0) ⊎ (0x200_0000 ≤ root_of scaled)) = near c.args.p c.args.q _ _ _ _ _ c.exponent-e.ensures c.exponent-f.ensures c.significand.ensures c.significand-n.ensures
+    c.times_power-s.ensures c.requires.q_le_p in
+    c.rounded.ensures sum scaled c.root.ensures (sides).0

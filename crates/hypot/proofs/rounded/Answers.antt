@@ -7,7 +7,7 @@ use Rattle.std.proofs.lemmas.Grind.{common_steps}
 use Rattle.hypot.proofs.rounded.Goals as goal
 
 pub loop-c-init : goal.loop-c-init
-loop-c-init c = leading_start c.args.w c.args.f c.requires.1.1
+loop-c-init c = leading_start c.args.w c.args.f c.requires.f_bound.1
 
 pub overflow_add-k : goal.overflow_add-k
 overflow_add-k c = let i = c.loop-c in let a = c.args in omega (arith, leading_places a.w a.f i.c i.u i.k i.invariant)
@@ -16,14 +16,17 @@ pub loop-c-preserved : goal.loop-c-preserved
 loop-c-preserved c =
     let i = c.loop-c in
     let a = c.args in
-    leading_next a.w a.f i.c i.u i.k i.invariant c.requires.0 c.loop-c-test.true
+    leading_next a.w a.f i.c i.u i.k i.invariant c.requires.w_bound c.loop-c-test.true
 
 pub packed-requires : goal.packed-requires
 packed-requires c =
     let i = c.loop-c in
     let a = c.args in
     let o = compare a.w ((2 * i.c + 1) * (2 * i.u)) in
-    (omega (arith, c.nearest_whole.ensures, nearest-le i.c o), omega (arith, leading_places a.w a.f i.c i.u i.k i.invariant))
+    record {
+      t_bound = omega (arith, c.nearest_whole.ensures, nearest-le i.c o);
+      k_bound = omega (arith, leading_places a.w a.f i.c i.u i.k i.invariant);
+    }
 
 pub returns : goal.returns
 returns c =

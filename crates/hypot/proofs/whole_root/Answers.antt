@@ -14,12 +14,12 @@ loop-low-init c = (omega arith, omega arith, omega arith, omega arith)
 pub loop-low-preserved-then-above_root : goal.loop-low-preserved-then-above_root
 loop-low-preserved-then-above_root c =
     let i = c.loop-low.invariant in
-    (omega arith, omega arith, i.2, ltb-true _ _ (sym c.Above-root.ensures ∙ c.if-above_root.true))
+    (omega arith, omega arith, i.2, ltb-true _ _ (sym c.above_root.ensures ∙ c.if-above_root.true))
 
 pub loop-low-preserved : goal.loop-low-preserved
 loop-low-preserved c =
     let i = c.loop-low.invariant in
-    (omega arith, i.1, ltb-false _ _ (sym c.Above-root.ensures ∙ c.if-above_root.false), i.3)
+    (omega arith, i.1, ltb-false _ _ (sym c.above_root.ensures ∙ c.if-above_root.false), i.3)
 
 pub returns : goal.returns
 returns c =

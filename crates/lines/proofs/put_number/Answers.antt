@@ -30,7 +30,7 @@ put_digits-requires c =
     rw m.size (simp length-set (omega (arith, ap length m.text)))
 
 pub shape_of-out-then-n-lt0 : goal.shape_of-out-then-n-lt0
-shape_of-out-then-n-lt0 c = put_length _ _ _ (returns c)
+shape_of-out-then-n-lt0 c = put_length _ _ _ (returns-then-n-lt0 c)
 
 pub returns-then-n-lt0 : goal.returns-then-n-lt0
 returns-then-n-lt0 c =
@@ -50,7 +50,7 @@ put_digits-requires-2 c =
     rw m.size (omega (arith, ap length m.text))
 
 pub shape_of-out : goal.shape_of-out
-shape_of-out c = put_length _ _ _ (returns-2 c)
+shape_of-out c = put_length _ _ _ (returns c)
 
 pub returns : goal.returns
 returns c =

@@ -15,7 +15,10 @@ pub returns-then-reading-ne0 : goal.returns-then-reading-ne0
 unfolding viewport_of viewport_output_of order_viewport
 returns-then-reading-ne0 c =
     let refused = read_refused _ c.read_order-reading.ensures c.if-reading-ne0.true in
-    (rw refused, rw refused)
+    record {
+      answer = rw refused;
+      output = rw refused;
+    }
 
 pub returns-then-not-tops_in_limits : goal.returns-then-not-tops_in_limits
 unfolding viewport_of viewport_output_of order_viewport must
@@ -23,7 +26,10 @@ returns-then-not-tops_in_limits c =
     let tops = c.tops_in_limits in
     let accepted = read_accepted _ c.read_order-reading.ensures c.if-reading-ne0.false in
     let off = not-true tops.result c.if-not-tops_in_limits.true in
-    (rw (accepted, ← tops.ensures, off), rw (accepted, ← tops.ensures, off))
+    record {
+      answer = rw (accepted, ← tops.ensures, off);
+      output = rw (accepted, ← tops.ensures, off);
+    }
 
 pub settings_viewport-requires : goal.settings_viewport-requires
 settings_viewport-requires c =
@@ -41,4 +47,7 @@ returns c =
     let accepted = read_accepted _ c.read_order-reading.ensures c.if-reading-ne0.false in
     let on = not-false tops.result c.if-not-tops_in_limits.false in
     let written = rw c.settings_viewport.ensures at c.write.ensures in
-    (rw (accepted, ← tops.ensures, on) written.0, rw (accepted, ← tops.ensures, on) written.1)
+    record {
+      answer = rw (accepted, ← tops.ensures, on) written.0;
+      output = rw (accepted, ← tops.ensures, on) written.1;
+    }

@@ -9,9 +9,15 @@ write_layout-requires c = c.requires
 pub returns-in-Bytes : goal.returns-in-Bytes
 returns-in-Bytes c =
     let written = c.write_layout.ensures in
-    (rw c.n-1.given.1 at written.0, written.1)
+    record {
+      answer = rw c.in-Bytes.is at written.0;
+      output = written.1;
+    }
 
 pub returns-in-TooSmall : goal.returns-in-TooSmall
 returns-in-TooSmall c =
     let written = c.write_layout.ensures in
-    (rw c.enum_told-1.given.1 at written.0, written.1)
+    record {
+      answer = rw c.in-TooSmall.is at written.0;
+      output = written.1;
+    }

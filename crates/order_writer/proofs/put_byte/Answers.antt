@@ -15,7 +15,10 @@ pub returns-then-b-absent : goal.returns-then-b-absent
 returns-then-b-absent c =
     let a = c.args in
     let same = eq-eqb a.b a.absent c.if-b-absent.true in
-    (rw same (omega arith), left_out (eqb a.b a.absent) a.tag (a.b ∷ []) a.out.now a.at same)
+    record {
+      next = rw same (omega arith);
+      output = left_out (eqb a.b a.absent) a.tag (a.b ∷ []) a.out.now a.at same;
+    }
 
 pub put_field_head-requires : goal.put_field_head-requires
 put_field_head-requires c = let room = rw (ne_eqb _ _ c.if-b-absent.false) at c.requires in (omega arith, omega (arith, room))
@@ -30,4 +33,7 @@ unfolding stored
 returns c =
     let a = c.args in
     let other = ne_eqb a.b a.absent c.if-b-absent.false in
-    (rw other, put_in (eqb a.b a.absent) a.tag (a.b ∷ []) a.out.now a.at other c.put_field_head.ensures refl)
+    record {
+      next = rw other;
+      output = put_in (eqb a.b a.absent) a.tag (a.b ∷ []) a.out.now a.at other c.put_field_head.ensures refl;
+    }

@@ -53,9 +53,9 @@ returns c =
     let list = take n a.c.at in
     let some = c.if-n-eq0.false in
     let long = length-take-le n a.c.at ended.invariant.rest.size in
-    let absent : is_empty list ≡ false = rw long (ne_eqb n 0 some) in (
-      rw (ne_eqb n 0 some) (omega arith),
-      put_in (is_empty list) 6 (flat_map rect_bytes list) a.out.now a.at absent
+    let absent : is_empty list ≡ false = rw long (ne_eqb n 0 some) in record {
+      next = rw (ne_eqb n 0 some) (omega arith);
+      output = put_in (is_empty list) 6 (flat_map rect_bytes list) a.out.now a.at absent
           (rw (length_items rect_bytes 16 length_rect list, long) c.put_field_head.ensures)
-          (runs_out ended.invariant.rest c.loop-i-test.false),
-    )
+          (runs_out ended.invariant.rest c.loop-i-test.false);
+    }

@@ -58,8 +58,8 @@ returns c =
     let some = c.if-n-eq0.false in
     let long = length_rects a.numbers.now in
     let absent : is_empty list ≡ false = rw long (ne_eqb n 0 some) in
-    let items = rw (take_all n list (omega arith)) at (runs_out ended.invariant.rest c.loop-i-test.false) in (
-      rw (ne_eqb n 0 some) (omega arith),
-      put_in (is_empty list) 6 (flat_map rect_bytes list) a.out.now a.at absent
-          (rw (length_items rect_bytes 16 length_rect list, long) c.put_field_head.ensures) items,
-    )
+    let items = rw (take_all n list (omega arith)) at (runs_out ended.invariant.rest c.loop-i-test.false) in record {
+      next = rw (ne_eqb n 0 some) (omega arith);
+      output = put_in (is_empty list) 6 (flat_map rect_bytes list) a.out.now a.at absent
+          (rw (length_items rect_bytes 16 length_rect list, long) c.put_field_head.ensures) items;
+    }

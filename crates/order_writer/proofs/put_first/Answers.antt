@@ -36,11 +36,11 @@ put_byte-requires c =
 
 pub returns : goal.returns
 returns c =
-    let a = (entered c).args in (
-      omega (arith, lengths c, c.put_picture-picture_end.ensures.next, c.put_byte-mode_end.ensures.next, c.put_byte.ensures.next),
-      first_run a.s (same_picture c) c.mode_byte-mode.ensures c.fit_byte-fit.ensures a.out.now c.put_screen.ensures
-          c.put_picture-picture_end.ensures.next c.put_picture-picture_end.ensures.output c.put_byte-mode_end.ensures.next c.put_byte-mode_end.ensures.output c.put_byte.ensures.output,
-    )
+    let a = (entered c).args in record {
+      next = omega (arith, lengths c, c.put_picture-picture_end.ensures.next, c.put_byte-mode_end.ensures.next, c.put_byte.ensures.next);
+      output = first_run a.s (same_picture c) c.mode_byte-mode.ensures c.fit_byte-fit.ensures a.out.now c.put_screen.ensures
+          c.put_picture-picture_end.ensures.next c.put_picture-picture_end.ensures.output c.put_byte-mode_end.ensures.next c.put_byte-mode_end.ensures.output c.put_byte.ensures.output;
+    }
 
 -- LEFT OLD: -- what was found before the first field is put
 -- LEFT module _ (c : tie.After-equal) where

@@ -8,7 +8,11 @@ use Rattle.std.proofs.lemmas.Grind.{common_steps}
 use Rattle.order_writer.proofs.put_picture.Goals as goal
 
 pub returns-then-absent : goal.returns-then-absent
-returns-then-absent c = let a = c.args in (rw c.if-absent.true (omega arith), left_out a.absent 2 (rect_bytes a.r) a.out.now a.at c.if-absent.true)
+returns-then-absent c =
+    let a = c.args in record {
+      next = rw c.if-absent.true (omega arith);
+      output = left_out a.absent 2 (rect_bytes a.r) a.out.now a.at c.if-absent.true;
+    }
 
 pub put_field_head-requires : goal.put_field_head-requires
 put_field_head-requires c = let room = rw c.if-absent.false at c.requires in (omega arith, omega (arith, room))
@@ -22,4 +26,7 @@ pub returns : goal.returns
 unfolding rect_bytes number_bytes
 returns c =
     let a = c.args in
-    (rw c.if-absent.false, put_in a.absent 2 (rect_bytes a.r) a.out.now a.at c.if-absent.false c.put_field_head.ensures c.put_rect.ensures)
+    record {
+      next = rw c.if-absent.false;
+      output = put_in a.absent 2 (rect_bytes a.r) a.out.now a.at c.if-absent.false c.put_field_head.ensures c.put_rect.ensures;
+    }

@@ -15,7 +15,10 @@ pub returns-then-absent : goal.returns-then-absent
 unfolding number_bytes
 returns-then-absent c =
     let a = c.args in
-    (rw c.if-absent.true (omega arith), left_out a.absent 5 (number_bytes a.scale ++ (number_bytes a.offset.x ++ number_bytes a.offset.y)) a.out.now a.at c.if-absent.true)
+    record {
+      next = rw c.if-absent.true (omega arith);
+      output = left_out a.absent 5 (number_bytes a.scale ++ (number_bytes a.offset.x ++ number_bytes a.offset.y)) a.out.now a.at c.if-absent.true;
+    }
 
 pub put_field_head-requires : goal.put_field_head-requires
 unfolding number_bytes
@@ -49,4 +52,7 @@ returns c =
     let then-y = then _ _ _ _ _ c.put_f32-2.ensures c.put_f32-3.ensures (omega (arith, length_f32 p.x)) in
     let numbers = then _ _ _ _ _ c.put_f32.ensures then-y (omega (arith, length_f32 a.scale)) in
     let other = c.if-absent.false in
-    (rw other, put_in a.absent 5 (number_bytes a.scale ++ (number_bytes p.x ++ number_bytes p.y)) a.out.now a.at other c.put_field_head.ensures numbers)
+    record {
+      next = rw other;
+      output = put_in a.absent 5 (number_bytes a.scale ++ (number_bytes p.x ++ number_bytes p.y)) a.out.now a.at other c.put_field_head.ensures numbers;
+    }

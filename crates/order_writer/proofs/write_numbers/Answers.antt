@@ -22,7 +22,10 @@ returns-then-fault-ne0 c =
     let fault : let a = c.args in c.first_fault-fault.result ≡ first_fault_of a.mode a.fit (settings_from a.numbers.now a.mode a.fit [] []) = rw (← c.settings_from-s.ensures) c.first_fault-fault.ensures in
     let a = c.args in
     let e = rw (← fault) at (field_fault a.numbers.now a.mode a.fit a.cutouts.now a.saved.now (λ z. c.if-fault-ne0.true (fault ∙ z))) in
-    (rw e, rw e)
+    record {
+      answer = rw e;
+      output = rw e;
+    }
 
 pub returns-then-listed-ne0 : goal.returns-then-listed-ne0
 returns-then-listed-ne0 c =

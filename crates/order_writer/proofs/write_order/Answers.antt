@@ -11,7 +11,10 @@ unfolding write_order_of order_output_of
 returns-then-fault-ne0 c =
     let a = c.args in
     let e = rw (← c.first_fault-fault.ensures) at (a_fault 0 0 a.s (λ z. c.if-fault-ne0.true (c.first_fault-fault.ensures ∙ z))) in
-    (rw e, rw e)
+    record {
+      answer = rw e;
+      output = rw e;
+    }
 
 pub write_accepted-requires : goal.write_accepted-requires
 write_accepted-requires c =
@@ -23,4 +26,7 @@ unfolding write_order_of order_output_of
 returns c =
     let a = c.args in
     let e = (no_fault 0 0 a.s (sym c.first_fault-fault.ensures ∙ c.if-fault-ne0.false)).0 in
-    (rw e c.write_accepted.ensures.answer, rw e c.write_accepted.ensures.output)
+    record {
+      answer = rw e c.write_accepted.ensures.answer;
+      output = rw e c.write_accepted.ensures.output;
+    }

@@ -22,7 +22,12 @@ fitting-requires c = (c.horizontal-row.ensures.1, c.requires.0)
 pub returns-then-fitting : goal.returns-then-fitting
 unfolding controls_of
 returns-then-fitting c =
-    let row_made : GivesFirst c (maybe c.horizontal-row.result ∷ below c ∷ beside c ∷ []) = let high = ap (λ (r : Rect). r.h) c.new-band.ensures in
+    let below : Option Layout = let a = (entered made).args in
+    let bottom = (band made).before.clamp.result in
+    let high = (band made).new.result.h in
+    vertical_of (base made).base.result (new_of k0 bottom (a.w ⊘ k2) high) (new_of (a.w ⊘ k2) bottom (a.w ⊘ k2) high) a.analog in
+    let beside : Option Layout = vertical_of (base made).base.result (left made).new2.result c.new-right.result (entered made).args.analog in
+    let row_made : GivesFirst c (maybe c.horizontal-row.result ∷ below ∷ beside ∷ []) = let high = ap (λ (r : Rect). r.h) c.new-band.ensures in
     record {
       is =
           rw (← c.base-base.ensures.0, ← c.clamp-bottom.ensures, ← c.new-band.ensures, ← high, ← c.clamp.ensures, ← c.new-left.ensures)
@@ -39,15 +44,20 @@ fitting-requires-2 c = (c.vertical-below.ensures.1, c.requires.0)
 pub returns-then-fitting-2 : goal.returns-then-fitting-2
 unfolding controls_of
 returns-then-fitting-2 c =
-    let row_made : GivesFirst c (maybe c.horizontal-row.result ∷ below c ∷ beside c ∷ []) = let high = ap (λ (r : Rect). r.h) c.new-band.ensures in
+    let beside : Option Layout = vertical_of (base made).base.result (left made).new2.result c.new-right.result (entered made).args.analog in
+    let below : Option Layout = let a = (entered made).args in
+    let bottom = (band made).before.clamp.result in
+    let high = (band made).new.result.h in
+    vertical_of (base made).base.result (new_of k0 bottom (a.w ⊘ k2) high) (new_of (a.w ⊘ k2) bottom (a.w ⊘ k2) high) a.analog in
+    let row_made : GivesFirst c (maybe c.horizontal-row.result ∷ below ∷ beside ∷ []) = let high = ap (λ (r : Rect). r.h) c.new-band.ensures in
     record {
       is =
           rw (← c.base-base.ensures.0, ← c.clamp-bottom.ensures, ← c.new-band.ensures, ← high, ← c.clamp.ensures, ← c.new-left.ensures)
           (rw (← c.clamp-right_x.ensures, ← c.new-right.ensures, ← c.horizontal-row.ensures.0));
     } in
-    let below_made : GivesFirst c (maybe c.vertical-below.result ∷ beside c ∷ []) = let later = fits_later c.horizontal-row.result ((row_made c)) c.fitting.ensures c.if-fitting.false in
-    let made : below c ≡ maybe c.vertical-below.result = rw (← c.new-below_left.ensures, ← c.new-below_right.ensures) (sym c.vertical-below.ensures.0) in
-    subst (λ (o : Option Layout). GivesFirst c (o ∷ beside c ∷ [])) made later in
+    let below_made : GivesFirst c (maybe c.vertical-below.result ∷ (beside c) ∷ []) = let later = fits_later c.horizontal-row.result ((row_made c)) c.fitting.ensures c.if-fitting.false in
+    let made : (below c) ≡ maybe c.vertical-below.result = rw (← c.new-below_left.ensures, ← c.new-below_right.ensures) (sym c.vertical-below.ensures.0) in
+    subst (λ (o : Option Layout). GivesFirst c (o ∷ (beside c) ∷ [])) made later in
     (fits_first c.vertical-below.result below_made c.fitting-2.ensures c.if-fitting-2.true, c.vertical-below.ensures.1)
 
 pub vertical-beside-requires : goal.vertical-beside-requires
@@ -59,15 +69,20 @@ fitting-requires-3 c = (c.vertical-beside.ensures.1, (entered (c)).requires.0)
 pub returns-then-fitting-3 : goal.returns-then-fitting-3
 unfolding controls_of
 returns-then-fitting-3 c =
-    let row_made : GivesFirst c (maybe c.horizontal-row.result ∷ below c ∷ beside c ∷ []) = let high = ap (λ (r : Rect). r.h) c.new-band.ensures in
+    let beside : Option Layout = vertical_of (base made).base.result (left made).new2.result c.new-right.result (entered made).args.analog in
+    let below : Option Layout = let a = (entered made).args in
+    let bottom = (band made).before.clamp.result in
+    let high = (band made).new.result.h in
+    vertical_of (base made).base.result (new_of k0 bottom (a.w ⊘ k2) high) (new_of (a.w ⊘ k2) bottom (a.w ⊘ k2) high) a.analog in
+    let row_made : GivesFirst c (maybe c.horizontal-row.result ∷ below ∷ beside ∷ []) = let high = ap (λ (r : Rect). r.h) c.new-band.ensures in
     record {
       is =
           rw (← c.base-base.ensures.0, ← c.clamp-bottom.ensures, ← c.new-band.ensures, ← high, ← c.clamp.ensures, ← c.new-left.ensures)
           (rw (← c.clamp-right_x.ensures, ← c.new-right.ensures, ← c.horizontal-row.ensures.0));
     } in
-    let below_made : GivesFirst c (maybe c.vertical-below.result ∷ beside c ∷ []) = let later = fits_later c.horizontal-row.result ((row_made c)) c.fitting.ensures c.if-fitting.false in
-    let made : below c ≡ maybe c.vertical-below.result = rw (← c.new-below_left.ensures, ← c.new-below_right.ensures) (sym c.vertical-below.ensures.0) in
-    subst (λ (o : Option Layout). GivesFirst c (o ∷ beside c ∷ [])) made later in
+    let below_made : GivesFirst c (maybe c.vertical-below.result ∷ (beside c) ∷ []) = let later = fits_later c.horizontal-row.result ((row_made c)) c.fitting.ensures c.if-fitting.false in
+    let made : (below c) ≡ maybe c.vertical-below.result = rw (← c.new-below_left.ensures, ← c.new-below_right.ensures) (sym c.vertical-below.ensures.0) in
+    subst (λ (o : Option Layout). GivesFirst c (o ∷ (beside c) ∷ [])) made later in
     let beside_made : GivesFirst (c) (maybe c.vertical-beside.result ∷ []) = let later = fits_later c.vertical-below.result below_made c.fitting-2.ensures c.if-fitting-2.false in
     subst (λ (o : Option Layout). GivesFirst c (o ∷ [])) (sym c.vertical-beside.ensures.0) later in
     (fits_first c.vertical-beside.result beside_made c.fitting-3.ensures c.if-fitting-3.true, c.vertical-beside.ensures.1)
@@ -75,29 +90,24 @@ returns-then-fitting-3 c =
 pub returns : goal.returns
 unfolding controls_of
 returns c =
-    let row_made : GivesFirst c (maybe c.horizontal-row.result ∷ below c ∷ beside c ∷ []) = let high = ap (λ (r : Rect). r.h) c.new-band.ensures in
+    let beside : Option Layout = vertical_of (base made).base.result (left made).new2.result c.new-right.result (entered made).args.analog in
+    let below : Option Layout = let a = (entered made).args in
+    let bottom = (band made).before.clamp.result in
+    let high = (band made).new.result.h in
+    vertical_of (base made).base.result (new_of k0 bottom (a.w ⊘ k2) high) (new_of (a.w ⊘ k2) bottom (a.w ⊘ k2) high) a.analog in
+    let row_made : GivesFirst c (maybe c.horizontal-row.result ∷ below ∷ beside ∷ []) = let high = ap (λ (r : Rect). r.h) c.new-band.ensures in
     record {
       is =
           rw (← c.base-base.ensures.0, ← c.clamp-bottom.ensures, ← c.new-band.ensures, ← high, ← c.clamp.ensures, ← c.new-left.ensures)
           (rw (← c.clamp-right_x.ensures, ← c.new-right.ensures, ← c.horizontal-row.ensures.0));
     } in
-    let below_made : GivesFirst c (maybe c.vertical-below.result ∷ beside c ∷ []) = let later = fits_later c.horizontal-row.result ((row_made c)) c.fitting.ensures c.if-fitting.false in
-    let made : below c ≡ maybe c.vertical-below.result = rw (← c.new-below_left.ensures, ← c.new-below_right.ensures) (sym c.vertical-below.ensures.0) in
-    subst (λ (o : Option Layout). GivesFirst c (o ∷ beside c ∷ [])) made later in
+    let below_made : GivesFirst c (maybe c.vertical-below.result ∷ (beside c) ∷ []) = let later = fits_later c.horizontal-row.result ((row_made c)) c.fitting.ensures c.if-fitting.false in
+    let made : (below c) ≡ maybe c.vertical-below.result = rw (← c.new-below_left.ensures, ← c.new-below_right.ensures) (sym c.vertical-below.ensures.0) in
+    subst (λ (o : Option Layout). GivesFirst c (o ∷ (beside c) ∷ [])) made later in
     let beside_made : GivesFirst (c) (maybe c.vertical-beside.result ∷ []) = let later = fits_later c.vertical-below.result below_made c.fitting-2.ensures c.if-fitting-2.false in
     subst (λ (o : Option Layout). GivesFirst c (o ∷ [])) (sym c.vertical-beside.ensures.0) later in
     let none = fits_later c.vertical-beside.result beside_made c.fitting-3.ensures c.if-fitting-3.false in
     (c.no_layout.ensures.0 ∙ none_fits none, (omega arith, omega arith))
-
--- LEFT OLD: abbrev below : tie.After-horizontal → Option Layout
--- LEFT below made =
--- LEFT     let a = (entered made).args in
--- LEFT     let bottom = (band made).before.clamp.result in
--- LEFT     let high = (band made).new.result.h in
--- LEFT     vertical_of (base made).base.result (new_of k0 bottom (a.w ⊘ k2) high) (new_of (a.w ⊘ k2) bottom (a.w ⊘ k2) high) a.analog
-
--- LEFT OLD: abbrev beside : tie.After-horizontal → Option Layout
--- LEFT beside made = vertical_of (base made).base.result (left made).new2.result made.before.new3.result (entered made).args.analog
 
 -- LEFT OLD: -- `controls` gives the first of these candidates that fits
 -- LEFT abbrev GivesFirst : tie.After-horizontal → List (Option Layout) → Type 0

@@ -12,10 +12,10 @@ use Rattle.std.proofs.lemmas.Grind.{common_steps}
 use Rattle.safe_area.proofs.content.Goals as goal
 
 pub int_clamp-left-requires : goal.int_clamp-left-requires
-int_clamp-left-requires c = rw (read_back c.int_max.type-inv c.int_max.ensures) (zero_least _)
+int_clamp-left-requires c = rw (read_back c.int_max.type_inv c.int_max.ensures) (zero_least _)
 
 pub int_clamp-top-requires : goal.int_clamp-top-requires
-int_clamp-top-requires c = rw (read_back c.int_max-2.type-inv c.int_max-2.ensures) (zero_least _)
+int_clamp-top-requires c = rw (read_back c.int_max-2.type_inv c.int_max-2.ensures) (zero_least _)
 
 pub int_to_float-left : goal.int_to_float-left
 int_to_float-left c =
@@ -58,13 +58,7 @@ returns c =
     let d = down top c.int_max-5.ensures in
     c.new.ensures
     ∙ rw (← (edges-known left).current-edges.ensures, read_back left.int-clamp.ok a.start_is, read_back top.int-clamp2.ok d.start_is)
-    (rw (read_back c.int_max-4.type-inv (extent_is a c.int_max-4.ensures), read_back c.int_max-6.type-inv (extent_is d c.int_max-6.ensures)))
-
--- LEFT OLD: abbrev size : tie.After-int-clamp → List ℤ
--- LEFT size c = (edges-known c).before.before.before.args.t1
-
--- LEFT OLD: abbrev edges : tie.After-int-clamp → List ℤ
--- LEFT edges c = (edges-known c).current-edges.result
+    (rw (read_back c.int_max-4.type_inv (extent_is a c.int_max-4.ensures), read_back c.int_max-6.type_inv (extent_is d c.int_max-6.ensures)))
 
 -- LEFT OLD: across : (c : tie.After-int-clamp) {end : ℤ} → end ≡ max_z (back (entry (edges c) 2)) (pos 0)
 -- LEFT     → Measured (entry (size c) 0) (entry (edges c) 0) (entry (edges c) 2) c.int-clamp.result end

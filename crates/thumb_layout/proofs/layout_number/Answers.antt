@@ -9,13 +9,13 @@ use Rattle.thumb_layout.proofs.layout_number.Goals as goal
 
 pub overflow_cast-result : goal.overflow_cast-result
 overflow_cast-result c =
-    let h = rw c.answer-1.given.1 at c.requires in
+    let h = rw c.in-Bytes.is at c.requires in
     sfits_of (omega (arith, h))
 
 pub returns-in-Bytes : goal.returns-in-Bytes
 returns-in-Bytes c =
-    let h = rw c.answer-1.given.1 at c.requires in
-    rw c.answer-1.given.1 (to_z_pos w32 (omega (arith, h)))
+    let h = rw c.in-Bytes.is at c.requires in
+    rw c.in-Bytes.is (to_z_pos w32 (omega (arith, h)))
 
 pub returns-in-Refused : goal.returns-in-Refused
-returns-in-Refused c = rw c.answer-in-Refused-1.given.1 (read_back c.minus.type-inv c.minus.ensures)
+returns-in-Refused c = rw c.in-Refused.is (read_back c.minus.type_inv c.minus.ensures)

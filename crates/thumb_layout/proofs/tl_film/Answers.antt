@@ -21,4 +21,7 @@ unfolding tl_film_of film_sheet_of
 returns c =
     let small : c.film_sheet-film.result.len ≤ 788 = rw c.film_sheet-film.ensures (film_fits _) in
     let e = c.film_sheet-film.ensures in
-    (rw (← e) (to_z_pos w32 (omega (arith, small))), rw e)
+    record {
+      answer = rw (← e) (to_z_pos w32 (omega (arith, small)));
+      output = rw e;
+    }

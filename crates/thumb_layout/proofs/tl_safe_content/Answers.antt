@@ -10,12 +10,18 @@ pub returns-in-Area : goal.returns-in-Area
 unfolding tl_safe_content_of tl_safe_content_output_of content_from
 returns-in-Area c =
     let answered : content_answer c.safe_content.result ≡ content_from c.args.numbers.now = rw (c.two.ensures, c.two-2.ensures, c.four.ensures) at c.safe_content.ensures in
-    let e = rw c.r-1.given.1 at answered in
-    (rw (← e), rw (← e))
+    let e = rw c.in-Area.is at answered in
+    record {
+      answer = rw (← e);
+      output = rw (← e);
+    }
 
 pub returns-in-OffScale : goal.returns-in-OffScale
 unfolding tl_safe_content_of tl_safe_content_output_of content_from
 returns-in-OffScale c =
     let answered : content_answer c.safe_content.result ≡ content_from c.args.numbers.now = rw (c.two.ensures, c.two-2.ensures, c.four.ensures) at c.safe_content.ensures in
-    let e = rw c.enum_told-1.given.1 at answered in
-    (rw (← e), rw (← e))
+    let e = rw c.in-OffScale.is at answered in
+    record {
+      answer = rw (← e);
+      output = rw (← e);
+    }

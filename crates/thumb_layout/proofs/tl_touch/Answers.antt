@@ -11,11 +11,11 @@ use Rattle.thumb_layout.proofs.tl_touch.Goals as goal
 pub returns-in-Mask : goal.returns-in-Mask
 unfolding tl_touch_of
 returns-in-Mask c =
-    let e = rw c.mask-1.given.1 at c.touch.ensures in
+    let e = rw c.in-Mask.is at c.touch.ensures in
     to_z_pos w32 (search rules) ∙ ap number_of e
 
 pub returns-in-Refused : goal.returns-in-Refused
 unfolding tl_touch_of
 returns-in-Refused c =
-    let e = rw c.n-1.given.1 at c.touch.ensures in
-    read_back c.minus.type-inv (c.minus.ensures ∙ ap number_of e)
+    let e = rw c.in-Refused.is at c.touch.ensures in
+    read_back c.minus.type_inv (c.minus.ensures ∙ ap number_of e)

@@ -15,4 +15,7 @@ pub returns : goal.returns
 unfolding tl_viewport_layout_of
 returns c =
     let l = c.viewport_layout.ensures in
-    (read_back c.layout_number.type-inv (c.layout_number.ensures ∙ ap number_of l.0), l.1)
+    record {
+      answer = read_back c.layout_number.type_inv (c.layout_number.ensures ∙ ap number_of l.0);
+      output = l.1;
+    }

@@ -6,16 +6,16 @@ use Rattle.settings.proofs.Preset.picture_fit.Goals as goal
 
 pub returns-then-untouched : goal.returns-then-untouched
 unfolding picture_fit_of
-returns-then-untouched c = rw (← c.untouched.ensures, c.enum_told-1.given.1, c.if-untouched.true)
+returns-then-untouched c = rw (← c.untouched.ensures, c.in-Unset.is, c.if-untouched.true)
 
 pub returns-else-untouched : goal.returns-else-untouched
 unfolding picture_fit_of
-returns-else-untouched c = rw (← c.untouched.ensures, c.enum_told-1.given.1, c.if-untouched.false)
+returns-else-untouched c = rw (← c.untouched.ensures, c.in-Unset.is, c.if-untouched.false)
 
 pub returns-in-Maximum : goal.returns-in-Maximum
 unfolding picture_fit_of
-returns-in-Maximum c = rw c.enum_told-in-Maximum-1.given.1
+returns-in-Maximum c = rw c.in-Maximum.is
 
 pub returns-in-KeepClear : goal.returns-in-KeepClear
 unfolding picture_fit_of
-returns-in-KeepClear c = rw c.enum_told-in-KeepClear-1.given.1
+returns-in-KeepClear c = rw c.in-KeepClear.is
