@@ -19,32 +19,30 @@ use Rattle.layout.proofs.ArrayLaws.{array_lengths}
 use Rattle.layout.proofs.ActionLaws.{action_bounds_lem}
 use Rattle.std.proofs.lemmas.Grind.{common_steps}
 use Rattle.layout.proofs.Layout.action_bounds.Goals as goal
-
--- the rectangles of the face controls
-abbrev faces : List Control → List Rect
-faces cs = filter_map (λ c. is_face_of c.label) (λ c. c.bounds) cs
+use Rattle.layout.proofs.Layout.action_bounds.Goals.{then-is_face, else-is_face}
+use Rattle.layout.proofs.Layout.action_bounds.Invariants.{faces}
 
 pub loop-i-init : goal.loop-i-init
 loop-i-init c = (omega arith, refl, refl)
 
--- OLD pub loop-i-preserved : goal.loop-i-preserved
--- OLD loop-i-preserved c =
--- OLD     let cs = c.args.self.controls in
--- OLD     let i = c.loop-i.i in
--- OLD     let arrays = array_lengths c.args.self c.well_formed.0 in
--- OLD     let h : i < length cs = omega arith in
--- OLD     let b = (get_or cs i any_control).bounds in
--- OLD     let f = c.is_face.ensures in
--- OLD     let v = c.loop-i.invariant in
--- OLD     let passed = faces (take i cs) in
--- OLD     ⊎_elim
--- OLD     (λ t.
--- OLD     let more : faces (take (i + 1) cs) ≡ passed ++ (b ∷ []) = one_more _ (λ c. c.bounds) cs i any_control h f t.0.taken in
--- OLD     (omega arith, t.3 ∙ rw more (nonempty_more passed b), t.2 ∙ t.1.ensures ∙ rw (more, ← reduce_more join_of empty_rect passed b, ← v.1, ← v.2)))
--- OLD     (λ t.
--- OLD     let same : faces (take (i + 1) cs) ≡ passed = no_more _ (λ c. c.bounds) cs i any_control h f t.0.left in
--- OLD     (omega arith, t.2 ∙ rw same v.1, t.1 ∙ rw same v.2))
--- OLD     c.if-is_face.branch
+pub loop-i-preserved : goal.loop-i-preserved
+loop-i-preserved c =
+    let cs = c.args.self.controls in
+    let i = c.loop-i.i in
+    let arrays = array_lengths c.args.self c.well_formed.0 in
+    let h : i < length cs = omega arith in
+    let b = (get_or cs i any_control).bounds in
+    let f = c.is_face.ensures in
+    let v = c.loop-i.invariant in
+    let passed = faces (take i cs) in
+    elim c.if-is_face.branch [
+      | then-is_face w ↦
+          let more : faces (take (i + 1) cs) ≡ passed ++ (b ∷ []) = one_more _ (λ c. c.bounds) cs i any_control h f w.if-is_face.true in
+          (omega arith, w.found-is ∙ rw more (nonempty_more passed b), w.bounds-is ∙ w.joined-bounds.ensures ∙ rw (more, ← reduce_more join_of empty_rect passed b, ← v.1, ← v.2))
+      | else-is_face w ↦
+          let same : faces (take (i + 1) cs) ≡ passed = no_more _ (λ c. c.bounds) cs i any_control h f w.if-is_face.false in
+          (omega arith, w.found-is ∙ rw same v.1, w.bounds-is ∙ rw same v.2)
+    ]
 
 pub returns : goal.returns
 returns c =

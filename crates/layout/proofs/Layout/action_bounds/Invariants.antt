@@ -18,5 +18,9 @@ use Rattle.layout.proofs.ArrayLaws.{array_lengths}
 use Rattle.layout.proofs.ActionLaws.{action_bounds_lem}
 use Rattle.layout.proofs.Layout.action_bounds.Given as goal
 
+-- the rectangles of the face controls
+abbrev pub faces : List Control → List Rect
+faces cs = filter_map (λ c. is_face_of c.label) (λ c. c.bounds) cs
+
 abbrev pub invariant-loop-i : goal.invariant-loop-i
 invariant-loop-i l = (l.i ≤ l.i-end) × (l.found ≡ nonempty (faces (take l.i l.controls))) × (l.bounds ≡ reduce join_of empty_rect (faces (take l.i l.controls)))

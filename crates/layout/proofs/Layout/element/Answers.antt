@@ -25,11 +25,11 @@ returns-then-index-n-4 c = sym (element_speed _ _ (omega arith))
 pub returns-then-index-n-5 : goal.returns-then-index-n-5
 returns-then-index-n-5 c = sym (element_mute _ _ (omega arith))
 
-pub offset_bounds-self-index-2 : goal.offset_bounds-self-index-2
-offset_bounds-self-index-2 c = scaled_Fits _ 2 16 (bounds-self-index-2 c) (lit< tt)
-
 pub bounds-self-index-2 : goal.bounds-self-index-2
 bounds-self-index-2 c = stick_below c.args.self c.args.index c.requires.0 c.requires.1
+
+pub offset_bounds-self-index-2 : goal.offset_bounds-self-index-2
+offset_bounds-self-index-2 c = scaled_Fits _ 2 16 (bounds-self-index-2 c) (lit< tt)
 
 pub returns : goal.returns
 returns c = sym (element_stick _ _ _ (stick_index _ _ (omega arith)))

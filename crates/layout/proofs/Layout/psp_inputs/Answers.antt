@@ -12,28 +12,29 @@ use Rattle.layout.specs.Psp.{on_psp, psp_inputs_of}
 use Rattle.layout.proofs.ArrayLaws.{array_lengths}
 use Rattle.std.proofs.lemmas.Grind.{common_steps}
 use Rattle.layout.proofs.Layout.psp_inputs.Goals as goal
+use Rattle.layout.proofs.Layout.psp_inputs.Goals.{then-on_psp, else-on_psp}
 
 pub loop-i-init : goal.loop-i-init
 loop-i-init c = (omega arith, omega arith, (array_lengths c.args.self c.well_formed.0).0, refl, refl)
 
--- OLD pub loop-i-preserved : goal.loop-i-preserved
--- OLD loop-i-preserved c =
--- OLD     let cs = c.args.self.controls in
--- OLD     let i = c.loop-i.i in
--- OLD     let arrays = array_lengths c.args.self c.well_formed.0 in
--- OLD     let h : i < length cs = omega arith in
--- OLD     let f = c.on_psp.ensures in
--- OLD     let v = c.loop-i.invariant in
--- OLD     ⊎_elim
--- OLD     (λ t.
--- OLD     let counted = put_count on_psp cs i any_control h f _ t.0.taken v.3 in
--- OLD     let put = put_list on_psp cs i any_control h f _ _ t.0.taken v.3 v.4 in
--- OLD     (omega arith, omega arith, ap length t.1 ∙ simp length-set v.2, t.2 ∙ counted, t.1 ∙ put))
--- OLD     (λ t.
--- OLD     let counted = skip_count on_psp cs i any_control h f _ t.0.left v.3 in
--- OLD     let kept = skip_list on_psp cs i any_control h f _ t.0.left v.4 in
--- OLD     (omega arith, omega arith, ap length t.1 ∙ v.2, t.2 ∙ counted, t.1 ∙ kept))
--- OLD     c.if-on_psp.branch
+pub loop-i-preserved : goal.loop-i-preserved
+loop-i-preserved c =
+    let cs = c.args.self.controls in
+    let i = c.loop-i.i in
+    let arrays = array_lengths c.args.self c.well_formed.0 in
+    let h : i < length cs = omega arith in
+    let f = c.on_psp.ensures in
+    let v = c.loop-i.invariant in
+    elim c.if-on_psp.branch [
+      | then-on_psp w ↦
+          let counted = put_count on_psp cs i any_control h f _ w.if-on_psp.true v.3 in
+          let put = put_list on_psp cs i any_control h f _ _ w.if-on_psp.true v.3 v.4 in
+          (omega arith, omega arith, ap length w.controls-is ∙ simp length-set v.2, w.count-is ∙ counted, w.controls-is ∙ put)
+      | else-on_psp w ↦
+          let counted = skip_count on_psp cs i any_control h f _ w.if-on_psp.false v.3 in
+          let kept = skip_list on_psp cs i any_control h f _ w.if-on_psp.false v.4 in
+          (omega arith, omega arith, ap length w.controls-is ∙ v.2, w.count-is ∙ counted, w.controls-is ∙ kept)
+    ]
 
 pub returns : goal.returns
 unfolding psp_inputs_of
