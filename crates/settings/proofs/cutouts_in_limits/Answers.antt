@@ -15,13 +15,13 @@ pub returns-then-not-rect_in_limits : goal.returns-then-not-rect_in_limits
 unfolding cutouts_in_limits_of all_of
 returns-then-not-rect_in_limits c =
     let test = c.rect_in_limits in
-    stops any_rect c.loop-i.invariant c.loop-i-test.true (rw (← test.ensures, not-true test.result c.if-not-rect_in_limits.true))
+    stops any_rect c.loop-i.invariant c.loop-i-test.true (rw (← test.ensures, c.if-not-rect_in_limits.true))
 
 pub loop-i-preserved : goal.loop-i-preserved
 unfolding cutouts_in_limits_of all_of
 loop-i-preserved c =
     let test = c.rect_in_limits in
-    goes_on any_rect c.loop-i.invariant c.loop-i-test.true (rw (← test.ensures, not-false test.result c.if-not-rect_in_limits.false))
+    goes_on any_rect c.loop-i.invariant c.loop-i-test.true (rw (← test.ensures, c.if-not-rect_in_limits.false))
 
 pub returns : goal.returns
 unfolding cutouts_in_limits_of all_of

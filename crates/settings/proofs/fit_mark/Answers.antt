@@ -1,4 +1,6 @@
 -- Arm by arm, by what the match tells of the byte.
+use borrow.Author.Rules.{rules}
+use native.Mathlib.Omega.{arith}
 use borrow.Author.Tests.{ne_eqb}
 use Rattle.settings.specs.Settings.{fit_mark_of}
 use Rattle.std.proofs.lemmas.Grind.{common_steps}
@@ -14,4 +16,4 @@ returns-in-1 c = rw c.in-1.is
 
 pub returns-in_default : goal.returns-in_default
 unfolding fit_mark_of
-returns-in_default c = let r = c.in_default.rest in rw (ne_eqb _ _ r.0.1, ne_eqb _ _ r.1)
+returns-in_default c = rw (ne_eqb c.args.b 0 (omega arith), ne_eqb c.args.b 1 (omega arith))
