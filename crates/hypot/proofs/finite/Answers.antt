@@ -47,7 +47,11 @@ rounded-requires c =
     let place : ℕ = c.exponent-f.result in
     let sides : (4 * sum ≡ scaled * (2 ^ place * 2 ^ place)) × ((place ≡ 0) ⊎ (0x200_0000 ≤ root_of scaled)) = near c.args.p c.args.q _ _ _ _ _ c.exponent-e.ensures c.exponent-f.ensures c.significand.ensures c.significand-n.ensures
     c.times_power-s.ensures c.requires.q_le_p in
-    (rw c.root.ensures (root_small _ _ (omega (arith, small)) (omega arith)), (omega arith, rw c.root.ensures (sides).1))
+    record {
+      w_bound = rw c.root.ensures (root_small _ _ (omega (arith, small)) (omega arith));
+      f_bound = omega arith;
+      fact = rw c.root.ensures sides.1;
+    }
 
 pub returns : goal.returns
 returns c =
@@ -56,4 +60,4 @@ returns c =
     let place : ℕ = c.exponent-f.result in
     let sides : (4 * sum ≡ scaled * (2 ^ place * 2 ^ place)) × ((place ≡ 0) ⊎ (0x200_0000 ≤ root_of scaled)) = near c.args.p c.args.q _ _ _ _ _ c.exponent-e.ensures c.exponent-f.ensures c.significand.ensures c.significand-n.ensures
     c.times_power-s.ensures c.requires.q_le_p in
-    c.rounded.ensures sum scaled c.root.ensures (sides).0
+    c.rounded.ensures sum scaled c.root.ensures sides.0

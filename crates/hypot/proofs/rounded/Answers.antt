@@ -7,7 +7,7 @@ use Rattle.std.proofs.lemmas.Grind.{common_steps}
 use Rattle.hypot.proofs.rounded.Goals as goal
 
 pub loop-c-init : goal.loop-c-init
-loop-c-init c = leading_start c.args.w c.args.f c.requires.f_bound.1
+loop-c-init c = leading_start c.args.w c.args.f c.requires.fact
 
 pub overflow_add-k : goal.overflow_add-k
 overflow_add-k c = let i = c.loop-c in let a = c.args in omega (arith, leading_places a.w a.f i.c i.u i.k i.invariant)
