@@ -132,3 +132,12 @@ sizes_and_edges a b c h =
 pub current_on_scale : (size inset edges : List ℤ) {current : List ℤ} → current ≡ current_edges_of size inset edges → on_scale_of edges ≡ true → on_scale_of current ≡ true
 unfolding current_edges_of all_of within_limits_of
 current_on_scale size inset edges e h = rw e (either (λ xs. on_scale_of xs ≡ true) (same_size_of size inset) h refl)
+
+-- the span from edge i to edge j, by what is known of its parts in `content`
+pub span : (size inset edges : List ℤ) {current : List ℤ} (i j : ℕ) {least start end : ℤ}
+    → on_scale_of size ≡ true → on_scale_of edges ≡ true → current ≡ current_edges_of size inset edges
+    → least ≡ max_z (back (entry size i)) (pos 0) → start ≡ clamp_z (back (entry current i)) (pos 0) (back least) → end ≡ max_z (back (entry current j)) (pos 0)
+    → Measured (entry size i) (entry current i) (entry current j) start end
+span size inset edges i j s d e least start end =
+    let on = current_on_scale size inset edges e d in
+    measured (within_at _ _ s) (within_at _ _ on) (within_at _ _ on) least start end

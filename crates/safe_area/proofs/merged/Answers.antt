@@ -12,4 +12,4 @@ returns c =
     let e2 = c.merged_edge-top in
     let e3 = c.merged_edge-right in
     let e4 = c.merged_edge-bottom in
-    rw (read_back e1.type-inv e1.ensures, read_back e2.type-inv e2.ensures, read_back e3.type-inv e3.ensures, read_back e4.type-inv e4.ensures)
+    rw (read_back e1.type_inv e1.ensures, read_back e2.type_inv e2.ensures, read_back e3.type_inv e3.ensures, read_back e4.type_inv e4.ensures)

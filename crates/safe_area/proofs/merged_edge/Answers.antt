@@ -11,14 +11,14 @@ unfolding merged_edge_of
 returns-then-local c =
     let m = c.int_max-other in
     let r = c.int_max in
-    read_back r.type-inv (r.ensures
-    ∙ rw (read_back m.type-inv m.ensures, kept _ c.int_max-arg-1.given, kept _ c.int_max-arg-2-1.given, c.if-local.true))
+    read_back r.type_inv (r.ensures
+    ∙ rw (read_back m.type_inv m.ensures, kept _ c.int_max-arg-1.given, kept _ c.int_max-arg-2-1.given, c.if-local.true))
 
 pub returns-else-local : goal.returns-else-local
 unfolding merged_edge_of
 returns-else-local c =
     let m = c.int_max-other in
     let r = c.int_max-else-local in
-    read_back r.type-inv (r.ensures
-    ∙ rw (read_back m.type-inv m.ensures, kept _ c.int_max-arg-1.given, kept _ c.int_max-arg-2-1.given)
+    read_back r.type_inv (r.ensures
+    ∙ rw (read_back m.type_inv m.ensures, kept _ c.int_max-arg-1.given, kept _ c.int_max-arg-2-1.given)
     (rw (kept _ c.int_max-arg-else-local-1.given, c.if-local.false)))
