@@ -39,11 +39,11 @@ loop-j-preserved c =
       refl,
       fold_next _ _ _ _ _ h c.loop-j.invariant.2
           (elim c.if-j-gt0.branch [
-            then-j-gt0 w ↦ later_start bottom_of c.args.obstacles _ w.if-j-gt0.true w.y-is
+            | then-j-gt0 w ↦ later_start bottom_of c.args.obstacles _ w.if-j-gt0.true w.y-is
             | else-j-gt0 w ↦ first_start bottom_of c.args.obstacles _ w.if-j-gt0.false w.y-is
           ])
           (elim c.if-within.branch [
-            then-within w ↦
+            | then-within w ↦
                 cond_yes _ _ _ c.within.ensures w.if-within.true
                 (w.best-is ∙ w.better-best.ensures ∙ turn_is_full _ (narrow_below _ _ _ _) (λ width. (c.args.w ⊖ width) ⊘ k2) _ _ w.loop-k.invariant
                 (elim w.loop-k-test.branch [ else-loop-k-test u ↦ inl u.loop-k-test.false | then-loop-k-test+then-width-best u ↦ inr u.if-width-best.true ]))

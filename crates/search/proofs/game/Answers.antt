@@ -13,7 +13,7 @@ returns c =
     c.new.ensures ∙ game_returned _ _ _ _ _
     c.obstacles-obstacles.ensures.0
     (elim c.if-aspect.branch [
-      then-aspect w ↦ rw (w.if-aspect.true, w.area-is) w.clear_picture-area.ensures
+      | then-aspect w ↦ rw (w.if-aspect.true, w.area-is) w.clear_picture-area.ensures
       | else-aspect w ↦ rw (w.if-aspect.false, w.area-is) w.clear_picture_aspect-area.ensures
     ])
     c.clamp-scale.ensures

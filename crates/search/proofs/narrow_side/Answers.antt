@@ -9,7 +9,7 @@ pub returns-then-r-x : goal.returns-then-r-x
 unfolding narrow_side_of
 returns-then-r-x c =
     elim c.then-r-x.branch [
-      then-r-x-via-then-r-x w ↦ rw w.if-r-x.true
+      | then-r-x-via-then-r-x w ↦ rw w.if-r-x.true
       | then-r-x-via-else-r-x+then-r-y w ↦ rw (w.if-r-x.false, w.if-r-y.true)
     ]
 

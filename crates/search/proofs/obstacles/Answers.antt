@@ -24,7 +24,7 @@ loop-i-preserved c =
     let h = c.loop-i-test.true in
     let met = c.overlaps.ensures in
     elim c.if-overlaps.branch [
-      then-overlaps w ↦ (
+      | then-overlaps w ↦ (
         omega arith,
         rw (w.at-is, length-set) l.invariant.1,
         rw (w.at-is, w.count-is, w.new.ensures) (goes_on any_rect l.invariant.2 h (rw (← met, w.if-overlaps.true) (sym (put_rest l.at l.count _ _ (omega arith))))),

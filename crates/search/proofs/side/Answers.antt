@@ -42,11 +42,11 @@ loop-j-preserved c =
       refl,
       fold_next _ _ _ _ _ h c.loop-j.invariant.2
           (elim c.if-j-gt0.branch [
-            then-j-gt0 w ↦ later_start bottom_of c.args.obstacles _ w.if-j-gt0.true w.y-is
+            | then-j-gt0 w ↦ later_start bottom_of c.args.obstacles _ w.if-j-gt0.true w.y-is
             | else-j-gt0 w ↦ first_start bottom_of c.args.obstacles _ w.if-j-gt0.false w.y-is
           ])
           (elim c.if-within-2.branch [
-            then-within-2 w ↦
+            | then-within-2 w ↦
                 cond_yes _ _ _ c.within-in-loop-j.ensures w.if-within-2.true
                 (w.best-is ∙ w.better-best.ensures ∙ turn_is_full _ (narrow_side_below _ _ _ _) (λ _. c.if-i-gt0.x) _ _ w.loop-k.invariant
                 (elim w.loop-k-test.branch [ else-loop-k-test u ↦ inl u.loop-k-test.false | then-loop-k-test+then-width-best u ↦ inr u.if-width-best.true ]))
@@ -63,11 +63,11 @@ loop-i-preserved c =
       refl,
       fold_next _ _ _ _ _ h c.loop-i.invariant.2
           (elim c.if-i-gt0.branch [
-            then-i-gt0 w ↦ later_start right_of c.args.obstacles _ w.if-i-gt0.true w.x-is
+            | then-i-gt0 w ↦ later_start right_of c.args.obstacles _ w.if-i-gt0.true w.x-is
             | else-i-gt0 w ↦ first_start right_of c.args.obstacles _ w.if-i-gt0.false w.x-is
           ])
           (elim c.if-within.branch [
-            then-within+else-loop-j-test w ↦
+            | then-within+else-loop-j-test w ↦
                 let e : w.loop-j.j ≡ c.args.count + 1 = omega arith in
                 cond_yes _ _ _ c.within.ensures w.if-within.true (w.best-is ∙ (rw (e, take_first) at w.loop-j.invariant.2))
             | else-within w ↦ cond_no _ _ _ c.within.ensures w.if-within.false w.best-is

@@ -64,7 +64,7 @@ loop-preserved c =
       rw e (scan_met c.loop-met.invariant c.if-not-met.false
           ∙ ap (pass _ _ _ _ _)
           (elim c.if-blocked.branch [
-            then-blocked w ↦ scan_met c.loop-blocked.invariant w.if-blocked.true ∙ sym w.below-bar.ensures ∙ sym w.bar-is
+            | then-blocked w ↦ scan_met c.loop-blocked.invariant w.if-blocked.true ∙ sym w.below-bar.ensures ∙ sym w.bar-is
             | else-blocked w ↦ scan_end c.loop-blocked.invariant c.loop-blocked-test.false w.if-blocked.false ∙ sym w.bar-is
           ])),
     )
