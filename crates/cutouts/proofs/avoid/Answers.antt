@@ -31,7 +31,7 @@ loop-i-preserved-then-not-overlap c =
     let s = c.args in
     let l = c.loop-i in
     let h = c.loop-i-test.true in
-    let apart = sym c.overlap.ensures ∙ not-true _ c.if-not-overlap.true in
+    let apart = sym c.overlap.ensures ∙ c.if-not-overlap.true in
     let stays = missed s.w s.h (cutout_list s.holes) l.out.at l.out.count l.i (omega arith) apart in
     (l.invariant.0, goes_on 0 l.invariant.1 h (rw (range_at _ l.i h, ← c.in_group.ensures, c.if-in_group.false, stays, foldl)))
 

@@ -16,5 +16,6 @@ use native.Mathlib.Omega.{arith}
 use Rattle.cutouts.proofs.avoid.Given as goal
 
 abbrev pub invariant-loop-i : goal.invariant-loop-i
-invariant-loop-i l =    let settled : List Rect → List ℕ → List Rect = λ es is. foldl (settle_of l.w l.h (cutout_list l.holes)) es (outside (group_list l.faces) (λ l.i. l.i ∷ []) is) in
+invariant-loop-i l =
+    let settled : List Rect → List ℕ → List Rect = λ es is. foldl (settle_of l.w l.h (cutout_list l.holes)) es (outside (group_list l.faces) (λ i. i ∷ []) is) in
     (l.out.count ≡ l.count) × Rest (settled (element_list l.out)) (range 0 l.count) l.count (settled (element_list l.initial.out) (range 0 l.count)) l.i

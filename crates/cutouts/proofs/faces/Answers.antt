@@ -25,7 +25,7 @@ loop-i-preserved-then-not-is_face c =
     let s = c.args.l in
     let l = c.loop-i in
     let h = c.loop-i-test.true in
-    let no-face = not-true c.is_face.result c.if-not-is_face.true in
+    let no-face = c.if-not-is_face.true in
     (l.invariant.0, l.invariant.1, goes_on (0, any_control) l.invariant.2 h (rw (face_at s (search (in_array, arith)) l.i h, ← c.is_face.ensures, no-face)))
 
 pub bounds-at-count : goal.bounds-at-count
@@ -35,7 +35,7 @@ bounds-at-count c =
     let h = c.loop-i-test.true in
     let rest = faces_of (drop (l.i + 1) (take c.args.l.count (enumerate_from 1 (control_list c.args.l)))) in
     let e : take l.count l.at ++ ((l.i + 1) ∷ rest) ≡ action_elements_of c.args.l =
-    stops (0, any_control) l.invariant.2 h (rw (face_at c.args.l (search (in_array, arith)) l.i h, ← c.is_face.ensures, not-false c.is_face.result c.if-not-is_face.false)) in
+    stops (0, any_control) l.invariant.2 h (rw (face_at c.args.l (search (in_array, arith)) l.i h, ← c.is_face.ensures, c.if-not-is_face.false)) in
     omega (arith, length-take-le l.count l.at (omega arith), ap length e, length-append (take l.count l.at) ((l.i + 1) ∷ rest), c.requires.1) in
     omega (arith, room)
 
@@ -46,12 +46,12 @@ loop-i-preserved c =
     let h = c.loop-i-test.true in
     let rest = faces_of (drop (l.i + 1) (take c.args.l.count (enumerate_from 1 (control_list c.args.l)))) in
     let e : take l.count l.at ++ ((l.i + 1) ∷ rest) ≡ action_elements_of c.args.l =
-    stops (0, any_control) l.invariant.2 h (rw (face_at c.args.l (search (in_array, arith)) l.i h, ← c.is_face.ensures, not-false c.is_face.result c.if-not-is_face.false)) in
+    stops (0, any_control) l.invariant.2 h (rw (face_at c.args.l (search (in_array, arith)) l.i h, ← c.is_face.ensures, c.if-not-is_face.false)) in
     omega (arith, length-take-le l.count l.at (omega arith), ap length e, length-append (take l.count l.at) ((l.i + 1) ∷ rest), c.requires.1) in
     let s = c.args.l in
     let l = c.loop-i in
     let h = c.loop-i-test.true in
-    let face = not-false c.is_face.result c.if-not-is_face.false in
+    let face = c.if-not-is_face.false in
     let k = room in (
       omega arith,
       rw length-set l.invariant.1,

@@ -17,4 +17,4 @@ use Rattle.cutouts.proofs.faces.Given as goal
 
 abbrev pub invariant-loop-i : goal.invariant-loop-i
 invariant-loop-i l = let numbered = enumerate_from 1 (take l.n l.controls) in
-    (l.count ≤ 4) × (length l.at ≡ 4) × Rest (λ l. take l.count l.at ++ faces_of l) numbered l.n (faces_of numbered) l.i
+    (l.count ≤ 4) × (length l.at ≡ 4) × Rest (λ rs. take l.count l.at ++ faces_of rs) numbered l.n (faces_of numbered) l.i

@@ -9,4 +9,4 @@ use Rattle.cutouts.specs.Cutouts.{hits_of}
 use Rattle.cutouts.proofs.hits.Given as goal
 
 abbrev pub invariant-loop-i : goal.invariant-loop-i
-invariant-loop-i l = Rest (λ l. hits_of l (cutout_list l.holes)) l.original l.m (hits_of (take l.m l.original) (cutout_list l.holes)) l.i
+invariant-loop-i l = Rest (λ rs. hits_of rs (cutout_list l.holes)) l.original l.m (hits_of (take l.m l.original) (cutout_list l.holes)) l.i

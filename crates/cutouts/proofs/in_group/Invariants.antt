@@ -8,4 +8,4 @@ use native.Mathlib.Omega.{arith}
 use Rattle.cutouts.proofs.in_group.Given as goal
 
 abbrev pub invariant-loop-k : goal.invariant-loop-k
-invariant-loop-k l = Rest (λ l. in_group_of l l.i) l.at l.n (in_group_of (take l.n l.at) l.i) l.k
+invariant-loop-k l = Rest (λ rs. in_group_of rs l.i) l.at l.n (in_group_of (take l.n l.at) l.i) l.k

@@ -12,4 +12,4 @@ use Rattle.cutouts.proofs.members.Given as goal
 
 abbrev pub invariant-loop-k : goal.invariant-loop-k
 invariant-loop-k l = let all = map (λ i. get_or l.el i any_rect) in
-    (length l.out ≡ 4) × Rest (λ l. take l.k l.out ++ all l) l.at l.n (all (take l.n l.at)) l.k
+    (length l.out ≡ 4) × Rest (λ rs. take l.k l.out ++ all rs) l.at l.n (all (take l.n l.at)) l.k

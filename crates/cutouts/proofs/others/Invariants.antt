@@ -15,5 +15,6 @@ use native.Mathlib.Omega.{arith}
 use Rattle.cutouts.proofs.others.Given as goal
 
 abbrev pub invariant-loop-i : goal.invariant-loop-i
-invariant-loop-i l =    let rest = outside (group_list l.group) (λ l.i. get_or (take l.n l.el) l.i any_rect) in
+invariant-loop-i l =
+    let rest = outside (group_list l.group) (λ i. get_or (take l.n l.el) i any_rect) in
     (l.count ≤ l.i) × (length l.out ≡ 19) × Rest (λ is. take l.count l.out ++ rest is) (range 0 l.n) l.n (rest (range 0 l.n)) l.i

@@ -10,7 +10,7 @@ pub returns-then-not-hits : goal.returns-then-not-hits
 unfolding settle_of
 returns-then-not-hits c =
     let q = c.hits in
-    (rw (← c.members-original.ensures, ← q.ensures, not-true q.result c.if-not-hits.true), refl)
+    (rw (← c.members-original.ensures, ← q.ensures, c.if-not-hits.true), refl)
 
 pub returns : goal.returns
 unfolding settle_of
@@ -18,4 +18,4 @@ returns c =
     let q = c.hits in
     let m = c.members-original in
     let chosen = c.search-to in
-    (rw (← m.ensures, ← q.ensures, not-false q.result c.if-not-hits.false, ← c.others-rest.ensures.0, ← chosen.ensures) c.shift.ensures.0, c.shift.ensures.1)
+    (rw (← m.ensures, ← q.ensures, c.if-not-hits.false, ← c.others-rest.ensures.0, ← chosen.ensures) c.shift.ensures.0, c.shift.ensures.1)

@@ -20,13 +20,13 @@ loop-i-init c = (omega arith, search sized, search (in_array, arith))
 pub loop-i-preserved-then-not-has_area : goal.loop-i-preserved-then-not-has_area
 loop-i-preserved-then-not-has_area c =
     let l = c.loop-i in
-    let empty = not-true c.has_area.result c.if-not-has_area.true in
+    let empty = c.if-not-has_area.true in
     (omega arith, l.invariant.1, goes_on any_rect l.invariant.2 c.loop-i-test.true (rw (← c.has_area.ensures, empty)))
 
 pub loop-i-preserved : goal.loop-i-preserved
 loop-i-preserved c =
     let l = c.loop-i in
-    let full = not-false c.has_area.result c.if-not-has_area.false in (
+    let full = c.if-not-has_area.false in (
       omega arith,
       rw length-set l.invariant.1,
       goes_on any_rect l.invariant.2 c.loop-i-test.true (rw (← c.has_area.ensures, full) (sym (put_rest l.out l.count _ _ (omega arith)))),

@@ -13,4 +13,4 @@ use native.Mathlib.Omega.{arith}
 use Rattle.cutouts.proofs.with_area.Given as goal
 
 abbrev pub invariant-loop-i : goal.invariant-loop-i
-invariant-loop-i l = (l.count ≤ l.i) × (length l.out ≡ 16) × Rest (λ l. take l.count l.out ++ retain has_area_of l) l.at l.n (retain has_area_of (take l.n l.at)) l.i
+invariant-loop-i l = (l.count ≤ l.i) × (length l.out ≡ 16) × Rest (λ rs. take l.count l.out ++ retain has_area_of rs) l.at l.n (retain has_area_of (take l.n l.at)) l.i

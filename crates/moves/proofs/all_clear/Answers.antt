@@ -22,13 +22,13 @@ pub returns-then-not-clear : goal.returns-then-not-clear
 unfolding all_of
 returns-then-not-clear c =
     stops any_rect c.loop-j.invariant c.loop-j-test.true
-    (rw (← c.shifted.ensures, ← c.clear.ensures, not-true c.clear.result c.if-not-clear.true))
+    (rw (← c.shifted.ensures, ← c.clear.ensures, c.if-not-clear.true))
 
 pub loop-j-preserved : goal.loop-j-preserved
 unfolding all_of
 loop-j-preserved c =
     goes_on any_rect c.loop-j.invariant c.loop-j-test.true
-    (rw (← c.shifted.ensures, ← c.clear.ensures, not-false c.clear.result c.if-not-clear.false))
+    (rw (← c.shifted.ensures, ← c.clear.ensures, c.if-not-clear.false))
 
 pub returns : goal.returns
 unfolding all_of

@@ -14,7 +14,7 @@ loop-j-init c = ((omega arith, omega arith), (open_start c.args.a.now c.args.n, 
 pub loop-j-preserved : goal.loop-j-preserved
 loop-j-preserved c =
     let l = c.loop-j in
-    let k : length s.args.a.now ≡ 256 = c.requires.1.1 in
+    let k : length c.args.a.now ≡ 256 = c.requires.1.1 in
     let opened = open_step c.args.a.now c.args.n l.a l.j (l.j - 1) nan (omega arith) (omega arith) (omega arith) (omega arith) l.invariant.1.0 in
     ((omega arith, omega arith), (opened, length-set l.a l.j (get_or l.a (l.j - 1) nan) ∙ l.invariant.1.1))
 

@@ -10,23 +10,14 @@ pub insert-requires-2 : goal.insert-requires-2
 insert-requires-2 c = (omega arith, held c.insert.ensures)
 
 pub insert-requires-3 : goal.insert-requires-3
-insert-requires-3 c =
-    let s = entered c in
-    (omega (arith, s.pre), held (recount _ (omega arith) c.insert-2.ensures))
-
-pub overflow_add-n-3 : goal.overflow_add-n-3
-overflow_add-n-3 c = let s = entered (first (c)) in omega (arith, s.pre)
+insert-requires-3 c = (omega arith, held (recount _ (omega arith) c.insert-2.ensures))
 
 pub insert-requires-4 : goal.insert-requires-4
-insert-requires-4 c =
-    let s = entered (first c) in
-    (omega (arith, s.pre), held (recount _ (omega arith) c.insert-3.ensures))
+insert-requires-4 c = (omega arith, held (recount _ (omega arith) c.insert-3.ensures))
 
 pub returns : goal.returns
 returns c =
-    let two = c in
-    let one = first two in
-    let n = (entered one).args.n in
-    let a = recount (n + 2) (omega arith) (holds_next _ one.insert.ensures two.insert2.ensures) in
+    let n = c.args.n in
+    let a = recount (n + 2) (omega arith) (holds_next _ c.insert.ensures c.insert-2.ensures) in
     let b = recount (n + 3) (omega arith) (holds_next _ a c.insert-3.ensures) in
     recount (n + 4) (omega arith) (holds_next _ b c.insert-4.ensures)

@@ -21,7 +21,7 @@ pub loop-k-preserved-then-not-overlaps : goal.loop-k-preserved-then-not-overlaps
 unfolding flat_map moves_off
 loop-k-preserved-then-not-overlaps c =
     let l = c.loop-k in
-    let apart = not-true c.overlaps.result c.if-not-overlaps.true in
+    let apart = c.if-not-overlaps.true in
     (omega arith, l.invariant.1, goes_on any_rect l.invariant.2 c.loop-k-test.true (rw (← c.overlaps.ensures, apart)))
 
 pub insert_away-requires : goal.insert_away-requires
@@ -32,7 +32,7 @@ pub loop-k-preserved : goal.loop-k-preserved
 unfolding flat_map moves_off
 loop-k-preserved c =
     let l = c.loop-k in
-    let over = not-false c.overlaps.result c.if-not-overlaps.false in
+    let over = c.if-not-overlaps.false in
     let inserted = c.insert_away.ensures in
     (omega arith, held inserted, goes_on any_rect l.invariant.2 c.loop-k-test.true (rw (foldl-append, ← c.overlaps.ensures, over, inserted.offsets)))
 

@@ -12,6 +12,6 @@ use Rattle.moves.proofs.Inserts.{held}
 use Rattle.moves.proofs.insert_off.Given as goal
 
 abbrev pub invariant-loop-k : goal.invariant-loop-k
-invariant-loop-k l = let off : List (Float × Float) → List Rect → List (Float × Float) = λ moves l. foldl insert_of moves (flat_map (moves_off l.r) l) in
+invariant-loop-k l = let off : List (Float × Float) → List Rect → List (Float × Float) = λ moves rs. foldl insert_of moves (flat_map (moves_off l.r) rs) in
     (l.count ≤ l.n + 4 * l.k) × HoldMoves l.dxs l.dys l.lens l.count (moves_in l.dxs l.dys l.count)
     × Rest (off (moves_in l.dxs l.dys l.count)) l.holes.at l.holecount (off (moves_in l.initial.dxs l.initial.dys l.n) (cutout_list l.holes)) l.k

@@ -12,6 +12,6 @@ use Rattle.moves.proofs.Inserts.{holds_none, held}
 use Rattle.moves.proofs.search.Given as goal
 
 abbrev pub invariant-loop-i : goal.invariant-loop-i
-invariant-loop-i l = let candidates : List Rect → List (Float × Float) = λ l. candidates_of l (cutout_list l.holes) in
+invariant-loop-i l = let candidates : List Rect → List (Float × Float) = λ rs. candidates_of rs (cutout_list l.holes) in
     (l.n ≤ 64 * l.i) × HoldMoves l.dxs l.dys l.lens l.n (moves_in l.dxs l.dys l.n)
-    × Rest (λ l. foldl insert_of (moves_in l.dxs l.dys l.n) (candidates l)) l.original l.m (ordered_of (candidates (take l.m l.original))) l.i
+    × Rest (λ rs. foldl insert_of (moves_in l.dxs l.dys l.n) (candidates rs)) l.original l.m (ordered_of (candidates (take l.m l.original))) l.i

@@ -2,7 +2,7 @@
 use borrow.Author.Rules.{rules}
 use native.Mathlib.Omega.{arith}
 use mathlib.Core.Path.{◌≡◌, refl, ◌∙◌}
-use mathlib.Core.Logic.{⊎_elim, ⊎_map}
+use mathlib.Core.Logic.{◌⊎◌, inl, inr}
 use mathlib.Core.List.{foldl}
 use lib.ListN.{take, length, length-map}
 use Rattle.prelude.proofs.Booleans.{cond_yes, cond_no}
@@ -16,6 +16,7 @@ use Rattle.search.proofs.Steps.{first_start, later_start}
 use Prim.Native.Nat.{◌+◌, ◌-◌, ◌<◌, ◌≤◌, zero-le}
 use Rattle.std.proofs.lemmas.Grind.{common_steps}
 use Rattle.search.proofs.centered.Goals as goal
+use Rattle.search.proofs.centered.Goals.{then-j-gt0, else-j-gt0, then-within, else-loop-k-test, then-loop-k-test+then-width-best, else-within}
 
 pub loop-j-init : goal.loop-j-init
 unfolding width_at
@@ -29,25 +30,26 @@ pub loop-k-preserved : goal.loop-k-preserved
 unfolding width_at
 loop-k-preserved c = goes_on any_rect c.loop-k.invariant c.loop-k-test.true (rw c.narrow-width.ensures)
 
--- OLD pub loop-j-preserved : goal.loop-j-preserved
--- OLD unfolding width_at try_at
--- OLD loop-j-preserved c =
--- OLD     let n : length c.args.obstacles ≡ 19 = search sized in
--- OLD     let h : c.loop-j.j < length (bottoms c.args.obstacles) = simp length-map (omega arith) in (
--- OLD       omega arith,
--- OLD       refl,
--- OLD       fold_next _ _ _ _ _ h c.loop-j.invariant.2
--- OLD           (⊎_elim
--- OLD           (λ t. later_start bottom_of c.args.obstacles _ t.0.taken t.3)
--- OLD           (λ t. first_start bottom_of c.args.obstacles _ t.0.left t.1)
--- OLD           c.if-j-gt0.branch)
--- OLD           (⊎_elim
--- OLD           (λ t. cond_yes _ _ _ c.within.ensures t.0.taken
--- OLD           (t.6 ∙ t.5.ensures ∙ turn_is_full _ (narrow_below _ _ _ _) (λ width. (c.args.w ⊖ width) ⊘ k2) _ _ t.3.inv
--- OLD           (⊎_map (λ u. u.left) (λ u. u.2.taken) t.4.came)))
--- OLD           (λ t. cond_no _ _ _ c.within.ensures t.0.left t.1)
--- OLD           c.if-within.branch),
--- OLD     )
+pub loop-j-preserved : goal.loop-j-preserved
+unfolding width_at try_at
+loop-j-preserved c =
+    let n : length c.args.obstacles ≡ 19 = search sized in
+    let h : c.loop-j.j < length (bottoms c.args.obstacles) = simp length-map (omega arith) in (
+      omega arith,
+      refl,
+      fold_next _ _ _ _ _ h c.loop-j.invariant.2
+          (elim c.if-j-gt0.branch [
+            | then-j-gt0 w ↦ later_start bottom_of c.args.obstacles _ w.if-j-gt0.true w.y-is
+            | else-j-gt0 w ↦ first_start bottom_of c.args.obstacles _ w.if-j-gt0.false w.y-is
+          ])
+          (elim c.if-within.branch [
+            | then-within w ↦
+                cond_yes _ _ _ c.within.ensures w.if-within.true
+                (w.best-is ∙ w.better-best.ensures ∙ turn_is_full _ (narrow_below _ _ _ _) (λ width. (c.args.w ⊖ width) ⊘ k2) _ _ w.loop-k.invariant
+                (elim w.loop-k-test.branch [ else-loop-k-test u ↦ inl u.loop-k-test.false | then-loop-k-test+then-width-best u ↦ inr u.if-width-best.true ]))
+            | else-within w ↦ cond_no _ _ _ c.within.ensures w.if-within.false w.best-is
+          ]),
+    )
 
 pub returns : goal.returns
 unfolding width_at centered_of

@@ -1,13 +1,17 @@
 -- An obstacle before the picture or above it leaves it; else the numbers by the calls' contracts.
-use mathlib.Core.Logic.{⊎_elim}
 use borrow.Author.Rules.{rules}
 use Rattle.search.specs.Search.{narrow_side_of}
 use Rattle.std.proofs.lemmas.Grind.{common_steps}
 use Rattle.search.proofs.narrow_side.Goals as goal
+use Rattle.search.proofs.narrow_side.Goals.{then-r-x-via-then-r-x, then-r-x-via-else-r-x+then-r-y}
 
--- OLD pub returns-then-r-x : goal.returns-then-r-x
--- OLD unfolding narrow_side_of
--- OLD returns-then-r-x c = ⊎_elim (λ t. rw t.taken) (λ t. rw (t.0.left, t.2.taken)) c.then-r-x.branch
+pub returns-then-r-x : goal.returns-then-r-x
+unfolding narrow_side_of
+returns-then-r-x c =
+    elim c.then-r-x.branch [
+      | then-r-x-via-then-r-x w ↦ rw w.if-r-x.true
+      | then-r-x-via-else-r-x+then-r-y w ↦ rw (w.if-r-x.false, w.if-r-y.true)
+    ]
 
 pub returns : goal.returns
 unfolding narrow_side_of

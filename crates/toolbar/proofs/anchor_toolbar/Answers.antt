@@ -7,7 +7,7 @@ use Rattle.std.proofs.lemmas.Grind.{common_steps}
 use Rattle.toolbar.proofs.anchor_toolbar.Goals as goal
 
 pub clamp-top-requires : goal.clamp-top-requires
-clamp-top-requires c = rw c.max-bottom.ensures (le_trans _ k0 _ (neg_le_zero c.args.reusable-top c.requires.2) (zero_le_max _))
+clamp-top-requires c = rw c.max-bottom.ensures (le_trans _ k0 _ (neg_le_zero c.args.reusable_top c.requires.2) (zero_le_max _))
 
 pub returns : goal.returns
 unfolding anchor_toolbar_of

@@ -2,11 +2,9 @@
 use borrow.Author.Rules.{rules}
 use native.Mathlib.Omega.{arith}
 use mathlib.Core.Path.{◌≡◌, refl, sym, ap, ◌∙◌}
-use mathlib.Core.Logic.{⊎_elim}
 use mathlib.Core.List.{List}
 use native.Mathlib.Nat.{sub-zero}
 use lib.Seq.{length-take-le}
-use borrow.Author.Tests.{not-true, not-false}
 use Rattle.toolbar.proofs.Scan.{Scanned, scan_open, scan_met, scan_next, scan_end, scan_first}
 use lib.ListN.{take, length}
 use Rattle.geometry.specs.declared.Rect.{Rect}
@@ -15,11 +13,12 @@ use Rattle.toolbar.specs.Toolbar.{below_of, moved_bar, pass, pair_of}
 use Prim.Native.Nat.{suc, ◌+◌, ◌-◌, ◌≤◌, zero-le}
 use Rattle.std.proofs.lemmas.Grind.{common_steps}
 use Rattle.toolbar.proofs.pair.Goals as goal
+use Rattle.toolbar.proofs.pair.Goals.{then-blocked, else-blocked}
 
 pub loop-init : goal.loop-init
 unfolding pair_of
 loop-init c =
-    let k : length s.args.t8 ≡ 31 = c.well_formed.1.1.1.1.1.1.1.0.1.0.1 in
+    let k : length c.args.obstacles ≡ 31 = c.well_formed.1.1.1.1.1.1.1.0.1.0.1 in
     let e : length (take c.args.n c.args.obstacles) ≡ c.args.n = length-take-le _ _ (omega arith) in
     (zero-le, refl, omega arith, rw (c.new-bar.ensures, e, sub-zero))
 
@@ -55,20 +54,20 @@ loop-blocked-smaller c = omega (arith, scan_open c.loop-blocked.invariant c.loop
 pub loop-blocked-preserved : goal.loop-blocked-preserved
 loop-blocked-preserved c = scan_next _ c.loop-blocked.invariant c.loop-blocked-test.true c.overlaps-blocked.ensures
 
--- OLD pub loop-preserved : goal.loop-preserved
--- OLD loop-preserved c =
--- OLD     let l = c.loop in
--- OLD     let e : c.args.n + 1 - (l.counter + 1) ≡ c.args.n - l.counter = omega arith in (
--- OLD       omega arith,
--- OLD       refl,
--- OLD       l.invariant.2,
--- OLD       rw e (scan_met c.loop-met.invariant (not-false _ c.if-not-met.false)
--- OLD           ∙ ap (pass _ _ _ _ _)
--- OLD           (⊎_elim
--- OLD           (λ t. scan_met c.loop-blocked.invariant t.0.taken ∙ sym t.1.ensures ∙ sym t.2)
--- OLD           (λ t. scan_end c.loop-blocked.invariant c.loop-blocked-test.false t.0.left ∙ sym t.1)
--- OLD           c.if-blocked.branch)),
--- OLD     )
+pub loop-preserved : goal.loop-preserved
+loop-preserved c =
+    let l = c.loop in
+    let e : c.args.n + 1 - (l.counter + 1) ≡ c.args.n - l.counter = omega arith in (
+      omega arith,
+      refl,
+      l.invariant.2,
+      rw e (scan_met c.loop-met.invariant c.if-not-met.false
+          ∙ ap (pass _ _ _ _ _)
+          (elim c.if-blocked.branch [
+            | then-blocked w ↦ scan_met c.loop-blocked.invariant w.if-blocked.true ∙ sym w.below-bar.ensures ∙ sym w.bar-is
+            | else-blocked w ↦ scan_end c.loop-blocked.invariant c.loop-blocked-test.false w.if-blocked.false ∙ sym w.bar-is
+          ])),
+    )
 
 pub returns-after-loop : goal.returns-after-loop
 unfolding pass
@@ -78,4 +77,4 @@ returns-after-loop c =
     sym (rw e at l.invariant.3)
 
 pub returns-then-not-met : goal.returns-then-not-met
-returns-then-not-met c = sym (scan_end c.loop-met.invariant c.loop-met-test.false (not-true _ c.if-not-met.true))
+returns-then-not-met c = sym (scan_end c.loop-met.invariant c.loop-met-test.false c.if-not-met.true)

@@ -1,11 +1,9 @@
 use borrow.Author.Rules.{rules}
 use native.Mathlib.Omega.{arith}
 use mathlib.Core.Path.{◌≡◌, refl, sym, ap, ◌∙◌}
-use mathlib.Core.Logic.{⊎_elim}
 use mathlib.Core.List.{List}
 use native.Mathlib.Nat.{sub-zero}
 use lib.Seq.{length-take-le}
-use borrow.Author.Tests.{not-true, not-false}
 use Rattle.toolbar.proofs.Scan.{Scanned, scan_open, scan_met, scan_next, scan_end, scan_first}
 use lib.ListN.{take, length}
 use Rattle.geometry.specs.declared.Rect.{Rect}
@@ -15,8 +13,9 @@ use Prim.Native.Nat.{suc, ◌+◌, ◌-◌, ◌≤◌, zero-le}
 use Rattle.toolbar.proofs.pair.Given as goal
 
 abbrev pub invariant-loop-met : goal.invariant-loop-met
-invariant-loop-met l =    let all : List Rect = take l.n l.obstacles in
-    let after : Rect → Rect = λ l.c. pass l.left l.w l.h all (l.n - l.counter) (moved_bar l.left l.w l.h all l.bar l.c) in
+invariant-loop-met l =
+    let all : List Rect = take l.n l.obstacles in
+    let after : Rect → Rect = λ c. pass l.left l.w l.h all (l.n - l.counter) (moved_bar l.left l.w l.h all l.bar c) in
     Scanned (overlaps_of l.bar) after l.bar l.obstacles l.n (pair_of l.x l.left l.width l.top l.height l.w l.h all) l.i (after l.c) l.met
 
 abbrev pub decreases-loop-met : goal.decreases-loop-met
