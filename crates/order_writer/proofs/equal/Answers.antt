@@ -1,3 +1,4 @@
+-- The four tests of `equal_of`.
 use Rattle.std.proofs.Common.{rules}
 use Rattle.order_writer.specs.OrderBytes.{equal_of}
 use Rattle.order_writer.proofs.equal.Goals as goal
