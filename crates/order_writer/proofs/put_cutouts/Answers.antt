@@ -21,7 +21,7 @@ use Rattle.order_writer.proofs.put_cutouts.Goals as goal
 
 pub returns-then-n-eq0 : goal.returns-then-n-eq0
 unfolding flat_map stored
-returns-then-n-eq0 c = rw c.if-n-eq0.true (omega arith, refl)
+returns-then-n-eq0 c = rw c.if-n-eq0.true (record { next = omega arith; output = refl })
 
 pub put_field_head-requires : goal.put_field_head-requires
 unfolding flat_map stored
@@ -34,10 +34,9 @@ unfolding flat_map stored
 loop-i-init c = record { same = refl; rest = rw add-zero (search (in_array, arith)) }
 
 pub put_rect-requires : goal.put_rect-requires
-unfolding flat_map stored
 put_rect-requires c =
     let room : let a = c.args in a.at + (3 + 16 * a.c.count) ≤ length a.out.now = rw (ne_eqb _ 0 c.if-n-eq0.false) at c.requires.1 in
-    let longest = ap length c.put_field_head.ensures ∙ length_stored _ _ _ in
+    let longest : length c.put_field_head.new.out ≡ length c.args.out.now = ap length c.put_field_head.ensures ∙ length_stored _ _ _ in
     omega (arith, c.loop-i.invariant.same, longest, room, c.loop-i-test.true)
 
 pub loop-i-preserved : goal.loop-i-preserved

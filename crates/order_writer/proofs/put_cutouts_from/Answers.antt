@@ -22,7 +22,7 @@ use Rattle.order_writer.proofs.put_cutouts_from.Goals as goal
 
 pub returns-then-n-eq0 : goal.returns-then-n-eq0
 unfolding flat_map stored
-returns-then-n-eq0 c = rw (length_rects _, c.if-n-eq0.true) (omega arith, refl)
+returns-then-n-eq0 c = rw (length_rects _, c.if-n-eq0.true) (record { next = omega arith; output = refl })
 
 pub put_field_head-requires : goal.put_field_head-requires
 unfolding flat_map stored
@@ -35,10 +35,9 @@ unfolding flat_map stored
 loop-i-init c = begun rect_bytes _ _ _
 
 pub put_rect_from-requires : goal.put_rect_from-requires
-unfolding flat_map stored
 put_rect_from-requires c =
     let room : let a = c.args in a.at + (3 + 16 * (length a.numbers.now / 4)) ≤ length a.out.now = rw (ne_eqb _ 0 c.if-n-eq0.false) at c.requires.1 in
-    let longest = ap length c.put_field_head.ensures ∙ length_stored _ _ _ in
+    let longest : length c.put_field_head.new.out ≡ length c.args.out.now = ap length c.put_field_head.ensures ∙ length_stored _ _ _ in
     let inside = c.loop-i-test.true in
     (omega arith, omega (arith, c.loop-i.invariant.same, longest, room, inside))
 

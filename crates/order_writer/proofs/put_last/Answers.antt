@@ -18,35 +18,32 @@ use Rattle.std.proofs.lemmas.Grind.{common_steps}
 use Rattle.order_writer.proofs.put_last.Goals as goal
 
 pub put_place-place_end-requires : goal.put_place-place_end-requires
-put_place-place_end-requires c = omega (arith, lengths c, (entered c).requires.2)
+put_place-place_end-requires c =
+    let cuts : length (cutout_list c.args.cutouts) ≡ c.args.cutouts.count = length-take-le c.args.cutouts.count c.args.cutouts.at (search (in_array, arith)) in
+    let saves : length (map writable_of (saved_list c.args.preset)) ≡ c.args.preset.count = counted c.args.preset (search (in_array, arith)) in
+    let lengths = last_length c.args.preset (cutout_list c.args.cutouts) (map writable_of (saved_list c.args.preset)) c.untouched.ensures cuts saves in
+    omega (arith, lengths, c.requires.2)
 
 pub put_cutouts-cutouts_end-requires : goal.put_cutouts-cutouts_end-requires
 put_cutouts-cutouts_end-requires c =
-    let same = ap length c.put_place-place_end.ensures.output ∙ length_stored _ _ _ in
-    ((entered c).requires.1, omega (arith, lengths c, (entered c).requires.2, same, c.put_place-place_end.ensures.next))
+    let cuts : length (cutout_list c.args.cutouts) ≡ c.args.cutouts.count = length-take-le c.args.cutouts.count c.args.cutouts.at (search (in_array, arith)) in
+    let saves : length (map writable_of (saved_list c.args.preset)) ≡ c.args.preset.count = counted c.args.preset (search (in_array, arith)) in
+    let lengths = last_length c.args.preset (cutout_list c.args.cutouts) (map writable_of (saved_list c.args.preset)) c.untouched.ensures cuts saves in
+    let same : length c.put_place-place_end.new.out ≡ length c.args.out.now = ap length c.put_place-place_end.ensures.output ∙ length_stored _ _ _ in
+    (c.requires.1, omega (arith, lengths, c.requires.2, same, c.put_place-place_end.ensures.next))
 
 pub put_saved-requires : goal.put_saved-requires
 put_saved-requires c =
-    let same = ap length c.put_place-place_end.ensures.output ∙ length_stored _ _ _ in
-    let same-2 = ap length c.put_cutouts-cutouts_end.ensures.output ∙ length_stored _ _ _ in
-    ((entered c).requires.0, omega (arith, lengths c, (entered c).requires.2, same, same-2, c.put_place-place_end.ensures.next, c.put_cutouts-cutouts_end.ensures.next))
+    let cuts : length (cutout_list c.args.cutouts) ≡ c.args.cutouts.count = length-take-le c.args.cutouts.count c.args.cutouts.at (search (in_array, arith)) in
+    let saves : length (map writable_of (saved_list c.args.preset)) ≡ c.args.preset.count = counted c.args.preset (search (in_array, arith)) in
+    let lengths = last_length c.args.preset (cutout_list c.args.cutouts) (map writable_of (saved_list c.args.preset)) c.untouched.ensures cuts saves in
+    let same : length c.put_place-place_end.new.out ≡ length c.args.out.now = ap length c.put_place-place_end.ensures.output ∙ length_stored _ _ _ in
+    let same-2 : length c.put_cutouts-cutouts_end.new.out ≡ length c.put_place-place_end.new.out = ap length c.put_cutouts-cutouts_end.ensures.output ∙ length_stored _ _ _ in
+    (c.requires.0, omega (arith, lengths, c.requires.2, same, same-2, c.put_place-place_end.ensures.next, c.put_cutouts-cutouts_end.ensures.next))
 
 pub returns : goal.returns
 returns c =
-    let a = (entered c).args in
+    let cuts : length (cutout_list c.args.cutouts) ≡ c.args.cutouts.count = length-take-le c.args.cutouts.count c.args.cutouts.at (search (in_array, arith)) in
+    let a = c.args in
     last_run a.preset (cutout_list a.cutouts) (map writable_of (saved_list a.preset)) c.untouched.ensures a.out.now a.at
-    c.put_place-place_end.ensures.next c.put_place-place_end.ensures.output (rw (cuts c) c.put_cutouts-cutouts_end.ensures.next) c.put_cutouts-cutouts_end.ensures.output c.put_saved.ensures
-
--- LEFT OLD: module _ (c : tie.After-untouched) where
--- LEFT   abbrev entered : tie.Start
--- LEFT   entered = c.before.before.before.before.before
--- LEFT
--- LEFT   cuts : length (cutout_list entered.args.cutouts) ≡ entered.args.cutouts.count
--- LEFT   cuts = length-take-le entered.args.cutouts.count entered.args.cutouts.at (search (in_array, arith))
--- LEFT
--- LEFT   saves : length (map writable_of (saved_list entered.args.preset)) ≡ entered.args.preset.count
--- LEFT   saves = counted entered.args.preset (search (in_array, arith))
--- LEFT
--- LEFT   lengths : length (last_fields entered.args.preset (cutout_list entered.args.cutouts) (map writable_of (saved_list entered.args.preset)))
--- LEFT       ≡ cond c.untouched.result 0 15 + (rects_length entered.args.cutouts.count + rects_length entered.args.preset.count)
--- LEFT   lengths = last_length entered.args.preset (cutout_list entered.args.cutouts) (map writable_of (saved_list entered.args.preset)) c.untouched.ensures cuts saves
+    c.put_place-place_end.ensures.next c.put_place-place_end.ensures.output (rw cuts c.put_cutouts-cutouts_end.ensures.next) c.put_cutouts-cutouts_end.ensures.output c.put_saved.ensures

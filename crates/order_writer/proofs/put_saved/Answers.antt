@@ -35,10 +35,9 @@ unfolding flat_map stored
 loop-i-init c = record { same = refl; rest = rw add-zero (search (in_array, arith)) }
 
 pub put_rect-requires : goal.put_rect-requires
-unfolding flat_map stored
 put_rect-requires c =
     let room : let a = c.args in a.at + (3 + 16 * a.n) ≤ length a.out.now = rw (ne_eqb _ 0 c.if-n-eq0.false) at c.requires.1 in
-    let longest = ap length c.put_field_head.ensures ∙ length_stored _ _ _ in
+    let longest : length c.put_field_head.new.out ≡ length c.args.out.now = ap length c.put_field_head.ensures ∙ length_stored _ _ _ in
     omega (arith, c.loop-i.invariant.same, longest, room, c.loop-i-test.true)
 
 pub loop-i-preserved : goal.loop-i-preserved
@@ -53,9 +52,9 @@ returns c =
     let ended = c.loop-i in
     let a = c.args in
     let n = a.n in
-    let list = map writable_of (take n a.t3) in
-    let long : length list ≡ n = length-map (take n a.t3) writable_of ∙ length-take-le n a.t3 ended.invariant.rest.size in
+    let list = map writable_of (take n a.elements) in
+    let long : length list ≡ n = length-map (take n a.elements) writable_of ∙ length-take-le n a.elements ended.invariant.rest.size in
     let absent : is_empty list ≡ false = rw long (ne_eqb n 0 c.if-n-eq0.false) in
-    let items = rw (flat_map_map writable_of rect_bytes (take n a.t3)) at (runs_out ended.invariant.rest c.loop-i-test.false) in
+    let items = rw (flat_map_map writable_of rect_bytes (take n a.elements)) at (runs_out ended.invariant.rest c.loop-i-test.false) in
     put_in (is_empty list) 7 (flat_map rect_bytes list) a.out.now a.at absent
     (rw (length_items rect_bytes 16 length_rect list, long) c.put_field_head.ensures) items

@@ -36,10 +36,9 @@ unfolding flat_map stored
 loop-i-init c = begun (λ r. rect_bytes (writable_of r)) _ _ _
 
 pub put_writable_from-requires : goal.put_writable_from-requires
-unfolding flat_map stored
 put_writable_from-requires c =
     let room : let a = c.args in a.at + (3 + 16 * (length a.numbers.now / 4)) ≤ length a.out.now = rw (ne_eqb _ 0 c.if-n-eq0.false) at c.requires.1 in
-    let longest = ap length c.put_field_head.ensures ∙ length_stored _ _ _ in
+    let longest : length c.put_field_head.new.out ≡ length c.args.out.now = ap length c.put_field_head.ensures ∙ length_stored _ _ _ in
     let inside = c.loop-i-test.true in
     (omega arith, omega (arith, c.loop-i.invariant.same, longest, room, inside))
 

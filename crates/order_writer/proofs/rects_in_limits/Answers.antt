@@ -22,7 +22,7 @@ returns-then-not-rect_in_limits c =
     let test = c.rect_in_limits in
     let inside = c.loop-i-test.true in
     stops any_rect c.loop-i.invariant inside
-    (rw (rects_at _ _ inside, ← c.rect_from.ensures, ← test.ensures, not-true test.result c.if-not-rect_in_limits.true))
+    (rw (rects_at _ _ inside, ← c.rect_from.ensures, ← test.ensures, c.if-not-rect_in_limits.true))
 
 pub loop-i-preserved : goal.loop-i-preserved
 unfolding all_of
@@ -30,7 +30,7 @@ loop-i-preserved c =
     let test = c.rect_in_limits in
     let inside = c.loop-i-test.true in
     goes_on any_rect c.loop-i.invariant inside
-    (rw (rects_at _ _ inside, ← c.rect_from.ensures, ← test.ensures, not-false test.result c.if-not-rect_in_limits.false))
+    (rw (rects_at _ _ inside, ← c.rect_from.ensures, ← test.ensures, c.if-not-rect_in_limits.false))
 
 pub returns : goal.returns
 unfolding all_of

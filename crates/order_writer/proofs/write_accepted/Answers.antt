@@ -19,29 +19,30 @@ use Rattle.order_writer.proofs.write_accepted.Goals as goal
 pub returns-then-out-length : goal.returns-then-out-length
 returns-then-out-length c =
     let a = c.args in
-    too_small (order_bytes a.s) a.out.now c.order_length-length.ensures.0 c.if-out-length.true
+    let e = too_small (order_bytes a.s) a.out.now c.order_length-length.ensures.0 c.if-out-length.true in
+    record { answer = e.0; output = e.1 }
 
 pub put_first-at-requires : goal.put_first-at-requires
-put_first-at-requires c = omega (arith, lengths c, c.order_length-length.ensures.0, c.if-out-length.false)
+put_first-at-requires c =
+    let s = c.args.s in
+    let bytes = as_written s (settings_fit s c.well_formed.0 c.requires) in
+    let lengths = ap length bytes ∙ length-append (first_fields s) _ in
+    omega (arith, lengths, c.order_length-length.ensures.0, c.if-out-length.false)
 
 pub put_last-requires : goal.put_last-requires
 put_last-requires c =
-    let few = few_settings c.args.s c.requires in
-    let same = ap length c.put_first-at.ensures.output ∙ length_stored _ _ _ in
-    (few.0, few.1, omega (arith, lengths c, c.order_length-length.ensures.0, c.if-out-length.false, c.put_first-at.ensures.next, same))
+    let s = c.args.s in
+    let bytes = as_written s (settings_fit s c.well_formed.0 c.requires) in
+    let lengths = ap length bytes ∙ length-append (first_fields s) _ in
+    let few = few_settings s c.requires in
+    let same : length c.put_first-at.new.out ≡ length c.args.out.now = ap length c.put_first-at.ensures.output ∙ length_stored _ _ _ in
+    (few.0, few.1, omega (arith, lengths, c.order_length-length.ensures.0, c.if-out-length.false, c.put_first-at.ensures.next, same))
 
 pub returns : goal.returns
 returns c =
+    let s = c.args.s in
+    let bytes = as_written s (settings_fit s c.well_formed.0 c.requires) in
     let a = c.args in
     let run = then _ _ _ _ _ c.put_first-at.ensures.output c.put_last.ensures (omega (arith, c.put_first-at.ensures.next)) in
-    has_room (order_bytes a.s) a.out.now c.order_length-length.ensures.0 c.if-out-length.false (rw (bytes c) run)
-
--- LEFT OLD: -- the bytes, and their length in two parts
--- LEFT module _ (start : tie.Start) where
--- LEFT   bytes : let s = start.args.s in order_bytes s ≡ first_fields s ++ last_fields s.preset (cutout_list s.cutouts) (map writable_of (saved_list s.preset))
--- LEFT   bytes =
--- LEFT       let s = start.args.s in
--- LEFT       as_written s (settings_fit s start.well-formed.0 start.requires)
--- LEFT
--- LEFT   lengths : let s = start.args.s in length (order_bytes s) ≡ length (first_fields s) + length (last_fields s.preset (cutout_list s.cutouts) (map writable_of (saved_list s.preset)))
--- LEFT   lengths = ap length bytes ∙ length-append (first_fields start.args.s) _
+    let e = has_room (order_bytes a.s) a.out.now c.order_length-length.ensures.0 c.if-out-length.false (rw bytes run) in
+    record { answer = e.0; output = e.1 }

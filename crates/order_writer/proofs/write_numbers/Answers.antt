@@ -19,94 +19,93 @@ use Rattle.order_writer.proofs.write_numbers.Goals as goal
 
 pub returns-then-fault-ne0 : goal.returns-then-fault-ne0
 returns-then-fault-ne0 c =
-    let fault : let a = c.args in c.first_fault-fault.result ≡ first_fault_of a.mode a.fit (settings_from a.numbers.now a.mode a.fit [] []) = rw (← c.settings_from-s.ensures) c.first_fault-fault.ensures in
     let a = c.args in
+    let fault : c.first_fault-fault.result ≡ first_fault_of a.mode a.fit (settings_from a.numbers.now a.mode a.fit [] []) = rw (← c.settings_from-s.ensures) c.first_fault-fault.ensures in
     let e = rw (← fault) at (field_fault a.numbers.now a.mode a.fit a.cutouts.now a.saved.now (λ z. c.if-fault-ne0.true (fault ∙ z))) in
-    record {
-      answer = rw e;
-      output = rw e;
-    }
+    record { answer = rw e; output = rw e }
 
 pub returns-then-listed-ne0 : goal.returns-then-listed-ne0
 returns-then-listed-ne0 c =
-    let fault : let a = c.args in c.first_fault-fault.result ≡ first_fault_of a.mode a.fit (settings_from a.numbers.now a.mode a.fit [] []) = rw (← c.settings_from-s.ensures) c.first_fault-fault.ensures in
     let a = c.args in
-    let none = sym fault ∙ c.if-fault-ne0.false in
+    let fault : c.first_fault-fault.result ≡ first_fault_of a.mode a.fit (settings_from a.numbers.now a.mode a.fit [] []) = rw (← c.settings_from-s.ensures) c.first_fault-fault.ensures in
+    let no_field : first_fault_of a.mode a.fit (settings_from a.numbers.now a.mode a.fit [] []) ≡ 0 = sym fault ∙ c.if-fault-ne0.false in
     let e = rw (← c.lists_fault-listed.ensures) at
-    (list_fault a.numbers.now a.mode a.fit a.cutouts.now a.saved.now none (λ z. c.if-listed-ne0.true (c.lists_fault-listed.ensures ∙ z))) in
-    (rw e, rw e)
+    (list_fault a.numbers.now a.mode a.fit a.cutouts.now a.saved.now no_field (λ z. c.if-listed-ne0.true (c.lists_fault-listed.ensures ∙ z))) in
+    record { answer = rw e; output = rw e }
 
 -- ---- neither has a fault
-module _ (c : tie.Else2) where
-  abbrev c : tie.After-first-fault
-  c = c
-
-  abbrev given : Settings
-  given = let a = c.args in settings_from a.numbers.now a.mode a.fit a.cutouts.now a.saved.now
-
-  no_field : let a = c.args in first_fault_of a.mode a.fit (settings_from a.numbers.now a.mode a.fit [] []) ≡ 0
-  no_field = sym fault ∙ c.if-fault-ne0.false
-
-  no_list : let a = c.args in lists_fault_of a.cutouts.now a.saved.now ≡ 0
-  no_list = sym c.lists_fault-listed.ensures ∙ c.if-listed-ne0.false
-
-  few : let a = c.args in (length a.cutouts.now / 4 ≤ 16) × (length a.saved.now / 4 ≤ 32)
-  few = let a = c.args in few_lists a.numbers.now a.mode a.fit a.cutouts.now a.saved.now no_list
-
-  tested : let a = c.args in tested_of a.mode a.fit given ≡ accepted given
-  tested = let a = c.args in no_list_fault a.numbers.now a.mode a.fit a.cutouts.now a.saved.now no_field no_list
-
 pub order_length-requires : goal.order_length-requires
 order_length-requires c =
-    let made = (found c).before in
-    let a = (entered (found c)).args in
-    rw made.settings-from.ensures (no_fault a.mode a.fit _ (no_field c)).1
+    let a = c.args in
+    let fault : c.first_fault-fault.result ≡ first_fault_of a.mode a.fit (settings_from a.numbers.now a.mode a.fit [] []) = rw (← c.settings_from-s.ensures) c.first_fault-fault.ensures in
+    let no_field : first_fault_of a.mode a.fit (settings_from a.numbers.now a.mode a.fit [] []) ≡ 0 = sym fault ∙ c.if-fault-ne0.false in
+    rw c.settings_from-s.ensures (no_fault a.mode a.fit _ no_field).1
 
 pub rects_length-requires : goal.rects_length-requires
-rects_length-requires c = omega (arith, (few c).0)
+rects_length-requires c =
+    let a = c.args in
+    let no_list : lists_fault_of a.cutouts.now a.saved.now ≡ 0 = sym c.lists_fault-listed.ensures ∙ c.if-listed-ne0.false in
+    let few = few_lists a.numbers.now a.mode a.fit a.cutouts.now a.saved.now no_list in
+    omega (arith, few.0)
 
 pub overflow_add-length : goal.overflow_add-length
 overflow_add-length c = omega (arith, c.order_length.ensures.1, c.rects_length.ensures.1)
 
 pub rects_length-requires-2 : goal.rects_length-requires-2
-rects_length-requires-2 c = (few c).1
+rects_length-requires-2 c =
+    let a = c.args in
+    let no_list : lists_fault_of a.cutouts.now a.saved.now ≡ 0 = sym c.lists_fault-listed.ensures ∙ c.if-listed-ne0.false in
+    let few = few_lists a.numbers.now a.mode a.fit a.cutouts.now a.saved.now no_list in
+    few.1
 
 pub overflow_add-length-2 : goal.overflow_add-length-2
 overflow_add-length-2 c = omega (arith, c.order_length.ensures.1, c.rects_length.ensures.1, c.rects_length-2.ensures.1)
 
 pub returns-then-out-length : goal.returns-then-out-length
 returns-then-out-length c =
-    let a = (entered (found c)).args in
-    rw (tested c) (too_small (order_bytes (given c)) a.out.now (sized c) c.if-out-length.true)
+    let a = c.args in
+    let fault : c.first_fault-fault.result ≡ first_fault_of a.mode a.fit (settings_from a.numbers.now a.mode a.fit [] []) = rw (← c.settings_from-s.ensures) c.first_fault-fault.ensures in
+    let no_field : first_fault_of a.mode a.fit (settings_from a.numbers.now a.mode a.fit [] []) ≡ 0 = sym fault ∙ c.if-fault-ne0.false in
+    let no_list : lists_fault_of a.cutouts.now a.saved.now ≡ 0 = sym c.lists_fault-listed.ensures ∙ c.if-listed-ne0.false in
+    let given = settings_from a.numbers.now a.mode a.fit a.cutouts.now a.saved.now in
+    let tested : tested_of a.mode a.fit given ≡ accepted given = no_list_fault a.numbers.now a.mode a.fit a.cutouts.now a.saved.now no_field no_list in
+    let sized : c.order_length.result + c.rects_length.result + c.rects_length-2.result ≡ length (order_bytes given) =
+    sum_of a.numbers.now a.mode a.fit a.cutouts.now a.saved.now c.settings_from-s.ensures c.order_length.ensures.0 c.rects_length.ensures.0 c.rects_length-2.ensures.0 in
+    let e = too_small (order_bytes given) a.out.now sized c.if-out-length.true in
+    record { answer = rw tested e.0; output = rw tested e.1 }
 
 pub put_first-at-requires : goal.put_first-at-requires
 put_first-at-requires c =
-    let parts : let a = (entered (found c)).args in let s = (found c).before.settings-from.result in
-    length (order_bytes (given c)) ≡ length (first_fields s) + length (last_fields s.preset (rects_in a.cutouts.now) (map writable_of (rects_in a.saved.now))) = let a = (entered (found c)).args in
-    parts_of a.numbers.now a.mode a.fit a.cutouts.now a.saved.now (found c).before.settings-from.ensures in
-    omega (arith, parts, sized c, c.if-out-length.false)
+    let a = c.args in
+    let given = settings_from a.numbers.now a.mode a.fit a.cutouts.now a.saved.now in
+    let sized : c.order_length.result + c.rects_length.result + c.rects_length-2.result ≡ length (order_bytes given) =
+    sum_of a.numbers.now a.mode a.fit a.cutouts.now a.saved.now c.settings_from-s.ensures c.order_length.ensures.0 c.rects_length.ensures.0 c.rects_length-2.ensures.0 in
+    let parts = parts_of a.numbers.now a.mode a.fit a.cutouts.now a.saved.now c.settings_from-s.ensures in
+    omega (arith, parts, sized, c.if-out-length.false)
 
 pub put_last_from-requires : goal.put_last_from-requires
 put_last_from-requires c =
-    let parts : let a = (entered (found c)).args in let s = (found c).before.settings-from.result in
-    length (order_bytes (given c)) ≡ length (first_fields s) + length (last_fields s.preset (rects_in a.cutouts.now) (map writable_of (rects_in a.saved.now))) = let a = (entered (found c)).args in
-    parts_of a.numbers.now a.mode a.fit a.cutouts.now a.saved.now (found c).before.settings-from.ensures in
-    let same = ap length c.put_first-at.ensures.output ∙ length_stored _ _ _ in
-    ((few c).0, (few c).1, omega (arith, parts, sized c, c.if-out-length.false, c.put_first-at.ensures.next, same))
+    let a = c.args in
+    let given = settings_from a.numbers.now a.mode a.fit a.cutouts.now a.saved.now in
+    let no_list : lists_fault_of a.cutouts.now a.saved.now ≡ 0 = sym c.lists_fault-listed.ensures ∙ c.if-listed-ne0.false in
+    let few = few_lists a.numbers.now a.mode a.fit a.cutouts.now a.saved.now no_list in
+    let sized : c.order_length.result + c.rects_length.result + c.rects_length-2.result ≡ length (order_bytes given) =
+    sum_of a.numbers.now a.mode a.fit a.cutouts.now a.saved.now c.settings_from-s.ensures c.order_length.ensures.0 c.rects_length.ensures.0 c.rects_length-2.ensures.0 in
+    let parts = parts_of a.numbers.now a.mode a.fit a.cutouts.now a.saved.now c.settings_from-s.ensures in
+    let same : length c.put_first-at.new.out ≡ length c.args.out.now = ap length c.put_first-at.ensures.output ∙ length_stored _ _ _ in
+    (few.0, few.1, omega (arith, parts, sized, c.if-out-length.false, c.put_first-at.ensures.next, same))
 
 pub returns : goal.returns
 returns c =
-    let a = (entered (found c)).args in
-    let made = (found c).before in
-    let run = numbers_run a.numbers.now a.mode a.fit a.cutouts.now a.saved.now made.settings-from.ensures a.out.now
+    let a = c.args in
+    let fault : c.first_fault-fault.result ≡ first_fault_of a.mode a.fit (settings_from a.numbers.now a.mode a.fit [] []) = rw (← c.settings_from-s.ensures) c.first_fault-fault.ensures in
+    let no_field : first_fault_of a.mode a.fit (settings_from a.numbers.now a.mode a.fit [] []) ≡ 0 = sym fault ∙ c.if-fault-ne0.false in
+    let no_list : lists_fault_of a.cutouts.now a.saved.now ≡ 0 = sym c.lists_fault-listed.ensures ∙ c.if-listed-ne0.false in
+    let given = settings_from a.numbers.now a.mode a.fit a.cutouts.now a.saved.now in
+    let tested : tested_of a.mode a.fit given ≡ accepted given = no_list_fault a.numbers.now a.mode a.fit a.cutouts.now a.saved.now no_field no_list in
+    let sized : c.order_length.result + c.rects_length.result + c.rects_length-2.result ≡ length (order_bytes given) =
+    sum_of a.numbers.now a.mode a.fit a.cutouts.now a.saved.now c.settings_from-s.ensures c.order_length.ensures.0 c.rects_length.ensures.0 c.rects_length-2.ensures.0 in
+    let run = numbers_run a.numbers.now a.mode a.fit a.cutouts.now a.saved.now c.settings_from-s.ensures a.out.now
     c.put_first-at.ensures.next c.put_first-at.ensures.output c.put_last_from.ensures in
-    rw (tested c) (has_room (order_bytes (given c)) a.out.now (sized c) c.if-out-length.false run)
-
--- LEFT OLD: sized : (c : tie.After-rects-length2) →
--- LEFT     c.before.before.order-length.result + c.before.rects-length.result + c.rects-length2.result ≡ length (order_bytes (given c.before.before.before))
--- LEFT sized c =
--- LEFT     let counted = c.before.before in
--- LEFT     let first = found counted.before in
--- LEFT     let a = (entered first).args in
--- LEFT     sum_of a.numbers.now a.mode a.fit a.cutouts.now a.saved.now first.before.settings-from.ensures
--- LEFT     counted.order-length.ensures.0 c.before.rects-length.ensures.0 c.rects-length2.ensures.0
+    let e = has_room (order_bytes given) a.out.now sized c.if-out-length.false run in
+    record { answer = rw tested e.0; output = rw tested e.1 }

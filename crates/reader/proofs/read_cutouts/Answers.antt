@@ -20,11 +20,11 @@ unfolding read_cutouts_of must
 returns-then-not-cutouts_in_limits c =
     let test = c.cutouts_in_limits in
     c.refuse-then-not-cutouts_in_limits.ensures
-    ∙ rw (eq-eqb _ _ c.if-value-ne0.false, le-leb _ _ c.if-count-gt16.false, ← c.cutout_rects-at.ensures, ← test.ensures, not-true test.result c.if-not-cutouts_in_limits.true)
+    ∙ rw (eq-eqb _ _ c.if-value-ne0.false, le-leb _ _ c.if-count-gt16.false, ← c.cutout_rects-at.ensures, ← test.ensures, c.if-not-cutouts_in_limits.true)
 
 pub returns : goal.returns
 unfolding read_cutouts_of must
 returns c =
     let test = c.cutouts_in_limits in
     c.accept.ensures
-    ∙ rw (eq-eqb _ _ c.if-value-ne0.false, le-leb _ _ c.if-count-gt16.false, ← c.cutout_rects-at.ensures, ← test.ensures, not-false test.result c.if-not-cutouts_in_limits.false)
+    ∙ rw (eq-eqb _ _ c.if-value-ne0.false, le-leb _ _ c.if-count-gt16.false, ← c.cutout_rects-at.ensures, ← test.ensures, c.if-not-cutouts_in_limits.false)

@@ -42,10 +42,10 @@ pub returns-then-not-screen : goal.returns-then-not-screen
 unfolding must
 returns-then-not-screen c =
     let last = c.loop-at in
-    c.refuse-then-not-screen.ensures ∙ (rw (not-true last.screen c.if-not-screen.true) at (at_end last.invariant.1 c.loop-at-test.false))
+    c.refuse-then-not-screen.ensures ∙ (rw (c.if-not-screen.true) at (at_end last.invariant.1 c.loop-at-test.false))
 
 pub returns : goal.returns
 unfolding must
 returns c =
     let last = c.loop-at in
-    c.accept.ensures ∙ (rw (not-false last.screen c.if-not-screen.false) at (at_end last.invariant.1 c.loop-at-test.false))
+    c.accept.ensures ∙ (rw (c.if-not-screen.false) at (at_end last.invariant.1 c.loop-at-test.false))

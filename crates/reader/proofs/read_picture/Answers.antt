@@ -16,11 +16,11 @@ unfolding read_picture_of must
 returns-then-not-rect_in_limits c =
     let test = c.rect_in_limits in
     c.refuse-then-not-rect_in_limits.ensures
-    ∙ rw (eq-eqb _ _ c.if-value-ne16.false, ← c.rect_at-picture.ensures, ← test.ensures, not-true test.result c.if-not-rect_in_limits.true)
+    ∙ rw (eq-eqb _ _ c.if-value-ne16.false, ← c.rect_at-picture.ensures, ← test.ensures, c.if-not-rect_in_limits.true)
 
 pub returns : goal.returns
 unfolding read_picture_of must
 returns c =
     let test = c.rect_in_limits in
     c.accept.ensures
-    ∙ rw (eq-eqb _ _ c.if-value-ne16.false, ← c.rect_at-picture.ensures, ← test.ensures, not-false test.result c.if-not-rect_in_limits.false)
+    ∙ rw (eq-eqb _ _ c.if-value-ne16.false, ← c.rect_at-picture.ensures, ← test.ensures, c.if-not-rect_in_limits.false)

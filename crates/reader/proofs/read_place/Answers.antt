@@ -22,7 +22,7 @@ returns-then-not-place_in_limits c =
       ← c.number_at.ensures,
       ← c.number_at-2.ensures,
       ← test.ensures,
-      not-true test.result c.if-not-place_in_limits.true,
+      c.if-not-place_in_limits.true,
     )
 
 pub returns : goal.returns
@@ -36,5 +36,5 @@ returns c =
       ← c.number_at.ensures,
       ← c.number_at-2.ensures,
       ← test.ensures,
-      not-false test.result c.if-not-place_in_limits.false,
+      c.if-not-place_in_limits.false,
     )

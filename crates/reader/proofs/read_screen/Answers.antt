@@ -16,7 +16,7 @@ unfolding read_screen_of must
 returns-then-not-screen_in_limits c =
     let test = c.screen_in_limits in
     c.refuse-then-not-screen_in_limits.ensures
-    ∙ rw (eq-eqb _ _ c.if-value-ne8.false, ← c.number_at-w.ensures, ← c.number_at-h.ensures, ← test.ensures, not-true test.result c.if-not-screen_in_limits.true)
+    ∙ rw (eq-eqb _ _ c.if-value-ne8.false, ← c.number_at-w.ensures, ← c.number_at-h.ensures, ← test.ensures, c.if-not-screen_in_limits.true)
 
 pub returns : goal.returns
 unfolding read_screen_of must
@@ -28,6 +28,6 @@ returns c =
       ← c.number_at-w.ensures,
       ← c.number_at-h.ensures,
       ← test.ensures,
-      not-false test.result c.if-not-screen_in_limits.false,
+      c.if-not-screen_in_limits.false,
       ← c.screen_picture-picture.ensures,
     )

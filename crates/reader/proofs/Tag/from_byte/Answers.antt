@@ -31,7 +31,7 @@ returns-in-6 c = rw c.in-6.is
 pub returns-in_default : goal.returns-in_default
 unfolding from_byte_of
 returns-in_default c =
-    let r = c.in_default.rest in rw (
+    let r = c.in_default.in_default-own.rest in rw (
       ne_eqb _ _ r.0.0.0.0.0.1,
       ne_eqb _ _ r.0.0.0.0.1,
       ne_eqb _ _ r.0.0.0.1,
