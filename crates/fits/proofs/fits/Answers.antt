@@ -19,7 +19,7 @@ pub returns-then-not-lies_clear : goal.returns-then-not-lies_clear
 unfolding fits_of all_fit
 returns-then-not-lies_clear c =
     let clear = c.lies_clear in
-    rw (← c.inputs-inputs.ensures.0) (stops (from_stick any_rect) c.loop-i.invariant c.loop-i-test.true (rw (← clear.ensures, not-true clear.result c.if-not-lies_clear.true)))
+    rw (← c.inputs-inputs.ensures.0) (stops (from_stick any_rect) c.loop-i.invariant c.loop-i-test.true (rw (← clear.ensures, c.if-not-lies_clear.true)))
 
 pub returns-then-not-separate_after : goal.returns-then-not-separate_after
 unfolding fits_of all_fit
@@ -27,7 +27,7 @@ returns-then-not-separate_after c =
     let clear = c.lies_clear in
     let apart = c.separate_after in
     rw (← c.inputs-inputs.ensures.0) (stops (from_stick any_rect) c.loop-i.invariant c.loop-i-test.true
-    (rw (← clear.ensures, not-false clear.result c.if-not-lies_clear.false, ← apart.ensures, not-true apart.result c.if-not-separate_after.true)))
+    (rw (← clear.ensures, c.if-not-lies_clear.false, ← apart.ensures, c.if-not-separate_after.true)))
 
 pub loop-i-preserved : goal.loop-i-preserved
 unfolding fits_of all_fit
@@ -35,7 +35,7 @@ loop-i-preserved c =
     let clear = c.lies_clear in
     let apart = c.separate_after in
     goes_on (from_stick any_rect) c.loop-i.invariant c.loop-i-test.true
-    (rw (← clear.ensures, not-false clear.result c.if-not-lies_clear.false, ← apart.ensures, not-false apart.result c.if-not-separate_after.false))
+    (rw (← clear.ensures, c.if-not-lies_clear.false, ← apart.ensures, c.if-not-separate_after.false))
 
 pub returns : goal.returns
 unfolding fits_of all_fit

@@ -15,13 +15,13 @@ pub returns-then-not-separate : goal.returns-then-not-separate
 unfolding all_of
 returns-then-not-separate c =
     let s = c.separate in
-    stops (from_stick any_rect) c.loop-j.invariant c.loop-j-test.true (rw (← s.ensures, not-true s.result c.if-not-separate.true))
+    stops (from_stick any_rect) c.loop-j.invariant c.loop-j-test.true (rw (← s.ensures, c.if-not-separate.true))
 
 pub loop-j-preserved : goal.loop-j-preserved
 unfolding all_of
 loop-j-preserved c =
     let s = c.separate in
-    goes_on (from_stick any_rect) c.loop-j.invariant c.loop-j-test.true (rw (← s.ensures, not-false s.result c.if-not-separate.false))
+    goes_on (from_stick any_rect) c.loop-j.invariant c.loop-j-test.true (rw (← s.ensures, c.if-not-separate.false))
 
 pub returns : goal.returns
 unfolding all_of
