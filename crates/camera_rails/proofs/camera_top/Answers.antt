@@ -15,8 +15,8 @@ unfolding camera_top_of
 loop-i-preserved c =
     let e = c.in_rail.ensures in
     elim c.if-in_rail.branch [
-        then-in_rail w ↦ goes_on any_rect c.loop-i.invariant c.loop-i-test.true (rw (w.top-is, w.min-top.ensures, ← e, w.if-in_rail.true))
-        | else-in_rail w ↦ goes_on any_rect c.loop-i.invariant c.loop-i-test.true (rw (w.top-is, ← e, w.if-in_rail.false))
+      | then-in_rail w ↦ goes_on any_rect c.loop-i.invariant c.loop-i-test.true (rw (w.top-is, w.min-top.ensures, ← e, w.if-in_rail.true))
+      | else-in_rail w ↦ goes_on any_rect c.loop-i.invariant c.loop-i-test.true (rw (w.top-is, ← e, w.if-in_rail.false))
     ]
 
 pub returns : goal.returns

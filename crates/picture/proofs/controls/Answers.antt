@@ -26,7 +26,7 @@ row_made : (w h : Float) (game : Rect) (analog psp : Bool) (holes : List Rect) {
     → wide ≡ clamp_of game.x k0 w → left ≡ new_of k0 k0 wide h → x ≡ clamp_of (game.x ⊕ game.w) k0 w → right ≡ new_of x k0 (w ⊖ x) h
     → row ≡ horizontal_of base w band analog psp
     → GivesFirst w h game analog psp holes
-      (row ∷ vertical_of base (new_of k0 bottom (w ⊘ k2) band.h) (new_of (w ⊘ k2) bottom (w ⊘ k2) band.h) analog ∷ vertical_of base left right analog ∷ [])
+    (row ∷ vertical_of base (new_of k0 bottom (w ⊘ k2) band.h) (new_of (w ⊘ k2) bottom (w ⊘ k2) band.h) analog ∷ vertical_of base left right analog ∷ [])
 unfolding controls_of
 row_made w h game analog psp holes e1 e2 e3 e4 e5 e6 e7 e8 = record { is = rw (e8, e7, e6, e5, e4, e3, e2, e1) refl }
 

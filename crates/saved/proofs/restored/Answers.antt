@@ -27,11 +27,11 @@ loop-i-preserved c =
     let rs = take a.n a.saved in
     let all : length rs ≡ a.n = length-take-le a.n a.saved (omega arith) in
     elim c.if-i-n.branch [
-        then-i-n w ↦ rw w.at-is (does _ loop.invariant (omega arith)
-            (restored_turn a.w a.h loop.i rs a.elements.at loop.at any_rect (omega arith) (omega arith) loop.invariant.is
-                (rw (get_or-take a.n a.saved loop.i any_rect w.if-i-n.true) w.restore.ensures)))
-        | else-i-n w ↦ rw w.at-is
-            (record { most = omega arith; size = loop.invariant.size; is = restored_past a.w a.h loop.i rs a.elements.at loop.at (omega (arith, w.if-i-n.false, all)) loop.invariant.is })
+      | then-i-n w ↦ rw w.at-is (does _ loop.invariant (omega arith)
+          (restored_turn a.w a.h loop.i rs a.elements.at loop.at any_rect (omega arith) (omega arith) loop.invariant.is
+          (rw (get_or-take a.n a.saved loop.i any_rect w.if-i-n.true) w.restore.ensures)))
+      | else-i-n w ↦ rw w.at-is
+          (record { most = omega arith; size = loop.invariant.size; is = restored_past a.w a.h loop.i rs a.elements.at loop.at (omega (arith, w.if-i-n.false, all)) loop.invariant.is })
     ]
 
 pub returns : goal.returns
