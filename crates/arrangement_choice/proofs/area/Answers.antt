@@ -18,14 +18,14 @@ anchor_toolbar-bar-requires c =
     let top : T (le k0 c.reusable_top.result) = rw c.reusable_top.ensures (zero_le_max _) in
     search (rules, arith)
 
--- LEFT returns-then-maximum: returns : tie.Need-returns
--- LEFT unfolding area_of
--- LEFT returns c l =
--- LEFT     let top = c.before.before in
--- LEFT     let maximum = top.before in
--- LEFT     let a = maximum.before.args in
--- LEFT     let below = rw c.before.anchor-toolbar.ensures at c.below-toolbar.ensures in
--- LEFT     let same = same_below a.w a.h (cutout_list a.cutouts) a.picture _ l _ in
--- LEFT     rw maximum.if1.true (below ∙ rw top.reusable-top.ensures same)
+pub returns-then-maximum : goal.returns-then-maximum
+unfolding area_of
+returns-then-maximum c l =
+    let a = c.args in
+    let below = rw c.anchor_toolbar-bar.ensures at c.below_toolbar.ensures in
+    let same = same_below a.w a.h (cutout_list a.cutouts) a.picture _ l _ in
+    rw c.if-maximum.true (below ∙ rw c.reusable_top.ensures same)
 
--- LEFT returns: λ c l. rw c.if1.false
+pub returns : goal.returns
+unfolding area_of
+returns c l = rw c.if-maximum.false

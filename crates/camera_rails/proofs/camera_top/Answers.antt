@@ -1,7 +1,6 @@
 -- After i turns the cutouts from i on are left to look at (`Rest`).
 use borrow.Author.Rules.{rules}
 use native.Mathlib.Omega.{arith}
-use mathlib.Core.Logic.{⊎_elim}
 use Prim.Native.Nat.{◌-◌}
 use lib.ListN.{take}
 use Rattle.prelude.proofs.Loops.{in_array, Rest, goes_on, runs_out}
@@ -9,13 +8,16 @@ use Rattle.layout.specs.Layout.{any_rect}
 use Rattle.camera_rails.specs.CameraRails.{camera_top_of}
 use Rattle.std.proofs.lemmas.Grind.{common_steps}
 use Rattle.camera_rails.proofs.camera_top.Goals as goal
+use Rattle.camera_rails.proofs.camera_top.Goals.{then-in_rail, else-in_rail}
 
--- OLD pub loop-i-preserved : goal.loop-i-preserved
--- OLD unfolding camera_top_of
--- OLD loop-i-preserved c =
--- OLD     let e = c.in_rail.ensures in
--- OLD     goes_on any_rect c.loop-i.invariant c.loop-i-test.true
--- OLD     (⊎_elim (λ t. rw (t.2, t.1.ensures, ← e, t.0.taken)) (λ t. rw (t.1, ← e, t.0.left)) c.if-in_rail.branch)
+pub loop-i-preserved : goal.loop-i-preserved
+unfolding camera_top_of
+loop-i-preserved c =
+    let e = c.in_rail.ensures in
+    elim c.if-in_rail.branch [
+      | then-in_rail w ↦ goes_on any_rect c.loop-i.invariant c.loop-i-test.true (rw (w.top-is, w.min-top.ensures, ← e, w.if-in_rail.true))
+      | else-in_rail w ↦ goes_on any_rect c.loop-i.invariant c.loop-i-test.true (rw (w.top-is, ← e, w.if-in_rail.false))
+    ]
 
 pub returns : goal.returns
 unfolding camera_top_of
