@@ -13,14 +13,14 @@ pub put_digits-end-requires : goal.put_digits-end-requires
 put_digits-end-requires c = omega (arith, put_ends, rw length_head at c.requires)
 
 pub bounds-out-end : goal.bounds-out-end
-bounds-out-end c = omega (arith, put_ends, rw length_head at (entry (c)).requires)
+bounds-out-end c = omega (arith, put_ends, rw length_head at c.requires)
 
 pub overflow_add-result : goal.overflow_add-result
-overflow_add-result c = omega (arith, put_ends, rw length_head at (entry (c)).requires)
-
-pub shape_of-out : goal.shape_of-out
-shape_of-out c = put_length _ _ _ (returns c)
+overflow_add-result c = omega (arith, put_ends, rw length_head at c.requires)
 
 pub returns : goal.returns
 unfolding head_text
-returns c = put_after _ _ _ _ c.put-text.ensures (put_after _ _ _ _ c.put_digits-end.ensures (one _ _ 10))
+returns c = put_after _ _ _ _ c.put_text-number.ensures (put_after _ _ _ _ c.put_digits-end.ensures (one _ _ 10))
+
+pub shape_of-out : goal.shape_of-out
+shape_of-out c = put_length _ _ _ (returns c)

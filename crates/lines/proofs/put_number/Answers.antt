@@ -29,14 +29,14 @@ put_digits-requires c =
     let m = below in
     rw m.size (simp length-set (omega (arith, ap length m.text)))
 
-pub shape_of-out-then-n-lt0 : goal.shape_of-out-then-n-lt0
-shape_of-out-then-n-lt0 c = put_length _ _ _ (returns-then-n-lt0 c)
-
 pub returns-then-n-lt0 : goal.returns-then-n-lt0
 returns-then-n-lt0 c =
     let below : BelowZero c.args.n = below_zero _ c.requires.0 c.if-n-lt0.true in
     let m = below in
     rw m.text (put_after _ _ _ _ (one _ _ 45) (rw m.size at c.put_digits.ensures))
+
+pub shape_of-out-then-n-lt0 : goal.shape_of-out-then-n-lt0
+shape_of-out-then-n-lt0 c = put_length _ _ _ (returns-then-n-lt0 c)
 
 pub overflow_cast-n-2 : goal.overflow_cast-n-2
 overflow_cast-n-2 c =
@@ -49,11 +49,11 @@ put_digits-requires-2 c =
     let m = not_below in
     rw m.size (omega (arith, ap length m.text))
 
-pub shape_of-out : goal.shape_of-out
-shape_of-out c = put_length _ _ _ (returns c)
-
 pub returns : goal.returns
 returns c =
     let not_below : NotBelowZero c.args.n = not_below_zero _ c.requires.0 c.if-n-lt0.false in
     let m = not_below in
     rw m.text (rw m.size at c.put_digits-2.ensures)
+
+pub shape_of-out : goal.shape_of-out
+shape_of-out c = put_length _ _ _ (returns c)

@@ -25,13 +25,13 @@ pub loop-i-preserved : goal.loop-i-preserved
 unfolding put_of
 loop-i-preserved c = goes_on 0 c.loop-i.invariant c.loop-i-test.true (rw (← add_assoc) (onward _ (_ ∷ []) _ _ (one _ _ _)))
 
-pub shape_of-out : goal.shape_of-out
-unfolding put_of
-shape_of-out c = put_length _ _ _ (returns c)
-
 pub returns : goal.returns
 unfolding put_of
 returns c =
     let text = c.args.text.now in
     let e : c.loop-i.i ≡ length text = omega arith in
     rw (e, take-length text) at (none _ _ ∙ runs_out c.loop-i.invariant c.loop-i-test.false)
+
+pub shape_of-out : goal.shape_of-out
+unfolding put_of
+shape_of-out c = put_length _ _ _ (returns c)

@@ -17,7 +17,8 @@ returns-then-out-length c =
     let l = c.args.l in
     let arrays = array_lengths l c.well_formed.0 in
     let long = length_layout l (omega (arith, c.requires.0)) (omega (arith, c.requires.1)) in
-    too_small (layout_bytes l) c.args.out.now (omega (arith, c.elements-elements.ensures.1)) c.if-out-length.true
+    let done = too_small (layout_bytes l) c.args.out.now (omega (arith, c.elements-elements.ensures.1)) c.if-out-length.true in
+    record { answer = done.0; output = done.1 }
 
 pub returns : goal.returns
 unfolding write_layout_of output_of
@@ -31,4 +32,5 @@ returns c =
     c.put_field_head.ensures c.put_rect.ensures
     c.put_field_head-2.ensures c.put_rects.ensures
     c.put_field_head-3.ensures c.put_masks.ensures in
-    has_room (layout_bytes l) c.args.out.now (omega (arith, e.1, length_layout l cs ss)) c.if-out-length.false run
+    let done = has_room (layout_bytes l) c.args.out.now (omega (arith, e.1, length_layout l cs ss)) c.if-out-length.false run in
+    record { answer = done.0; output = done.1 }
