@@ -21,13 +21,13 @@ loop-i-init c = search (ap on_scale_of (take-length c.args.numbers.now), arith)
 pub returns-then-not-within_limits : goal.returns-then-not-within_limits
 unfolding all_of
 returns-then-not-within_limits c =
-    let within : c.within_limits.result ≡ within_limits_of (get_or c.args.numbers.now c.loop-i.i (pos 0)) = rw (kept _ c.within_limits-arg-1.given) at c.within_limits.ensures in
+    let within : c.within_limits.result ≡ within_limits_of (get_or c.args.numbers.now c.loop-i.i (pos 0)) = rw (kept (get_or c.args.numbers.now c.loop-i.i (pos 0)) (search rules)) at c.within_limits.ensures in
     stops (pos 0) c.loop-i.invariant c.loop-i-test.true (rw (← within, c.if-not-within_limits.true))
 
 pub loop-i-preserved : goal.loop-i-preserved
 unfolding all_of
 loop-i-preserved c =
-    let within : c.within_limits.result ≡ within_limits_of (get_or c.args.numbers.now c.loop-i.i (pos 0)) = rw (kept _ c.within_limits-arg-1.given) at c.within_limits.ensures in
+    let within : c.within_limits.result ≡ within_limits_of (get_or c.args.numbers.now c.loop-i.i (pos 0)) = rw (kept (get_or c.args.numbers.now c.loop-i.i (pos 0)) (search rules)) at c.within_limits.ensures in
     goes_on (pos 0) c.loop-i.invariant c.loop-i-test.true (rw (← within, c.if-not-within_limits.false))
 
 pub returns : goal.returns
