@@ -3,6 +3,7 @@ use mathlib.Core.Path.{◌≡◌}
 use mathlib.Core.Bool.{true, cond}
 use Prim.Native.Nat.{◌≤◌}
 use lib.ListN.{length}
+use borrow.Author.Tests.{not-true, not-false}
 use borrow.Author.Rules.{rules}
 use Rattle.layout.specs.Actions.{action_elements_of}
 use Rattle.layout.specs.Labels.{OfMode}
@@ -17,7 +18,7 @@ pub returns-then-not-candidate : goal.returns-then-not-candidate
 unfolding try_rails_of
 returns-then-not-candidate c =
     let tried = c.analog_camera_rails-candidate in
-    rw (← tried.ensures.0, c.if-not-candidate.true)
+    rw (← tried.ensures.0, not-true tried.result.some c.if-not-candidate.true)
 
 pub avoid_cutouts-requires : goal.avoid_cutouts-requires
 avoid_cutouts-requires c =
@@ -40,7 +41,7 @@ returns-then-rails_win c =
     ≡ cond c.rails_win.result c.analog_camera_rails-candidate.result.layout c.place_game_in_aspect-clear.result = let tried = c.analog_camera_rails-candidate in
     rw (
       ← tried.ensures.0,
-      c.if-not-candidate.false,
+      not-false tried.result.some c.if-not-candidate.false,
       ← c.avoid_cutouts.ensures,
       ← c.aspect.ensures,
       ← c.place_game_in_aspect-clear.ensures,
@@ -56,7 +57,7 @@ returns c =
     ≡ cond c.rails_win.result c.analog_camera_rails-candidate.result.layout c.place_game_in_aspect-clear.result = let tried = c.analog_camera_rails-candidate in
     rw (
       ← tried.ensures.0,
-      c.if-not-candidate.false,
+      not-false tried.result.some c.if-not-candidate.false,
       ← c.avoid_cutouts.ensures,
       ← c.aspect.ensures,
       ← c.place_game_in_aspect-clear.ensures,
