@@ -28,9 +28,9 @@ pub loop-i-preserved : goal.loop-i-preserved
 unfolding flat_map
 loop-i-preserved c = goes_on any_line c.loop-i.invariant c.loop-i-test.true (onward _ _ _ _ c.put_line-next.ensures)
 
-pub shape_of-out : goal.shape_of-out
-shape_of-out c = put_length _ _ _ (returns c)
-
 pub returns : goal.returns
 unfolding flat_map
 returns c = none _ _ ∙ runs_out c.loop-i.invariant c.loop-i-test.false
+
+pub shape_of-out : goal.shape_of-out
+shape_of-out c = put_length _ _ _ (returns c)

@@ -13,4 +13,4 @@ use Rattle.sheet.proofs.Lines.{any_line}
 use Rattle.sheet.proofs.put_lines.Given as goal
 
 abbrev pub invariant-loop-i : goal.invariant-loop-i
-invariant-loop-i l = Rest (λ l. put_of l.out l.next (lines_text (map line_in l))) l.lines.at l.lines.count (put_of l.initial.out l.at (lines_text (lines_in l.lines))) l.i
+invariant-loop-i l = Rest (λ ls. put_of l.out l.next (lines_text (map line_in ls))) l.lines.at l.lines.count (put_of l.initial.out l.at (lines_text (lines_in l.lines))) l.i

@@ -6,5 +6,8 @@ use borrow.Author.Rules.{rules}
 use Rattle.std.proofs.lemmas.Grind.{common_steps}
 use Rattle.sheet.proofs.refused_sheet.Goals as goal
 
+pub put_head-len-requires : goal.put_head-len-requires
+put_head-len-requires c = omega (arith, refused_fits c.args.n c.requires)
+
 pub returns : goal.returns
-returns c = omega (arith, refused_fits c.args.n c.requires)
+returns c = refused_is _ c.requires c.put_head-len.ensures
