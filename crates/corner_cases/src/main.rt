@@ -6,42 +6,45 @@ ghost use Rattle.std.specs.Prelude.{◌≡◌, ◌≤◌};
 
 use float::{from_bits, to_bits};
 use geometry::{EMPTY, Rect};
+use input::read_full;
 use layout::{Control, Cutouts, Elements, Label, Layout, MaybeLayout};
-use libc::STDOUT_FILENO;
 use safe_area::{SafeContent, SafeEdges};
+use std::fs;
+use std::io::{self, Write};
 use wire::{short, word};
 
-fn main() {
-    let file = os::open_read(b"functions");
+fn main(rt: HostRuntime) -> io::Result<()> {
+    let mut file = fs::open(&rt, "functions")?;
+    let mut out = io::writer(&rt);
     let mut step = [0u8; 116];
     let mut right = true;
     for _ in 0usize..100000 {
-        if io::read_full(file, &mut step) < 116 {
+        if read_full(&mut file, &mut step)? < 116 {
             break;
         }
-        right = ran(step, right);
+        right = ran(&mut out, step, right)?;
     }
-    libc::close(file);
+    Ok(())
 }
 
 // A call: whether it is right, and those before it since the last name. A name ends a case.
-fn ran(step: [u8; 116], right: bool) -> bool {
+fn ran(out: &mut impl Write, step: [u8; 116], right: bool) -> io::Result<bool> {
     if step[112] == 0 {
-        say(step, right);
-        return true;
+        say(out, step, right)?;
+        return Ok(true);
     }
-    right & agrees(&step)
+    Ok(right & agrees(&step))
 }
 
-fn say(step: [u8; 116], right: bool) {
+fn say(out: &mut impl Write, step: [u8; 116], right: bool) -> io::Result<()> {
     if right {
-        io::write_all(STDOUT_FILENO, b"ok ");
+        out.write_all(b"ok ")?;
     } else {
-        io::write_all(STDOUT_FILENO, b"WRONG ");
+        out.write_all(b"WRONG ")?;
     }
     let n = (step[113] % 97) as usize;
-    io::write_all(STDOUT_FILENO, &step[..n]);
-    io::write_all(STDOUT_FILENO, b"\n");
+    out.write_all(&step[..n])?;
+    out.write_all(b"\n")
 }
 
 // A number, and a rectangle; of one f32, that is its x.

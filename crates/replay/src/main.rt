@@ -3,107 +3,119 @@
 // of each kind it has, and how many are wrong.
 #![tactic(auto)]
 
-ghost use Rattle.io.specs.Counts.{IsPrefixLen};
+ghost use Rattle.std.specs.Prelude.{◌≤◌, length, IfOk};
 
 use film_sheet::film_sheet;
 use float::from_bits;
-use libc::STDOUT_FILENO;
+use input::read_full;
 use order::{LayoutAnswer, TouchAnswer};
 use order_writer::{OrderAnswer, write_order};
 use reader::read_order;
+use std::fs;
+use std::io::{self, Read, Write};
+use std::rt::Files;
 use wire::{short, word};
 
-fn main() {
-    examples();
-    replay(b"cases");
-    replay(b"orders");
+fn main(rt: HostRuntime) -> io::Result<()> {
+    examples(&rt)?;
+    replay(&rt, "cases")?;
+    replay(&rt, "orders")
 }
 
 // ---- examples
 
 // The orders in data/examples, which the root has as examples/, and their sheets. Each prints `ok ORDER`, or `WRONG ORDER` if it gives
 // another sheet.
-fn examples() {
-    example(b"examples/standard.order", b"examples/standard.sheet");
-    example(b"examples/analog.order", b"examples/analog.sheet");
-    example(b"examples/psp.order", b"examples/psp.sheet");
-    example(b"examples/keep_clear.order", b"examples/keep_clear.sheet");
-    example(b"examples/saved.order", b"examples/saved.sheet");
-    example(b"examples/wide.order", b"examples/wide.sheet");
-    example(b"examples/narrow.order", b"examples/narrow.sheet");
-    example(b"examples/scaled.order", b"examples/scaled.sheet");
-    example(b"examples/two_cameras.order", b"examples/two_cameras.sheet");
-    example(b"examples/refused.order", b"examples/refused.sheet");
-    example(b"examples/empty.order", b"examples/empty.sheet");
+fn examples(rt: &(impl Files + Print)) -> io::Result<()> {
+    example(rt, "examples/standard.order", "examples/standard.sheet")?;
+    example(rt, "examples/analog.order", "examples/analog.sheet")?;
+    example(rt, "examples/psp.order", "examples/psp.sheet")?;
+    example(rt, "examples/keep_clear.order", "examples/keep_clear.sheet")?;
+    example(rt, "examples/saved.order", "examples/saved.sheet")?;
+    example(rt, "examples/wide.order", "examples/wide.sheet")?;
+    example(rt, "examples/narrow.order", "examples/narrow.sheet")?;
+    example(rt, "examples/scaled.order", "examples/scaled.sheet")?;
+    example(
+        rt,
+        "examples/two_cameras.order",
+        "examples/two_cameras.sheet",
+    )?;
+    example(rt, "examples/refused.order", "examples/refused.sheet")?;
+    example(rt, "examples/empty.order", "examples/empty.sheet")
 }
 
-fn example(order: &[u8], sheet: &[u8]) {
-    let mut given = io::buffer();
-    let n = read(order, &mut given);
-    let mut want = io::buffer();
-    let m = read(sheet, &mut want);
-    say(order, !sheet_agrees(&given[..n], &want[..m]));
+fn example(rt: &(impl Files + Print), order: &str, sheet: &str) -> io::Result<()> {
+    let mut given = [0u8; 4096];
+    let n = read(rt, order, &mut given)?;
+    let mut want = [0u8; 4096];
+    let m = read(rt, sheet, &mut want)?;
+    let same = sheet_agrees(&given[..n], &want[..m]);
+    say(&mut io::writer(rt), order.as_bytes(), !same)
 }
 
-fn say(name: &[u8], fault: bool) {
+fn say(out: &mut impl Write, name: &[u8], fault: bool) -> io::Result<()> {
     if fault {
-        io::write_all(STDOUT_FILENO, b"WRONG ");
+        out.write_all(b"WRONG ")?;
     } else {
-        io::write_all(STDOUT_FILENO, b"ok ");
+        out.write_all(b"ok ")?;
     }
-    io::write_all(STDOUT_FILENO, name);
-    io::write_all(STDOUT_FILENO, b"\n");
+    out.write_all(name)?;
+    out.write_all(b"\n")
 }
 
-// A file's bytes, or none where it cannot be read.
-fn read(path: &[u8], out: &mut [u8]) -> usize
-    ensures { IsPrefixLen result out.new }
+// A file's bytes.
+fn read(rt: &impl Files, path: &str, out: &mut [u8]) -> io::Result<usize>
+    ensures { IfOk result (λ n. n ≤ length out.new) }
 {
-    let file = os::open_read(path);
-    let n = io::read_full(file, out);
-    libc::close(file);
-    n
+    let mut file = fs::open(rt, path)?;
+    read_full(&mut file, out)
 }
 
 // ---- lists
 
-fn replay(list: &[u8]) {
-    let file = os::open_read(list);
+fn replay(rt: &(impl Files + Print), list: &str) -> io::Result<()> {
+    let mut file = fs::open(rt, list)?;
+    let mut out = io::writer(rt);
     let mut head = [0u8; 17];
-    let mut order = io::large_buffer();
+    let mut order = [0u8; 65536];
     let mut size = 0;
-    let mut bytes = io::large_buffer();
+    let mut bytes = [0u8; 65536];
     let mut count = no_steps();
     for _ in 0usize..100000 {
-        if io::read_full(file, &mut head) < 17 {
+        if read_full(&mut file, &mut head)? < 17 {
             break;
         }
         if head[0] == b'O' {
-            size = load(file, &head, &mut order);
+            size = load(&mut file, &head, &mut order)?;
             count = counted(count, b'O', true);
         } else {
-            let n = load(file, &head, &mut bytes);
-            count = ran(count, &head, &order[..size], &bytes[..n]);
+            let n = load(&mut file, &head, &mut bytes)?;
+            count = ran(&mut out, count, &head, &order[..size], &bytes[..n])?;
         }
     }
-    libc::close(file);
-    report(list, count);
+    report(&mut out, list, count)
 }
 
 // The bytes that follow a step's head: how many there are.
-fn load(file: i32, head: &[u8; 17], out: &mut [u8]) -> usize
-    ensures { IsPrefixLen result out.new }
+fn load(file: &mut impl Read, head: &[u8; 17], out: &mut [u8]) -> io::Result<usize>
+    ensures { IfOk result (λ n. n ≤ length out.new) }
 {
     let n = at_most(short(head[15], head[16]), out);
-    io::read_full(file, &mut out[..n])
+    read_full(file, &mut out[..n])
 }
 
 // Runs a step on the order before it.
-fn ran(t: Tally, head: &[u8; 17], order: &[u8], bytes: &[u8]) -> Tally {
+fn ran(
+    out: &mut impl Write,
+    t: Tally,
+    head: &[u8; 17],
+    order: &[u8],
+    bytes: &[u8],
+) -> io::Result<Tally> {
     if head[0] == b'N' {
-        say(bytes, t.fault);
+        say(out, bytes, t.fault)?;
     }
-    counted(t, head[0], agrees(head, order, bytes))
+    Ok(counted(t, head[0], agrees(head, order, bytes)))
 }
 
 fn agrees(head: &[u8; 17], order: &[u8], bytes: &[u8]) -> bool {
@@ -167,7 +179,7 @@ fn written(order: &[u8], out: &mut [u8]) -> OrderAnswer {
 fn holds(out: [u8; 1024], bytes: &[u8], fill: u8) -> bool {
     let before = [fill; 1024];
     let n = at_most(bytes.len(), &out);
-    check::same(&out[..n], bytes) & check::same(&out[n..], &before[n..])
+    (&out[..n] == bytes) & (&out[n..] == &before[n..])
 }
 
 // An answer as a list has it: a number below 65,536, or 65,536 times that of a refusal.
@@ -206,7 +218,7 @@ fn y_of(head: &[u8; 17]) -> f32 {
 
 // `n`, or all of the bytes where they are fewer.
 fn at_most(n: usize, bytes: &[u8]) -> usize
-    ensures { IsPrefixLen result bytes.now }
+    ensures { result ≤ length bytes.now }
 {
     if n < bytes.len() { n } else { bytes.len() }
 }
@@ -266,22 +278,16 @@ fn more(n: u64, one: bool) -> u64 {
     std::num::wrapping_add_u64(n, one as u64)
 }
 
-fn report(list: &[u8], t: Tally) {
-    io::write_all(STDOUT_FILENO, list);
-    print(b": orders ", t.orders);
-    print(b", layouts ", t.layouts);
-    print(b", viewports ", t.viewports);
-    print(b", touches ", t.touches);
-    print(b", sheets ", t.sheets);
-    print(b", written orders ", t.written);
-    print(b", wrong ", t.wrong);
+fn report(out: &mut impl Write, list: &str, t: Tally) -> io::Result<()> {
+    write!(out, "{list}: orders {}", t.orders)?;
+    write!(out, ", layouts {}", t.layouts)?;
+    write!(out, ", viewports {}", t.viewports)?;
+    write!(out, ", touches {}", t.touches)?;
+    write!(out, ", sheets {}", t.sheets)?;
+    write!(out, ", written orders {}", t.written)?;
+    write!(out, ", wrong {}", t.wrong)?;
     if t.wrong > 0 {
-        print(b", the first at order ", t.first);
+        write!(out, ", the first at order {}", t.first)?;
     }
-    io::write_all(STDOUT_FILENO, b"\n");
-}
-
-fn print(name: &[u8], n: u64) {
-    io::write_all(STDOUT_FILENO, name);
-    io::print_decimal(STDOUT_FILENO, n);
+    writeln!(out)
 }

@@ -1,13 +1,6 @@
--- The text that is written lies within the sheet (`film-within`).
-use mathlib.Core.Path.{sym}
-use lib.Seq.{length-take-le}
-use borrow.Author.Rules.{rules}
+-- The text that is written lies within the sheet (`film_within`).
 use Rattle.film_sheet.proofs.FilmLaws.{film_within}
-use Rattle.std.proofs.lemmas.Grind.{common_steps}
 use Rattle.film.proofs.main.Goals as goal
 
-pub slice_bounds-write_all-end : goal.slice_bounds-write_all-end
-slice_bounds-write_all-end c = rw c.film_sheet-sheet.ensures (film_within _)
-
-pub write_all-requires : goal.write_all-requires
-write_all-requires c = rw c.film_sheet-sheet.ensures (sym (length-take-le _ _ (film_within _)))
+pub slice_bounds-bytes-end : goal.slice_bounds-bytes-end
+slice_bounds-bytes-end c = rw c.film_sheet-sheet.ensures (film_within _)

@@ -1,0 +1,9 @@
+-- What came lies within `out`, whose length stays.
+use Rattle.std.proofs.Common.{length, ◌-◌, ◌≤◌, ◌≡◌}
+use Rattle.input.proofs.read_full.Given as goal
+
+abbrev pub invariant-loop-len : goal.invariant-loop-len
+invariant-loop-len g l = (length l.out ≡ length l.initial.out) × (l.len ≤ length l.out)
+
+abbrev pub decreases-loop-len : goal.decreases-loop-len
+decreases-loop-len g l = length l.initial.out - l.len
