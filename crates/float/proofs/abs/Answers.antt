@@ -2,7 +2,6 @@
 use Rattle.std.proofs.Common.{T, rules}
 use lib.Ieee.{binary32, fits}
 use Rattle.float.proofs.Magnitude.{abs_law}
-use Rattle.std.proofs.lemmas.Grind.{common_steps}
 use Rattle.float.proofs.abs.Goals as goal
 
 pub returns : goal.returns

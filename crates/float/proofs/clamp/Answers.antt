@@ -1,7 +1,5 @@
 -- `clamp`: the two picks are the two tests of the definition.
-use Rattle.std.proofs.Common.{rules}
 use Rattle.float.specs.MinMax.{clamp_of}
-use Rattle.std.proofs.lemmas.Grind.{common_steps}
 use Rattle.float.proofs.clamp.Goals as goal
 
 pub returns : goal.returns

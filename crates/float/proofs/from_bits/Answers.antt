@@ -2,7 +2,6 @@
 use Rattle.std.proofs.Common.{sym, rules}
 use lib.Ieee.{binary32, div, of_bits}
 use Rattle.float.proofs.Nan.{nan_bits_lem, no_nan_bits}
-use Rattle.std.proofs.lemmas.Grind.{common_steps}
 use Rattle.float.proofs.from_bits.Goals as goal
 
 pub float_from_bits-result : goal.float_from_bits-result

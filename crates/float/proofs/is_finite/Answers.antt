@@ -1,8 +1,6 @@
 -- The test of `isFiniteOf`, below infinity.
-use Rattle.std.proofs.Common.{rules}
 use Rattle.float.specs.MinMax.{is_finite_of}
 use lib.Ieee.{of_bits, nan_bits}
-use Rattle.std.proofs.lemmas.Grind.{common_steps}
 use Rattle.float.proofs.is_finite.Goals as goal
 
 pub float_from_bits-result : goal.float_from_bits-result

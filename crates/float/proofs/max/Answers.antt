@@ -1,6 +1,5 @@
 -- `max`: the tests of the definition in its order.
 use Rattle.float.specs.MinMax.{max_of}
-use Rattle.std.proofs.lemmas.Grind.{common_steps}
 use Rattle.float.proofs.max.Goals as goal
 
 pub returns-then-a : goal.returns-then-a

@@ -2,7 +2,6 @@
 use Rattle.std.proofs.Common.{rules}
 use lib.Ieee.{to_bits}
 use Rattle.float.proofs.Nan.{is_nan_lem, no_nan}
-use Rattle.std.proofs.lemmas.Grind.{common_steps}
 use Rattle.float.proofs.to_bits.Goals as goal
 
 pub float_to_bits-result : goal.float_to_bits-result

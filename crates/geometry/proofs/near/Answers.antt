@@ -1,7 +1,5 @@
 -- `near`: the definition, with what `abs` gives.
-use borrow.Author.Rules.{rules}
 use Rattle.geometry.specs.Rect.{near_of}
-use Rattle.std.proofs.lemmas.Grind.{common_steps}
 use Rattle.geometry.proofs.near.Goals as goal
 
 pub returns : goal.returns

@@ -2,11 +2,9 @@
 use native.Mathlib.Omega.{arith}
 use mathlib.Core.Path.{sym}
 use Prim.Native.Nat.{◌-◌, ◌*◌}
-use borrow.Author.Rules.{rules}
 use borrow.Author.Tests.{lt-ltb, le-ltb}
 use native.Mathlib.Nat.{le_of_lt}
 use Rattle.hypot.proofs.Squares.{square_below, square_above, square_split, ltb_add, product_fits, square_fits}
-use Rattle.std.proofs.lemmas.Grind.{common_steps}
 use Rattle.hypot.proofs.above_root.Goals as goal
 
 pub returns-then-x-s : goal.returns-then-x-s

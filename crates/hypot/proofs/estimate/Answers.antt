@@ -1,9 +1,7 @@
 -- `estimate` is defined for every t.
-use borrow.Author.Rules.{rules}
 use lib.Ieee.{binary64}
 use native.Mathlib.Omega.{arith}
 use Rattle.float.proofs.Nan.{no_nan, no_nan_bits}
-use Rattle.std.proofs.lemmas.Grind.{common_steps}
 use Rattle.hypot.proofs.estimate.Goals as goal
 
 pub float_to_bits-a : goal.float_to_bits-a

@@ -4,11 +4,9 @@ use denote.Floats.{passes}
 use native.Mathlib.Omega.{arith}
 use lib.Dec.{T}
 use lib.Ieee.{binary32, fits}
-use borrow.Author.Rules.{rules}
 use Rattle.float.proofs.Nan.{no_nan_bits}
 use Rattle.hypot.proofs.Floats.{inf_bits}
 use Rattle.hypot.proofs.Cases.{hypot_comm, first_inf, first_nan, finite_both}
-use Rattle.std.proofs.lemmas.Grind.{common_steps}
 use Rattle.hypot.proofs.exact.Goals as goal
 
 pub float_from_bits-result : goal.float_from_bits-result

@@ -8,8 +8,6 @@ use Rattle.hypot.specs.Parts.{root_of}
 use lib.Ieee.{binary32}
 use Rattle.float.proofs.Nan.{no_nan_bits}
 use Rattle.hypot.proofs.Ways.{far, near, times_power_lt, root_small}
-use borrow.Author.Rules.{rules}
-use Rattle.std.proofs.lemmas.Grind.{common_steps}
 use Rattle.hypot.proofs.finite.Goals as goal
 
 pub float_from_bits-result : goal.float_from_bits-result

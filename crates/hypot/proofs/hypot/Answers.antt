@@ -1,12 +1,10 @@
 -- `hypot` meets its contract: a candidate that is sure is the nearest f32.
 use denote.Floats.{passes}
-use borrow.Author.Rules.{rules}
 use native.Mathlib.Omega.{arith}
 use lib.Ieee.{binary32}
 use Rattle.hypot.specs.Parts.{sum_of_squares_of, SurelyNearest}
 use Rattle.float.proofs.Nan.{no_nan, no_nan_bits}
 use Rattle.hypot.proofs.Midpoints.{sure_is_nearest}
-use Rattle.std.proofs.lemmas.Grind.{common_steps}
 use Rattle.hypot.proofs.hypot.Goals as goal
 
 pub returns-then-a : goal.returns-then-a

@@ -1,8 +1,5 @@
 -- `likely_pattern` is defined for every r.
-use native.Mathlib.Omega.{arith}
-use borrow.Author.Rules.{rules}
 use Rattle.float.proofs.Nan.{no_nan}
-use Rattle.std.proofs.lemmas.Grind.{common_steps}
 use Rattle.hypot.proofs.likely_pattern.Goals as goal
 
 pub float_to_bits-result : goal.float_to_bits-result

@@ -1,9 +1,7 @@
 -- The pattern of a midpoint is that of a number.
-use borrow.Author.Rules.{rules}
 use lib.Ieee.{binary64}
 use native.Mathlib.Omega.{arith}
 use Rattle.float.proofs.Nan.{no_nan_bits}
-use Rattle.std.proofs.lemmas.Grind.{common_steps}
 use Rattle.hypot.proofs.midpoint.Goals as goal
 
 pub float_from_bits-result : goal.float_from_bits-result

@@ -1,10 +1,8 @@
 -- The comparison with the half: below, equal, above.
-use borrow.Author.Rules.{rules}
 use native.Mathlib.Numerals.{add-one}
 use native.Mathlib.Omega.{arith}
 use Prim.Native.Nat.{Ordering}
 use Rattle.hypot.proofs.Order.{cmp_is}
-use Rattle.std.proofs.lemmas.Grind.{common_steps}
 use Rattle.hypot.proofs.nearest_whole.Goals as goal
 
 pub returns-then-w-h : goal.returns-then-w-h

@@ -1,11 +1,9 @@
 -- The pattern of exponent and fraction, or of the infinity where they are too large.
 use Prim.Native.Nat.{◌+◌, ◌*◌}
-use borrow.Author.Rules.{rules}
 use native.Mathlib.Nat.{le_of_lt, min-eq_left, min-eq_right}
 use lib.Ieee.{binary32}
 use native.Mathlib.Omega.{arith}
 use Rattle.float.proofs.Nan.{no_nan_bits}
-use Rattle.std.proofs.lemmas.Grind.{common_steps}
 use Rattle.hypot.proofs.packed.Goals as goal
 
 pub float_from_bits-result : goal.float_from_bits-result

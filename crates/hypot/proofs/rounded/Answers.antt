@@ -2,8 +2,7 @@
 use native.Mathlib.Omega.{arith}
 use Prim.Native.Nat.{◌+◌, ◌*◌, compare}
 use lib.Ieee.Fits.{nearest-le}
-use Rattle.hypot.proofs.Ways.{LeadingDigits, leading_start, leading_next, leading_places, rounds}
-use Rattle.std.proofs.lemmas.Grind.{common_steps}
+use Rattle.hypot.proofs.Ways.{leading_start, leading_next, leading_places, rounds}
 use Rattle.hypot.proofs.rounded.Goals as goal
 
 pub loop-c-init : goal.loop-c-init

@@ -1,7 +1,4 @@
-use native.Mathlib.Omega.{arith}
-use Prim.Native.Nat.{◌+◌, ◌*◌, compare}
-use lib.Ieee.Fits.{nearest-le}
-use Rattle.hypot.proofs.Ways.{LeadingDigits, leading_start, leading_next, leading_places, rounds}
+use Rattle.hypot.proofs.Ways.{LeadingDigits}
 use Rattle.hypot.proofs.rounded.Given as goal
 
 abbrev pub invariant-loop-c : goal.invariant-loop-c

@@ -1,7 +1,5 @@
 -- Both midpoints were tested, and the pattern is neither the least nor the largest.
 use denote.Floats.{passes}
-use borrow.Author.Rules.{rules}
-use Rattle.std.proofs.lemmas.Grind.{common_steps}
 use Rattle.hypot.proofs.surely_nearest.Goals as goal
 
 pub returns-then-p-le7524581376 : goal.returns-then-p-le7524581376

@@ -1,8 +1,6 @@
 -- `times_power` meets its contract: nothing is shifted out.
-use borrow.Author.Rules.{rules}
 use native.Mathlib.Omega.{arith}
 use lib.Pow.{shl_exact}
-use Rattle.std.proofs.lemmas.Grind.{common_steps}
 use Rattle.hypot.proofs.times_power.Goals as goal
 
 pub returns : goal.returns

@@ -1,11 +1,9 @@
 -- `whole_root` meets its contract. The root lies from `low` to below `high`.
-use borrow.Author.Rules.{rules}
 use native.Mathlib.Omega.{arith}
 use mathlib.Core.Path.{◌≡◌, sym, ◌∙◌}
-use Prim.Native.Nat.{◌+◌, ◌-◌, ◌*◌, ◌<◌, ◌≤◌}
+use Prim.Native.Nat.{◌+◌}
 use borrow.Author.Tests.{ltb-true, ltb-false}
 use Rattle.hypot.proofs.Isqrt.{isqrt_is}
-use Rattle.std.proofs.lemmas.Grind.{common_steps}
 use Rattle.hypot.proofs.whole_root.Goals as goal
 
 pub loop-low-init : goal.loop-low-init

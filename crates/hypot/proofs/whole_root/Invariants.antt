@@ -1,9 +1,4 @@
-use borrow.Author.Rules.{rules}
-use native.Mathlib.Omega.{arith}
-use mathlib.Core.Path.{◌≡◌, sym, ◌∙◌}
 use Prim.Native.Nat.{◌+◌, ◌-◌, ◌*◌, ◌<◌, ◌≤◌}
-use borrow.Author.Tests.{ltb-true, ltb-false}
-use Rattle.hypot.proofs.Isqrt.{isqrt_is}
 use Rattle.hypot.proofs.whole_root.Given as goal
 
 abbrev pub invariant-loop-low : goal.invariant-loop-low

@@ -1,7 +1,6 @@
 -- `at_most_one`: the one test.
 use borrow.Author.Tests.{le-ltb, lt-ltb}
 use Rattle.layout.specs.Psp.{at_most_one_of}
-use Rattle.std.proofs.lemmas.Grind.{common_steps}
 use Rattle.layout.proofs.at_most_one.Goals as goal
 
 pub returns-then-n-lt1 : goal.returns-then-n-lt1

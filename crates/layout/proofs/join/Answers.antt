@@ -1,7 +1,5 @@
 -- `join`: the definition, with what `min`, `max` and `new` give.
-use borrow.Author.Rules.{rules}
 use Rattle.layout.specs.Actions.{join_of}
-use Rattle.std.proofs.lemmas.Grind.{common_steps}
 use Rattle.layout.proofs.join.Goals as goal
 
 pub returns : goal.returns

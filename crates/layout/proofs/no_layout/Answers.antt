@@ -1,6 +1,5 @@
 -- `maybe` of it computes to none.
 use mathlib.Core.Path.{refl}
-use Rattle.std.proofs.lemmas.Grind.{common_steps}
 use Rattle.layout.proofs.no_layout.Goals as goal
 
 pub returns : goal.returns

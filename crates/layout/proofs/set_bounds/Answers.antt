@@ -1,17 +1,14 @@
 -- `set_bounds`: one control a turn gets the rectangle that follows.
-use borrow.Author.Rules.{rules}
 use native.Mathlib.Omega.{arith}
 use mathlib.Core.Path.{◌≡◌, sym, ◌∙◌}
-use Prim.Native.Nat.{◌+◌, ◌-◌, ◌<◌, suc}
+use Prim.Native.Nat.{◌+◌, ◌<◌, suc}
 use mathlib.Core.List.{zip_with}
 use lib.ListN.{length, length-drop, drop, get_or}
 use lib.Seq.{get_or-drop}
-use Rattle.prelude.specs.Lists.{replace_first}
 use Rattle.prelude.proofs.ListLaws.{length_zip_with, get_d_zip_with}
-use Rattle.prelude.proofs.Loops.{sized, Done, all_done}
+use Rattle.prelude.proofs.Loops.{sized, all_done}
 use Rattle.prelude.proofs.Stores.{replaces}
 use Rattle.layout.specs.Layout.{any_rect, any_control, with_bounds}
-use Rattle.std.proofs.lemmas.Grind.{common_steps}
 use Rattle.layout.proofs.set_bounds.Goals as goal
 
 pub loop-i-init : goal.loop-i-init

@@ -1,10 +1,8 @@
 -- By the test: the inputs of a psp (`psp-counts`), or the layout as it is.
 use mathlib.Core.Path.{◌≡◌}
 use lib.ListN.{length}
-use borrow.Author.Rules.{rules}
 use Rattle.prelude.proofs.Loops.{sized}
 use Rattle.layout.proofs.PspLaws.{psp_counts}
-use Rattle.std.proofs.lemmas.Grind.{common_steps}
 use Rattle.layout.proofs.with_inputs.Goals as goal
 
 pub returns-then-psp : goal.returns-then-psp

@@ -1,7 +1,5 @@
 -- `all_on_scale`: the three lists in turn.
 use Rattle.safe_area.specs.Safe.{all_on_scale_of}
-use borrow.Author.Rules.{rules}
-use Rattle.std.proofs.lemmas.Grind.{common_steps}
 use Rattle.safe_area.proofs.all_on_scale.Goals as goal
 
 pub returns-then-on_scale-2 : goal.returns-then-on_scale-2

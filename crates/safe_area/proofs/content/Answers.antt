@@ -1,14 +1,9 @@
 -- `content`: the numbers are on the scale, so that no difference and no cast leaves its range; across and down the same law serves.
-use borrow.Author.Rules.{rules}
 use native.Mathlib.Omega.{arith}
-use mathlib.Core.Path.{◌≡◌, refl, ◌∙◌}
-use mathlib.Core.Bool.{true}
-use mathlib.Core.List.{List}
-use lib.IntN.{ℤ, pos}
-use Rattle.prelude.proofs.Signed.{back, read_back}
-use Rattle.safe_area.specs.Safe.{entry, max_z, on_scale_of, content_of}
+use mathlib.Core.Path.{refl, ◌∙◌}
+use Rattle.prelude.proofs.Signed.{read_back}
+use Rattle.safe_area.specs.Safe.{content_of}
 use Rattle.safe_area.proofs.Scale.{zero_least, cast_small, span, extent_is, extent_small}
-use Rattle.std.proofs.lemmas.Grind.{common_steps}
 use Rattle.safe_area.proofs.content.Goals as goal
 
 pub int_clamp-left-requires : goal.int_clamp-left-requires

@@ -1,7 +1,5 @@
 -- `current_edges`: by whether the sizes are the same.
 use Rattle.safe_area.specs.Safe.{current_edges_of}
-use borrow.Author.Rules.{rules}
-use Rattle.std.proofs.lemmas.Grind.{common_steps}
 use Rattle.safe_area.proofs.current_edges.Goals as goal
 
 pub returns-then-same_size : goal.returns-then-same_size

@@ -2,7 +2,6 @@
 use mir.Facts.{to_z-of_z}
 use Rattle.safe_area.specs.Safe.{clamp_z}
 use Rattle.safe_area.proofs.Scale.{lt_z_back}
-use Rattle.std.proofs.lemmas.Grind.{common_steps}
 use Rattle.safe_area.proofs.int_clamp.Goals as goal
 
 pub returns-then-x-low : goal.returns-then-x-low

@@ -2,7 +2,6 @@
 use mir.Facts.{to_z-of_z}
 use Rattle.safe_area.specs.Safe.{max_z}
 use Rattle.safe_area.proofs.Scale.{lt_z_back}
-use Rattle.std.proofs.lemmas.Grind.{common_steps}
 use Rattle.safe_area.proofs.int_max.Goals as goal
 
 pub returns-then-a-b : goal.returns-then-a-b

@@ -1,8 +1,6 @@
 -- `merged`: the four edges in turn.
-use borrow.Author.Rules.{rules}
 use Rattle.prelude.proofs.Signed.{read_back}
 use Rattle.safe_area.specs.Safe.{merged_of}
-use Rattle.std.proofs.lemmas.Grind.{common_steps}
 use Rattle.safe_area.proofs.merged.Goals as goal
 
 pub returns : goal.returns

@@ -3,7 +3,6 @@ use borrow.Author.Rules.{rules}
 use Rattle.prelude.proofs.Signed.{kept, read_back}
 use Rattle.safe_area.specs.Safe.{entry, merged_edge_of}
 use mathlib.Core.Path.{◌∙◌}
-use Rattle.std.proofs.lemmas.Grind.{common_steps}
 use Rattle.safe_area.proofs.merged_edge.Goals as goal
 
 pub returns-then-local : goal.returns-then-local

@@ -1,17 +1,14 @@
 -- `on_scale`: the numbers passed leave the answer to those after them.
-use borrow.Author.Tests.{not-true, not-false}
 use borrow.Author.Rules.{rules}
 use native.Mathlib.Omega.{arith}
 use mathlib.Core.Path.{◌≡◌, ap}
-use Prim.Native.Nat.{◌-◌}
 use lib.IntN.{pos}
 use lib.ListN.{get_or}
 use lib.Seq.{take-length}
 use Rattle.prelude.specs.Lists.{all_of}
-use Rattle.prelude.proofs.Loops.{Rest, stops, goes_on, runs_out}
+use Rattle.prelude.proofs.Loops.{stops, goes_on, runs_out}
 use Rattle.prelude.proofs.Signed.{kept}
 use Rattle.safe_area.specs.Safe.{within_limits_of, on_scale_of}
-use Rattle.std.proofs.lemmas.Grind.{common_steps}
 use Rattle.safe_area.proofs.on_scale.Goals as goal
 
 pub loop-i-init : goal.loop-i-init

@@ -3,8 +3,6 @@ use Rattle.safe_area.proofs.Scale.{sizes_and_edges}
 use Rattle.prelude.specs.Answer.{must}
 use Rattle.safe_area.specs.Safe.{safe_content_of}
 use mathlib.Core.Path.{sym, ◌∙◌}
-use borrow.Author.Rules.{rules}
-use Rattle.std.proofs.lemmas.Grind.{common_steps}
 use Rattle.safe_area.proofs.safe_content.Goals as goal
 
 pub content-requires : goal.content-requires

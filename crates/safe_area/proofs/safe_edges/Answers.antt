@@ -1,8 +1,6 @@
 -- `safe_edges`: by whether all numbers are on the scale.
 use Rattle.prelude.specs.Answer.{must}
 use Rattle.safe_area.specs.Safe.{safe_edges_of}
-use borrow.Author.Rules.{rules}
-use Rattle.std.proofs.lemmas.Grind.{common_steps}
 use Rattle.safe_area.proofs.safe_edges.Goals as goal
 
 pub returns-then-all_on_scale : goal.returns-then-all_on_scale

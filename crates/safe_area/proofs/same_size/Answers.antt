@@ -3,7 +3,6 @@ use borrow.Author.Rules.{rules}
 use borrow.Author.Tests.{eq-eqb, ne_eqb}
 use Rattle.safe_area.specs.Safe.{entry, same_size_of}
 use Rattle.safe_area.proofs.Scale.{eq_z_back}
-use Rattle.std.proofs.lemmas.Grind.{common_steps}
 use Rattle.safe_area.proofs.same_size.Goals as goal
 
 pub returns-then-a-b : goal.returns-then-a-b

@@ -1,7 +1,6 @@
 -- `within_limits`: the two tests of the definition, of the number as it was stored.
 use mir.Facts.{to_z-of_z}
 use Rattle.safe_area.specs.Safe.{within_limits_of}
-use Rattle.std.proofs.lemmas.Grind.{common_steps}
 use Rattle.safe_area.proofs.within_limits.Goals as goal
 
 pub returns-then-n-geminus8192 : goal.returns-then-n-geminus8192

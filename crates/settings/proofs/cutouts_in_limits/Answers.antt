@@ -1,14 +1,8 @@
 -- The loop stops at the first cutout off its limits; else all are within.
-use borrow.Author.Tests.{not-true, not-false}
-use lib.ListN.{take}
 use Rattle.prelude.specs.Lists.{all_of}
-use Rattle.prelude.proofs.Loops.{in_array, Rest, stops, goes_on, runs_out}
+use Rattle.prelude.proofs.Loops.{stops, goes_on, runs_out}
 use Rattle.layout.specs.Layout.{any_rect}
-use Rattle.settings.specs.Settings.{least, rect_in_limits_of, cutouts_in_limits_of}
-use borrow.Author.Rules.{rules}
-use native.Mathlib.Omega.{arith}
-use Prim.Native.Nat.{◌-◌}
-use Rattle.std.proofs.lemmas.Grind.{common_steps}
+use Rattle.settings.specs.Settings.{cutouts_in_limits_of}
 use Rattle.settings.proofs.cutouts_in_limits.Goals as goal
 
 pub returns-then-not-rect_in_limits : goal.returns-then-not-rect_in_limits

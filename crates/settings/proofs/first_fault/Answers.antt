@@ -1,10 +1,7 @@
 -- Test by test, in tag order: the first that fails gives its number.
-use borrow.Author.Rules.{rules}
-use borrow.Author.Tests.{eq-eqb, ne_eqb, le-leb, lt-leb, not-true, not-false}
-use mathlib.Core.Path.{◌≡◌, sym, ◌∙◌}
-use Rattle.prelude.specs.Answer.{accepted, refusal_of, must}
-use Rattle.settings.specs.Settings.{must_place, must_cutouts, must_saved, tested_of, first_fault_of}
-use Rattle.std.proofs.lemmas.Grind.{common_steps}
+use borrow.Author.Tests.{eq-eqb, ne_eqb, le-leb, lt-leb}
+use Rattle.prelude.specs.Answer.{must}
+use Rattle.settings.specs.Settings.{tested_of, first_fault_of}
 use Rattle.settings.proofs.first_fault.Goals as goal
 
 pub returns-then-not-screen_in_limits : goal.returns-then-not-screen_in_limits

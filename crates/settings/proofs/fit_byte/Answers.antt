@@ -1,7 +1,5 @@
 -- Fit by fit.
-use borrow.Author.Rules.{rules}
 use Rattle.settings.specs.Settings.{fit_byte_of}
-use Rattle.std.proofs.lemmas.Grind.{common_steps}
 use Rattle.settings.proofs.fit_byte.Goals as goal
 
 pub returns-in-Unset : goal.returns-in-Unset

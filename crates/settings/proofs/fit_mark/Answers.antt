@@ -1,9 +1,7 @@
 -- Arm by arm, by what the match tells of the byte.
-use borrow.Author.Rules.{rules}
 use native.Mathlib.Omega.{arith}
 use borrow.Author.Tests.{ne_eqb}
 use Rattle.settings.specs.Settings.{fit_mark_of}
-use Rattle.std.proofs.lemmas.Grind.{common_steps}
 use Rattle.settings.proofs.fit_mark.Goals as goal
 
 pub returns-in-0 : goal.returns-in-0

@@ -1,7 +1,5 @@
 -- The tests, joined.
-use borrow.Author.Rules.{rules}
 use Rattle.settings.specs.Settings.{place_in_limits_of}
-use Rattle.std.proofs.lemmas.Grind.{common_steps}
 use Rattle.settings.proofs.place_in_limits.Goals as goal
 
 pub returns : goal.returns

@@ -1,6 +1,4 @@
 -- Each side is what `max` gave.
-use borrow.Author.Rules.{rules}
-use Rattle.std.proofs.lemmas.Grind.{common_steps}
 use Rattle.settings.proofs.screen_picture.Goals as goal
 
 pub returns : goal.returns

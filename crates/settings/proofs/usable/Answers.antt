@@ -1,7 +1,5 @@
 -- The four tests of `usableOf`.
-use borrow.Author.Rules.{rules}
 use Rattle.settings.specs.Settings.{usable_of}
-use Rattle.std.proofs.lemmas.Grind.{common_steps}
 use Rattle.settings.proofs.usable.Goals as goal
 
 pub returns : goal.returns

@@ -1,6 +1,5 @@
 -- `contains`: the tests of the definition in its order, up to the first that fails.
 use Rattle.geometry.specs.Rect.{contains_of}
-use Rattle.std.proofs.lemmas.Grind.{common_steps}
 use Rattle.geometry.proofs.Rect.contains.Goals as goal
 
 pub returns-then-x-self-2 : goal.returns-then-x-self-2

@@ -1,6 +1,5 @@
 -- `inside`: the tests of the definition in its order, up to the first that fails.
 use Rattle.geometry.specs.Rect.{inside_of}
-use Rattle.std.proofs.lemmas.Grind.{common_steps}
 use Rattle.geometry.proofs.Rect.inside.Goals as goal
 
 pub returns-then-self-w : goal.returns-then-self-w

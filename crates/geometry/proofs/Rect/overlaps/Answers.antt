@@ -1,6 +1,5 @@
 -- `overlaps`: the tests of the definition in its order, up to the first that fails.
 use Rattle.geometry.specs.Rect.{overlaps_of}
-use Rattle.std.proofs.lemmas.Grind.{common_steps}
 use Rattle.geometry.proofs.Rect.overlaps.Goals as goal
 
 -- past the tests of the left, the right and the upper edge

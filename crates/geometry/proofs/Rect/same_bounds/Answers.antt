@@ -1,7 +1,5 @@
 -- `same_bounds`: x, y, w and h in turn, up to the first that is not near.
-use borrow.Author.Rules.{rules}
 use Rattle.geometry.specs.Rect.{same_bounds_of}
-use Rattle.std.proofs.lemmas.Grind.{common_steps}
 use Rattle.geometry.proofs.Rect.same_bounds.Goals as goal
 
 pub returns-then-near-3 : goal.returns-then-near-3

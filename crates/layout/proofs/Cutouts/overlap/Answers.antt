@@ -1,12 +1,7 @@
 -- `overlap`: the rectangles passed leave the answer to those after them.
-use borrow.Author.Rules.{rules}
-use native.Mathlib.Omega.{arith}
-use Prim.Native.Nat.{◌-◌}
 use Rattle.prelude.specs.Lists.{any_of}
-use Rattle.prelude.proofs.Loops.{in_array, Rest, stops, goes_on, runs_out}
-use Rattle.geometry.specs.Rect.{overlaps_of}
-use Rattle.layout.specs.Layout.{any_rect, cutout_list}
-use Rattle.std.proofs.lemmas.Grind.{common_steps}
+use Rattle.prelude.proofs.Loops.{stops, goes_on, runs_out}
+use Rattle.layout.specs.Layout.{any_rect}
 use Rattle.layout.proofs.Cutouts.overlap.Goals as goal
 
 pub returns-then-overlaps : goal.returns-then-overlaps

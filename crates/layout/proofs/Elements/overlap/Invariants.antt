@@ -1,10 +1,7 @@
-use borrow.Author.Rules.{rules}
-use native.Mathlib.Omega.{arith}
-use Prim.Native.Nat.{◌-◌}
 use Rattle.prelude.specs.Lists.{any_of}
-use Rattle.prelude.proofs.Loops.{in_array, Rest, stops, goes_on, runs_out}
+use Rattle.prelude.proofs.Loops.{Rest}
 use Rattle.geometry.specs.Rect.{overlaps_of}
-use Rattle.layout.specs.Layout.{any_rect, element_list}
+use Rattle.layout.specs.Layout.{element_list}
 use Rattle.layout.proofs.Elements.overlap.Given as goal
 
 abbrev pub invariant-loop-k : goal.invariant-loop-k

@@ -1,7 +1,5 @@
 -- `is_face`: each label in turn.
-use borrow.Author.Rules.{rules}
 use Rattle.layout.specs.Label.{is_face_of}
-use Rattle.std.proofs.lemmas.Grind.{common_steps}
 use Rattle.layout.proofs.Label.is_face.Goals as goal
 
 pub returns-in-Tri : goal.returns-in-Tri

@@ -1,7 +1,5 @@
 -- `mask`: each label in turn.
-use borrow.Author.Rules.{rules}
 use Rattle.layout.specs.Label.{mask_of}
-use Rattle.std.proofs.lemmas.Grind.{common_steps}
 use Rattle.layout.proofs.Label.mask.Goals as goal
 
 pub returns-in-Tri : goal.returns-in-Tri

@@ -1,7 +1,5 @@
 -- `name`: the bytes of each label in turn.
-use borrow.Author.Rules.{rules}
 use Rattle.layout.specs.Label.{name_of, padded_name_of}
-use Rattle.std.proofs.lemmas.Grind.{common_steps}
 use Rattle.layout.proofs.Label.name.Goals as goal
 
 pub returns-in-Tri : goal.returns-in-Tri

@@ -1,23 +1,16 @@
 -- `action_bounds`: the box around the faces passed, and whether there was one.
-use borrow.Author.Rules.{rules}
 use native.Mathlib.Omega.{arith}
 use mathlib.Core.Path.{◌≡◌, refl, sym, ◌∙◌}
-use Prim.Native.Nat.{◌+◌, ◌-◌, ◌<◌, ◌≤◌}
-use mathlib.Core.Logic.{⊎_elim}
-use mathlib.Core.List.{List, [], ◌∷◌, ◌++◌}
+use Prim.Native.Nat.{◌+◌, ◌<◌}
+use mathlib.Core.List.{[], ◌∷◌, ◌++◌}
 use lib.ListN.{length, take, get_or}
-use Rattle.prelude.specs.Lists.{filter_map, reduce}
 use Rattle.prelude.proofs.Loops.{one_more, no_more}
-use Rattle.prelude.proofs.Filters.{nonempty, nonempty_more, reduce_more}
-use Rattle.geometry.specs.declared.Rect.{Rect}
+use Rattle.prelude.proofs.Filters.{nonempty_more, reduce_more}
 use Rattle.geometry.specs.Rect.{empty_rect}
-use Rattle.layout.specs.declared.Control.{Control}
-use Rattle.layout.specs.Label.{is_face_of}
 use Rattle.layout.specs.Layout.{any_control}
 use Rattle.layout.specs.Actions.{join_of}
 use Rattle.layout.proofs.ArrayLaws.{array_lengths}
 use Rattle.layout.proofs.ActionLaws.{action_bounds_lem}
-use Rattle.std.proofs.lemmas.Grind.{common_steps}
 use Rattle.layout.proofs.Layout.action_bounds.Goals as goal
 use Rattle.layout.proofs.Layout.action_bounds.Goals.{then-is_face, else-is_face}
 use Rattle.layout.proofs.Layout.action_bounds.Invariants.{faces}

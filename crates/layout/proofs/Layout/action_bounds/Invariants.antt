@@ -1,21 +1,14 @@
-use borrow.Author.Rules.{rules}
-use native.Mathlib.Omega.{arith}
-use mathlib.Core.Path.{◌≡◌, refl, sym, ◌∙◌}
-use Prim.Native.Nat.{◌+◌, ◌-◌, ◌<◌, ◌≤◌}
-use mathlib.Core.Logic.{⊎_elim}
-use mathlib.Core.List.{List, [], ◌∷◌, ◌++◌}
-use lib.ListN.{length, take, get_or}
+use mathlib.Core.Path.{◌≡◌}
+use Prim.Native.Nat.{◌≤◌}
+use mathlib.Core.List.{List}
+use lib.ListN.{take}
 use Rattle.prelude.specs.Lists.{filter_map, reduce}
-use Rattle.prelude.proofs.Loops.{one_more, no_more}
-use Rattle.prelude.proofs.Filters.{nonempty, nonempty_more, reduce_more}
+use Rattle.prelude.proofs.Filters.{nonempty}
 use Rattle.geometry.specs.declared.Rect.{Rect}
 use Rattle.geometry.specs.Rect.{empty_rect}
 use Rattle.layout.specs.declared.Control.{Control}
 use Rattle.layout.specs.Label.{is_face_of}
-use Rattle.layout.specs.Layout.{any_control}
 use Rattle.layout.specs.Actions.{join_of}
-use Rattle.layout.proofs.ArrayLaws.{array_lengths}
-use Rattle.layout.proofs.ActionLaws.{action_bounds_lem}
 use Rattle.layout.proofs.Layout.action_bounds.Given as goal
 
 -- the rectangles of the face controls

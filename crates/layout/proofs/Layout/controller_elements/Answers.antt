@@ -1,7 +1,6 @@
 -- `controller_elements`: the sticks are stored over the keys, after the d-pad and the controls.
 use mathlib.Core.Path.{◌≡◌, refl, ap, sym, ◌∙◌}
 use Prim.Native.Nat.{◌+◌}
-use borrow.Author.Rules.{rules}
 use mathlib.Core.List.{List, [], ◌∷◌, ◌++◌}
 use native.Mathlib.Omega.{arith}
 use lib.ListN.{length, take, get_or}
@@ -12,7 +11,6 @@ use Rattle.geometry.specs.declared.Rect.{Rect}
 use Rattle.layout.specs.Layout.{any_rect, bounds_of}
 use Rattle.layout.proofs.ArrayLaws.{array_lengths}
 use Rattle.layout.proofs.ElementLaws.{first_elements, controller_elements_lem}
-use Rattle.std.proofs.lemmas.Grind.{common_steps}
 use Rattle.layout.proofs.Layout.controller_elements.Goals as goal
 
 pub returns : goal.returns

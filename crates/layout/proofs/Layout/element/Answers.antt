@@ -2,9 +2,8 @@
 use native.Mathlib.Omega.{arith}
 use mathlib.Core.Path.{sym}
 use lib.Dec.{lit<}
-use borrow.Author.Rules.{rules, scaled_Fits}
+use borrow.Author.Rules.{scaled_Fits}
 use Rattle.layout.proofs.ElementLaws.{element_dpad, element_control, element_pause, element_playback, element_speed, element_mute, element_stick, stick_index, stick_below}
-use Rattle.std.proofs.lemmas.Grind.{common_steps}
 use Rattle.layout.proofs.Layout.element.Goals as goal
 
 pub returns-then-index-eq0 : goal.returns-then-index-eq0

@@ -1,15 +1,13 @@
 -- `elements`: the d-pad and the controls by the loop, the keys and the sticks stored after them.
-use borrow.Author.Rules.{rules}
 use native.Mathlib.Omega.{arith}
 use mathlib.Core.Path.{◌≡◌, refl, ap, ◌∙◌}
-use Prim.Native.Nat.{◌+◌, ◌-◌, ◌≤◌, suc}
+use Prim.Native.Nat.{◌+◌, suc}
 use Rattle.geometry.specs.declared.Rect.{Rect}
-use mathlib.Core.List.{List, [], ◌∷◌, ◌++◌, map}
-use lib.ListN.{length, take, get_or, length-set}
+use mathlib.Core.List.{List, [], ◌∷◌, ◌++◌}
+use lib.ListN.{take, get_or, length-set}
 use Rattle.prelude.proofs.Stores.{map_put, take_store, two}
 use Rattle.layout.specs.Layout.{any_rect, bounds_of, elements_of, element_count_of}
 use Rattle.layout.proofs.ArrayLaws.{array_lengths}
-use Rattle.std.proofs.lemmas.Grind.{common_steps}
 use Rattle.layout.proofs.Layout.elements.Goals as goal
 
 pub loop-i-init : goal.loop-i-init

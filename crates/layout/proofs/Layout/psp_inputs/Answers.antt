@@ -1,16 +1,13 @@
 -- `psp_inputs`: the controls passed that a psp has stand in front, and are counted.
-use borrow.Author.Rules.{rules}
 use native.Mathlib.Omega.{arith}
 use mathlib.Core.Path.{◌≡◌, refl, ap, ◌∙◌}
-use Prim.Native.Nat.{◌-◌, ◌<◌, ◌≤◌}
-use mathlib.Core.Logic.{⊎_elim}
-use lib.ListN.{length, length-set, take}
+use Prim.Native.Nat.{◌<◌}
+use lib.ListN.{length, length-set}
 use Rattle.prelude.specs.Lists.{retain, compact}
 use Rattle.prelude.proofs.Filters.{put_count, put_list, skip_count, skip_list}
 use Rattle.layout.specs.Layout.{any_control, control_list}
 use Rattle.layout.specs.Psp.{on_psp, psp_inputs_of}
 use Rattle.layout.proofs.ArrayLaws.{array_lengths}
-use Rattle.std.proofs.lemmas.Grind.{common_steps}
 use Rattle.layout.proofs.Layout.psp_inputs.Goals as goal
 use Rattle.layout.proofs.Layout.psp_inputs.Goals.{then-on_psp, else-on_psp}
 

@@ -1,14 +1,8 @@
-use borrow.Author.Rules.{rules}
-use native.Mathlib.Omega.{arith}
-use mathlib.Core.Path.{◌≡◌, refl, ap, ◌∙◌}
-use Prim.Native.Nat.{◌-◌, ◌<◌, ◌≤◌}
-use mathlib.Core.Logic.{⊎_elim}
-use lib.ListN.{length, length-set, take}
+use mathlib.Core.Path.{◌≡◌}
+use Prim.Native.Nat.{◌≤◌}
+use lib.ListN.{length, take}
 use Rattle.prelude.specs.Lists.{retain, compact}
-use Rattle.prelude.proofs.Filters.{put_count, put_list, skip_count, skip_list}
-use Rattle.layout.specs.Layout.{any_control, control_list}
-use Rattle.layout.specs.Psp.{on_psp, psp_inputs_of}
-use Rattle.layout.proofs.ArrayLaws.{array_lengths}
+use Rattle.layout.specs.Psp.{on_psp}
 use Rattle.layout.proofs.Layout.psp_inputs.Given as goal
 
 abbrev pub invariant-loop-i : goal.invariant-loop-i

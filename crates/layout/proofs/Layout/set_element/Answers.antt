@@ -2,10 +2,9 @@
 use native.Mathlib.Omega.{arith}
 use mathlib.Core.Path.{sym}
 use lib.Dec.{lit<}
-use borrow.Author.Rules.{rules, scaled_Fits}
+use borrow.Author.Rules.{scaled_Fits}
 use Rattle.layout.proofs.ElementLaws.{stick_index, stick_below}
 use Rattle.layout.proofs.SetElementLaws.{set_dpad, set_control, set_pause, set_playback, set_speed, set_mute, set_stick}
-use Rattle.std.proofs.lemmas.Grind.{common_steps}
 use Rattle.layout.proofs.Layout.set_element.Goals as goal
 
 pub returns-then-index-eq0 : goal.returns-then-index-eq0

@@ -1,13 +1,11 @@
 -- `set_elements`: controls by `set_bounds`, sticks by the loop, the rest by index; rectangles past the count do not matter.
-use borrow.Author.Rules.{rules}
 use native.Mathlib.Omega.{arith}
 use mathlib.Core.Path.{◌≡◌, refl, ap₂, sym, ◌∙◌}
-use Prim.Native.Nat.{◌+◌, ◌-◌}
+use Prim.Native.Nat.{◌+◌}
 use mathlib.Core.List.{List}
 use lib.ListN.{length, length-drop, drop}
 use lib.Seq.{get_or-drop}
-use Rattle.prelude.specs.Lists.{replace_first}
-use Rattle.prelude.proofs.Loops.{sized, Done, all_done}
+use Rattle.prelude.proofs.Loops.{sized, all_done}
 use Rattle.prelude.proofs.Stores.{replaces}
 use Rattle.geometry.specs.declared.Rect.{Rect}
 use Rattle.layout.specs.declared.Control.{Control}
@@ -15,7 +13,6 @@ use Rattle.layout.specs.Layout.{any_rect, with_controls, with_sticks}
 use Rattle.layout.specs.Elements.{set_elements_of}
 use Rattle.layout.proofs.ArrayLaws.{array_lengths}
 use Rattle.layout.proofs.SetElementLaws.{set_elements_front}
-use Rattle.std.proofs.lemmas.Grind.{common_steps}
 use Rattle.layout.proofs.Layout.set_elements.Goals as goal
 
 pub loop-i-init : goal.loop-i-init

@@ -1,11 +1,9 @@
 -- A bit each, of 1, 2 and 4.
-use borrow.Author.Rules.{rules}
 use native.Mathlib.Omega.{arith}
 use mathlib.Core.Bool.{Bool, cond}
 use Prim.Native.Nat.{ℕ, ◌≤◌}
 use Rattle.prelude.proofs.Booleans.{either}
 use Rattle.settings.specs.Settings.{mode_byte_of}
-use Rattle.std.proofs.lemmas.Grind.{common_steps}
 use Rattle.settings.proofs.Preset.mode_byte.Goals as goal
 
 most : (b : Bool) (n : ℕ) → cond b n 0 ≤ n

@@ -1,7 +1,5 @@
 -- Fit by fit; an unset one by the test of `untouched`.
 use Rattle.settings.specs.Settings.{picture_fit_of}
-use borrow.Author.Rules.{rules}
-use Rattle.std.proofs.lemmas.Grind.{common_steps}
 use Rattle.settings.proofs.Preset.picture_fit.Goals as goal
 
 pub returns-then-untouched : goal.returns-then-untouched

@@ -1,6 +1,5 @@
 -- Test by test, each `&&` a branch.
 use Rattle.settings.specs.Settings.{untouched_of}
-use Rattle.std.proofs.lemmas.Grind.{common_steps}
 use Rattle.settings.proofs.Preset.untouched.Goals as goal
 
 pub returns-then-self-2 : goal.returns-then-self-2

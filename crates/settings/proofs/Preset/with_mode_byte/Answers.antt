@@ -1,6 +1,5 @@
 -- The byte's three bits: `test_bit`.
 use Rattle.settings.proofs.Bits.{test_bit}
-use Rattle.std.proofs.lemmas.Grind.{common_steps}
 use Rattle.settings.proofs.Preset.with_mode_byte.Goals as goal
 
 pub returns : goal.returns

@@ -1,7 +1,5 @@
 -- Each value as document 01 has it, the preset by `Preset::default`.
 use Rattle.settings.specs.Settings.{absent_of}
-use borrow.Author.Rules.{rules}
-use Rattle.std.proofs.lemmas.Grind.{common_steps}
 use Rattle.settings.proofs.Settings.absent.Goals as goal
 
 pub returns : goal.returns
