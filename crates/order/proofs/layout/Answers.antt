@@ -15,7 +15,11 @@ pub returns-then-reading-ne0 : goal.returns-then-reading-ne0
 unfolding layout_of layout_output_of order_layout
 returns-then-reading-ne0 c =
     let refused = read_refused _ c.read_order-reading.ensures c.if-reading-ne0.true in
-    (rw refused, (rw refused, λ s n r a k. absurd (never (sym a))))
+    record {
+      answer = rw refused;
+      output = rw refused;
+      widest = λ s n r a k. absurd (never (sym a));
+    }
 
 pub settings_layout-requires : goal.settings_layout-requires
 settings_layout-requires c = accepted_order _ (read_accepted _ c.read_order-reading.ensures c.if-reading-ne0.false)
@@ -31,4 +35,8 @@ returns c =
     let laid = c.settings_layout in
     let accepted = read_accepted _ c.read_order-reading.ensures c.if-reading-ne0.false in
     let written = c.write.ensures in
-    rw (written.0, written.1, laid.ensures) (rw accepted, (rw accepted, order_widest _ accepted (rw (← laid.ensures) (layout_owned _ _ laid.type-inv)) _))
+    record {
+      answer = rw (written.answer, laid.ensures, accepted);
+      output = rw (written.output, laid.ensures, accepted);
+      widest = rw (written.answer, written.output, laid.ensures) (order_widest _ accepted (rw (← laid.ensures) (layout_owned _ _ laid.type_inv)) _);
+    }

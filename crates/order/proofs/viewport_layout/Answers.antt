@@ -1,7 +1,6 @@
 -- A refused order and tops off their limits are refused; else the viewport's layout, of few counts, is written.
 use mathlib.Core.Path.{sym, ◌∙◌}
 use borrow.Author.Rules.{rules}
-use borrow.Author.Tests.{not-true, not-false}
 use Rattle.prelude.specs.Answer.{must}
 use Rattle.settings.proofs.Accepted.{tops_least}
 use Rattle.reader.proofs.Accepted.{accepted_order}
@@ -25,7 +24,7 @@ unfolding viewport_of viewport_output_of order_viewport must
 returns-then-not-tops_in_limits c =
     let tops = c.tops_in_limits in
     let accepted = read_accepted _ c.read_order-reading.ensures c.if-reading-ne0.false in
-    let off = not-true tops.result c.if-not-tops_in_limits.true in
+    let off = c.if-not-tops_in_limits.true in
     record {
       answer = rw (accepted, ← tops.ensures, off);
       output = rw (accepted, ← tops.ensures, off);
@@ -35,7 +34,7 @@ pub settings_viewport-requires : goal.settings_viewport-requires
 settings_viewport-requires c =
     let tops = c.tops_in_limits in
     let accepted = read_accepted _ c.read_order-reading.ensures c.if-reading-ne0.false in
-    (accepted_order _ accepted, tops_least _ _ (sym tops.ensures ∙ not-false tops.result c.if-not-tops_in_limits.false))
+    (accepted_order _ accepted, tops_least _ _ (sym tops.ensures ∙ c.if-not-tops_in_limits.false))
 
 pub write-requires : goal.write-requires
 write-requires c = rw c.settings_viewport.ensures (viewport_few c.read_order-reading.result.settings _ _)
@@ -45,9 +44,8 @@ unfolding viewport_of viewport_output_of order_viewport must
 returns c =
     let tops = c.tops_in_limits in
     let accepted = read_accepted _ c.read_order-reading.ensures c.if-reading-ne0.false in
-    let on = not-false tops.result c.if-not-tops_in_limits.false in
-    let written = rw c.settings_viewport.ensures at c.write.ensures in
+    let on = c.if-not-tops_in_limits.false in
     record {
-      answer = rw (accepted, ← tops.ensures, on) written.0;
-      output = rw (accepted, ← tops.ensures, on) written.1;
+      answer = rw (accepted, ← tops.ensures, on) (rw c.settings_viewport.ensures at c.write.ensures.answer);
+      output = rw (accepted, ← tops.ensures, on) (rw c.settings_viewport.ensures at c.write.ensures.output);
     }
