@@ -1,9 +1,11 @@
--- The functions that hosts call with an order: its layout in bytes, the mask of a touch, and `PlayerViewport::layout`.
+-- The functions that hosts call with an order: its layout in bytes, the mask of a touch, fingers on its layout, and `PlayerViewport::layout`.
 use Rattle.std.specs.Prelude.{List, ℕ, Float}
 use Rattle.prelude.specs.Answer.{Answer, accepted, refused, must, and_then}
 use Rattle.layout.specs.declared.Layout.{Layout}
 use Rattle.settings.specs.Settings.{tops_in_limits_of}
 use Rattle.touch.specs.Touch.{mask_near_of}
+use Rattle.tracker.specs.declared.Tracker.{Tracker}
+use Rattle.tracker.specs.Tracker.{Call, call_of}
 use Rattle.reader.specs.Order.{read_order_of}
 use Rattle.writer.specs.Bytes.{write_layout_of, output_of}
 use Rattle.preset.specs.Preset.{settings_layout_of, settings_viewport_of}
@@ -43,6 +45,12 @@ layout_output_of order out = written_output (order_layout order) out
 
 unfoldable pub touch_of : List ℕ → Float → Float → ℕ → Answer ℕ
 touch_of order x y previous = and_then (order_layout order) (λ l. accepted (mask_near_of l x y previous))
+
+-- ---- fingers on the layout of an order
+
+-- the tracker that a call over that layout leaves, or a refusal: the order's first
+unfoldable pub order_call_of : Tracker → List ℕ → (Layout → Call) → Answer Tracker
+order_call_of t order call = and_then (order_layout order) (λ l. call_of t (call l))
 
 -- ---- `PlayerViewport::layout`
 

@@ -1,17 +1,19 @@
-// The functions that hosts call with an order: its layout in bytes, the mask of a touch, and `PlayerViewport::layout`.
+// The functions that hosts call with an order: its layout in bytes, the mask of a touch, fingers on its layout, and `PlayerViewport::layout`.
 #![tactic(auto)]
 
 ghost use Rattle.std.specs.Prelude.{◌≡◌};
 ghost use Rattle.layout.specs.Layout.{Few};
+ghost use Rattle.tracker.specs.Tracker.{Press, MoveTo, Lift, masks_of, kept_or, finger_answer};
 ghost use Rattle.writer.specs.Bytes.{write_layout_of, output_of};
-ghost use Rattle.order.specs.Orders.{layout_answer, touch_answer, layout_of, layout_output_of, touch_of, viewport_of, viewport_output_of};
+ghost use Rattle.order.specs.Orders.{layout_answer, touch_answer, layout_of, layout_output_of, touch_of, order_call_of, viewport_of, viewport_output_of};
 ghost use Rattle.order.specs.Demands.{WidestWritten};
 
-use layout::Layout;
+use layout::{EMPTY_LAYOUT, Layout};
 use preset::{settings_layout, settings_viewport};
 use reader::read_order;
 use settings::tops_in_limits;
 use touch::mask_near;
+use tracker::{Tracked, Tracker, lifted, moved, pressed};
 use writer::{Written, write_layout};
 
 // How many bytes were written, or the number of a refusal.
@@ -60,6 +62,40 @@ pub fn touch(order: &[u8], x: f32, y: f32, previous: u16) -> TouchAnswer
         return TouchAnswer::Refused(reading.refusal);
     }
     TouchAnswer::Mask(mask_near(settings_layout(reading.settings), x, y, previous))
+}
+
+pub fn order_pressed(t: Tracker, order: &[u8], finger: u8, x: f32, y: f32) -> Tracked
+    ensures answer { finger_answer result.answer ≡ masks_of finger (order_call_of t order.now (Press finger x y)) }
+    ensures tracker { result.next ≡ kept_or t (order_call_of t order.now (Press finger x y)) }
+{
+    let reading = read_order(order);
+    if reading.refusal != 0 {
+        return t.kept(reading.refusal);
+    }
+    pressed(t, settings_layout(reading.settings), finger, x, y)
+}
+
+pub fn order_moved(t: Tracker, order: &[u8], finger: u8, x: f32, y: f32) -> Tracked
+    ensures answer { finger_answer result.answer ≡ masks_of finger (order_call_of t order.now (MoveTo finger x y)) }
+    ensures tracker { result.next ≡ kept_or t (order_call_of t order.now (MoveTo finger x y)) }
+{
+    let reading = read_order(order);
+    if reading.refusal != 0 {
+        return t.kept(reading.refusal);
+    }
+    moved(t, settings_layout(reading.settings), finger, x, y)
+}
+
+// A lift does not look at the layout, so none is made.
+pub fn order_lifted(t: Tracker, order: &[u8], finger: u8) -> Tracked
+    ensures answer { finger_answer result.answer ≡ masks_of finger (order_call_of t order.now (Lift finger)) }
+    ensures tracker { result.next ≡ kept_or t (order_call_of t order.now (Lift finger)) }
+{
+    let reading = read_order(order);
+    if reading.refusal != 0 {
+        return t.kept(reading.refusal);
+    }
+    lifted(t, EMPTY_LAYOUT, finger)
 }
 
 // The tops are looked at after the whole order.

@@ -7,21 +7,25 @@ use Prim.Native.Nat.{ℕ, zero, suc, ◌<◌, ◌≤◌}
 use native.Mathlib.Omega.{arith}
 use lib.Dec.{leb}
 use lib.Ieee.{Float}
-use lib.IntN.{negsuc}
+use lib.IntN.{pos, negsuc, neg_ℤ}
 use lib.ListN.{length}
 use lib.Signed.{mag}
 use Rattle.prelude.specs.Answer.{Answer, accepted, refused, must}
-use Rattle.prelude.proofs.AnswerLaws.{must_refused}
+use Rattle.prelude.proofs.AnswerLaws.{never, must_refused, refused_then}
 use Rattle.prelude.proofs.Booleans.{either}
 use Rattle.settings.specs.declared.Preset.{Preset}
 use Rattle.settings.specs.declared.Settings.{Settings}
 use Rattle.settings.specs.Settings.{tops_in_limits_of, tested_of, first_fault_of}
 use Rattle.settings.proofs.Accepted.{no_fault}
+use Rattle.layout.specs.declared.Layout.{Layout}
+use Rattle.tracker.specs.declared.Tracker.{Tracker}
+use Rattle.tracker.specs.Tracker.{Call, masks_of, kept_or}
+use Rattle.tracker.proofs.TrackerLaws.{refusals}
 use Rattle.safe_area.specs.Safe.{safe_content_of, safe_edges_of}
 use Rattle.reader.proofs.Accepted.{refused_order}
 use Rattle.reader.specs.Order.{read_order_of}
 use Rattle.wire.specs.Wire.{room_for}
-use Rattle.order.specs.Orders.{order_layout, layout_of, order_viewport, viewport_of}
+use Rattle.order.specs.Orders.{order_layout, layout_of, order_call_of, order_viewport, viewport_of}
 use Rattle.order.specs.Promises.{bytes_for}
 use Rattle.order.proofs.OrderLaws.{layout_bytes_lem, viewport_bytes, layout_refused, viewport_refused, touch_refused}
 use Rattle.order_writer.specs.OrderBytes.{written_order_of}
@@ -29,9 +33,8 @@ use Rattle.written_order.proofs.Shortest.{order_small}
 use Rattle.written_order.proofs.Refused.{tested_refused, written_refused}
 use Rattle.film_sheet.specs.Film.{film_sheet_of}
 use Rattle.film_sheet.proofs.FilmLaws.{film_fits}
-use Rattle.thumb_layout.specs.Interface.{number_of, tl_layout_of, tl_touch_of, tl_viewport_layout_of, tl_film_of, status_of, content_from, tl_safe_content_of, tl_safe_content_output_of, edges_from, tl_safe_edges_of, tl_safe_edges_output_of}
-use Rattle.thumb_layout.specs.Interface.{tested_from, tl_write_order_of, tl_write_order_output_of}
-use Rattle.thumb_layout.specs.Promises.{LayoutSmall, ViewportSmall, WriteOrderSmall, FilmSmall, LayoutBelow, ViewportBelow, TouchBelow, WriteOrderBelow, ContentBelow, EdgesBelow}
+use Rattle.thumb_layout.specs.Interface.{number_of, tl_layout_of, tl_touch_of, tl_viewport_layout_of, tl_film_of, status_of, content_from, tl_safe_content_of, tl_safe_content_output_of, edges_from, tl_safe_edges_of, tl_safe_edges_output_of, masks_numbers, tl_masks_of, tl_tracker_of, tested_from, tl_write_order_of, tl_write_order_output_of}
+use Rattle.thumb_layout.specs.Promises.{LayoutSmall, ViewportSmall, WriteOrderSmall, FilmSmall, LayoutBelow, ViewportBelow, TouchBelow, CallBelow, WriteOrderBelow, ContentBelow, EdgesBelow}
 
 -- ---- bytes, as many as there is room for, and the number of a refusal
 room_small : (n most : ℕ) (out : List ℕ) → n ≤ most → 8 ≤ most → mag (number_of (room_for n out)) ≤ most
@@ -112,6 +115,26 @@ viewport_below order out reusable covered n e = let r = viewport_refused order r
 pub touch_below : TouchBelow
 unfolding tl_touch_of
 touch_below order x y previous n e = touch_refused order x y previous (number_refused _ e)
+
+-- the order's refusal, or the call's
+call_refused : (t : Tracker) (order : List ℕ) (call : Layout → Call) {n : ℕ} → order_call_of t order call ≡ refused (suc n) → (read_order_of order ≡ refused (suc n)) ⊎ ((n ≡ 8) ⊎ (n ≡ 9))
+unfolding order_call_of order_layout
+call_refused t order call {n} e =
+    refused_then _ _ (refused_then _ _ inl (λ s r. absurd (never r)))
+    (λ l r. inr (elim (refusals t (call l) (suc n) r) [ inl h ↦ inl (omega (arith, h.0)) | inr h ↦ inr (omega (arith, h.0)) ])) e
+
+pub call_below : CallBelow
+unfolding tl_masks_of tl_tracker_of
+call_below t order finger call n = go (order_call_of t order call) refl
+  where
+    go : (a : Answer Tracker) → order_call_of t order call ≡ a → let masks = masks_numbers (masks_of finger a) in (masks.mask ≡ negsuc n) ⊎ (masks.combined ≡ negsuc n)
+        → ((read_order_of order ≡ refused (suc n)) ⊎ ((n ≡ 8) ⊎ (n ≡ 9))) × (masks.mask ≡ negsuc n) × (masks.combined ≡ negsuc n) × (kept_or t a ≡ t)
+    go (accepted u) e h = absurd (elim h [ inl p ↦ never (number_refused (accepted _) p) | inr p ↦ never (number_refused (accepted _) p) ])
+    go (refused k) e h =
+        let p : neg_ℤ (pos k) ≡ negsuc n = elim h [ inl q ↦ q | inr q ↦ q ] in
+        let r = number_refused (refused k) p in
+        let same : k ≡ suc n = cc in
+        (call_refused t order call (rw same at e), p, p, refl)
 
 -- the number of a refusal that writing gives
 abbrev OfWriting : ℕ → Type 0

@@ -2,14 +2,18 @@
 use Rattle.std.specs.Prelude.{Bool, not, List, [], ◌∷◌, ℕ, ◌+◌, ◌%◌, eqb, Float, ℤ, pos, neg_ℤ, length}
 use Rattle.prelude.specs.Answer.{Answer, accepted, refused, must, and_then}
 use Rattle.geometry.specs.declared.Rect.{Rect}
+use Rattle.layout.specs.declared.Layout.{Layout}
+use Rattle.tracker.specs.declared.Tracker.{Tracker}
+use Rattle.tracker.specs.Tracker.{Call, masks_of, kept_or}
 use Rattle.safe_area.specs.Safe.{entry, safe_content_of, safe_edges_of}
 use Rattle.safe_area.specs.declared.Edges.{Edges}
 use Rattle.settings.specs.declared.Settings.{Settings}
 use Rattle.settings.specs.Settings.{tested_of}
 use Rattle.order_writer.specs.Numbers.{settings_from}
 use Rattle.order_writer.specs.OrderBytes.{written_order_of, written_order_output}
-use Rattle.order.specs.Orders.{layout_of, touch_of, viewport_of}
+use Rattle.order.specs.Orders.{layout_of, touch_of, order_call_of, viewport_of}
 use Rattle.film_sheet.specs.Film.{film_sheet_of}
+use Rattle.thumb_layout.specs.declared.Masks.{Masks}
 
 -- an answer as a number: minus the refusal's, if it is one
 abbrev pub number_of : Answer ℕ → ℤ
@@ -26,6 +30,21 @@ tl_touch_of order x y previous = number_of (touch_of order x y previous)
 
 unfoldable pub tl_viewport_layout_of : List ℕ → Float → Float → List ℕ → ℤ
 tl_viewport_layout_of order reusable covered out = number_of (viewport_of order reusable covered out)
+
+-- ---- fingers on the layout of an order
+
+-- minus a refusal in both, if it is one
+abbrev pub masks_numbers : Answer (ℕ × ℕ) → Masks
+masks_numbers answer = record {
+  mask = number_of (and_then answer (λ masks. accepted masks.0));
+  combined = number_of (and_then answer (λ masks. accepted masks.1));
+}
+
+unfoldable pub tl_masks_of : Tracker → List ℕ → ℕ → (Layout → Call) → Masks
+tl_masks_of t order finger call = masks_numbers (masks_of finger (order_call_of t order call))
+
+unfoldable pub tl_tracker_of : Tracker → List ℕ → (Layout → Call) → Tracker
+tl_tracker_of t order call = kept_or t (order_call_of t order call)
 
 -- ---- settings as numbers
 

@@ -2,10 +2,13 @@
 use Rattle.std.specs.Prelude.{◌≡◌, List, ◌⊎◌, ℕ, suc, ◌<◌, ◌≤◌, Float, ℤ, negsuc}
 use Rattle.std.specs.Int.Signed.{mag}
 use Rattle.prelude.specs.Answer.{refused}
+use Rattle.layout.specs.declared.Layout.{Layout}
+use Rattle.tracker.specs.declared.Tracker.{Tracker}
+use Rattle.tracker.specs.Tracker.{Call}
 use Rattle.reader.specs.Order.{read_order_of}
 use Rattle.order.specs.Orders.{layout_output_of, viewport_output_of}
 use Rattle.thumb_layout.specs.Interface.{tl_layout_of, tl_touch_of, tl_viewport_layout_of, tl_film_of, tl_safe_content_of, tl_safe_content_output_of, tl_safe_edges_of, tl_safe_edges_output_of}
-use Rattle.thumb_layout.specs.Interface.{tl_write_order_of, tl_write_order_output_of}
+use Rattle.thumb_layout.specs.Interface.{tl_masks_of, tl_tracker_of, tl_write_order_of, tl_write_order_output_of}
 
 -- ---- lengths: the magnitude of an answer
 
@@ -38,6 +41,14 @@ ViewportBelow = (order out : List ℕ) (reusable covered : Float) (n : ℕ) → 
 -- Of a touch it is the refusal of its order.
 abbrev pub TouchBelow : Type 0
 TouchBelow = (order : List ℕ) (x y : Float) (previous n : ℕ) → tl_touch_of order x y previous ≡ negsuc n → read_order_of order ≡ refused (suc n)
+
+-- Of a finger's call it is the refusal of its order, or 9 or 10, in both numbers, and the lent tracker is as it was.
+abbrev pub CallBelow : Type 0
+CallBelow =
+    (t : Tracker) (order : List ℕ) (finger : ℕ) (call : Layout → Call) (n : ℕ) →
+    let masks = tl_masks_of t order finger call in
+    (masks.mask ≡ negsuc n) ⊎ (masks.combined ≡ negsuc n) →
+    ((read_order_of order ≡ refused (suc n)) ⊎ ((n ≡ 8) ⊎ (n ≡ 9))) × (masks.mask ≡ negsuc n) × (masks.combined ≡ negsuc n) × (tl_tracker_of t order call ≡ t)
 
 -- Of an order that is written it is 5, 6, 7 or 8, or 100 for a bad call, and the lent output is as it was.
 abbrev pub WriteOrderBelow : Type 0

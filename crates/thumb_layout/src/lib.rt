@@ -6,14 +6,16 @@ ghost use Rattle.std.specs.Prelude.{◌≡◌, ◌+◌, ◌≤◌, pos, neg_ℤ,
 ghost use Rattle.std.specs.Int.Signed.{mag};
 ghost use Rattle.order.specs.Demands.{WidestWritten};
 ghost use Rattle.order.specs.Orders.{layout_answer, layout_of, layout_output_of, viewport_output_of};
+ghost use Rattle.tracker.specs.Tracker.{Press, MoveTo, Lift, finger_answer};
 ghost use Rattle.film_sheet.specs.Film.{film_sheet_of};
 ghost use Rattle.thumb_layout.specs.Interface.{number_of, two_of, four_of, tl_layout_of, tl_touch_of, tl_viewport_layout_of, tl_film_of, tl_safe_content_of, tl_safe_content_output_of, tl_safe_edges_of, tl_safe_edges_output_of};
-ghost use Rattle.thumb_layout.specs.Interface.{tl_write_order_of, tl_write_order_output_of};
+ghost use Rattle.thumb_layout.specs.Interface.{masks_numbers, tl_masks_of, tl_tracker_of, tl_write_order_of, tl_write_order_output_of};
 
 use film_sheet::film_sheet;
-use order::{LayoutAnswer, TouchAnswer};
+use order::{LayoutAnswer, TouchAnswer, order_lifted, order_moved, order_pressed};
 use order_writer::{OrderAnswer, write_numbers};
 use safe_area::{SafeContent, SafeEdges, safe_content, safe_edges};
+use tracker::{FingerAnswer, Tracked, Tracker};
 
 // ---- orders
 
@@ -64,6 +66,99 @@ fn minus(refusal: u8) -> i32
     ensures { result ≡ neg_ℤ (pos refusal) }
 {
     -(refusal as i32)
+}
+
+// ---- fingers
+
+// The finger's mask and the combined mask, or minus the number of a refusal in both.
+#[repr(C)]
+#[derive(Clone, Copy)]
+pub struct Masks {
+    pub mask: i32,
+    pub combined: i32,
+}
+
+// What a call leaves of a tracker, and what it answers in numbers.
+#[derive(Clone, Copy)]
+pub struct Numbered {
+    pub next: Tracker,
+    pub masks: Masks,
+}
+
+fn in_numbers(tracked: Tracked) -> Numbered
+    ensures masks { result.masks ≡ masks_numbers (finger_answer tracked.answer) }
+    ensures tracker { result.next ≡ tracked.next }
+{
+    let next = tracked.next;
+    let answer = tracked.answer;
+    match answer {
+        FingerAnswer::Masks(mask, combined) => {
+            let masks = Masks {
+                mask: mask as i32,
+                combined: combined as i32,
+            };
+            Numbered { next, masks }
+        }
+        FingerAnswer::Refused(n) => {
+            let number = minus(n);
+            let masks = Masks {
+                mask: number,
+                combined: number,
+            };
+            Numbered { next, masks }
+        }
+    }
+}
+
+fn pressed_numbers(t: Tracker, order: &[u8], finger: u8, x: f32, y: f32) -> Numbered
+    ensures masks { result.masks ≡ tl_masks_of t order.now finger (Press finger x y) }
+    ensures tracker { result.next ≡ tl_tracker_of t order.now (Press finger x y) }
+{
+    in_numbers(order_pressed(t, order, finger, x, y))
+}
+
+fn moved_numbers(t: Tracker, order: &[u8], finger: u8, x: f32, y: f32) -> Numbered
+    ensures masks { result.masks ≡ tl_masks_of t order.now finger (MoveTo finger x y) }
+    ensures tracker { result.next ≡ tl_tracker_of t order.now (MoveTo finger x y) }
+{
+    in_numbers(order_moved(t, order, finger, x, y))
+}
+
+fn lifted_numbers(t: Tracker, order: &[u8], finger: u8) -> Numbered
+    ensures masks { result.masks ≡ tl_masks_of t order.now finger (Lift finger) }
+    ensures tracker { result.next ≡ tl_tracker_of t order.now (Lift finger) }
+{
+    in_numbers(order_lifted(t, order, finger))
+}
+
+#[unsafe(no_mangle)]
+pub extern "C" fn tl_press(t: &mut Tracker, order: &[u8], finger: u8, x: f32, y: f32) -> Masks
+    ensures masks { result ≡ tl_masks_of t.old order.now finger (Press finger x y) }
+    ensures tracker { t.new ≡ tl_tracker_of t.old order.now (Press finger x y) }
+{
+    let numbered = pressed_numbers(*t, order, finger, x, y);
+    *t = numbered.next;
+    numbered.masks
+}
+
+#[unsafe(no_mangle)]
+pub extern "C" fn tl_move(t: &mut Tracker, order: &[u8], finger: u8, x: f32, y: f32) -> Masks
+    ensures masks { result ≡ tl_masks_of t.old order.now finger (MoveTo finger x y) }
+    ensures tracker { t.new ≡ tl_tracker_of t.old order.now (MoveTo finger x y) }
+{
+    let numbered = moved_numbers(*t, order, finger, x, y);
+    *t = numbered.next;
+    numbered.masks
+}
+
+#[unsafe(no_mangle)]
+pub extern "C" fn tl_lift(t: &mut Tracker, order: &[u8], finger: u8) -> Masks
+    ensures masks { result ≡ tl_masks_of t.old order.now finger (Lift finger) }
+    ensures tracker { t.new ≡ tl_tracker_of t.old order.now (Lift finger) }
+{
+    let numbered = lifted_numbers(*t, order, finger);
+    *t = numbered.next;
+    numbered.masks
 }
 
 // ---- settings
