@@ -33,7 +33,8 @@ use Rattle.written_order.proofs.Shortest.{order_small}
 use Rattle.written_order.proofs.Refused.{tested_refused, written_refused}
 use Rattle.film_sheet.specs.Film.{film_sheet_of}
 use Rattle.film_sheet.proofs.FilmLaws.{film_fits}
-use Rattle.thumb_layout.specs.Interface.{number_of, tl_layout_of, tl_touch_of, tl_viewport_layout_of, tl_film_of, status_of, content_from, tl_safe_content_of, tl_safe_content_output_of, edges_from, tl_safe_edges_of, tl_safe_edges_output_of, masks_numbers, tl_masks_of, tl_tracker_of, tested_from, tl_write_order_of, tl_write_order_output_of}
+use Rattle.thumb_layout.specs.Interface.{number_of, tl_layout_of, tl_touch_of, tl_viewport_layout_of, tl_film_of, status_of, content_from, tl_safe_content_of, tl_safe_content_output_of, edges_from, tl_safe_edges_of, tl_safe_edges_output_of}
+use Rattle.thumb_layout.specs.Interface.{masks_numbers, tl_masks_of, tl_tracker_of, tested_from, tl_write_order_of, tl_write_order_output_of}
 use Rattle.thumb_layout.specs.Promises.{LayoutSmall, ViewportSmall, WriteOrderSmall, FilmSmall, LayoutBelow, ViewportBelow, TouchBelow, CallBelow, WriteOrderBelow, ContentBelow, EdgesBelow}
 
 -- ---- bytes, as many as there is room for, and the number of a refusal
