@@ -5,9 +5,13 @@
 ghost use Rattle.std.specs.Prelude.{◌≡◌};
 ghost use Rattle.order.specs.Demands.{WidestWritten};
 ghost use Rattle.order.specs.Orders.{layout_of, layout_output_of, viewport_output_of};
+ghost use Rattle.tracker.specs.Tracker.{Press, MoveTo, Lift};
 ghost use Rattle.film_sheet.specs.Film.{film_sheet_of};
 ghost use Rattle.thumb_layout.specs.Interface.{tl_layout_of, tl_touch_of, tl_viewport_layout_of, tl_film_of, tl_safe_content_of, tl_safe_content_output_of, tl_safe_edges_of, tl_safe_edges_output_of};
-ghost use Rattle.thumb_layout.specs.Interface.{tl_write_order_of, tl_write_order_output_of};
+ghost use Rattle.thumb_layout.specs.Interface.{tl_masks_of, tl_tracker_of, tl_write_order_of, tl_write_order_output_of};
+
+use thumb_layout::Masks;
+use tracker::Tracker;
 
 #[unsafe(no_mangle)]
 pub extern "C" fn tl_layout(order: &[u8], out: &mut [u8]) -> i32
@@ -36,6 +40,30 @@ pub extern "C" fn tl_viewport_layout(
     ensures output { out.new ≡ viewport_output_of order.now reusable_top covered_top out.old }
 {
     thumb_layout::tl_viewport_layout(order, reusable_top, covered_top, out)
+}
+
+#[unsafe(no_mangle)]
+pub extern "C" fn tl_press(t: &mut Tracker, order: &[u8], finger: u8, x: f32, y: f32) -> Masks
+    ensures masks { result ≡ tl_masks_of t.old order.now finger (Press finger x y) }
+    ensures tracker { t.new ≡ tl_tracker_of t.old order.now (Press finger x y) }
+{
+    thumb_layout::tl_press(t, order, finger, x, y)
+}
+
+#[unsafe(no_mangle)]
+pub extern "C" fn tl_move(t: &mut Tracker, order: &[u8], finger: u8, x: f32, y: f32) -> Masks
+    ensures masks { result ≡ tl_masks_of t.old order.now finger (MoveTo finger x y) }
+    ensures tracker { t.new ≡ tl_tracker_of t.old order.now (MoveTo finger x y) }
+{
+    thumb_layout::tl_move(t, order, finger, x, y)
+}
+
+#[unsafe(no_mangle)]
+pub extern "C" fn tl_lift(t: &mut Tracker, order: &[u8], finger: u8) -> Masks
+    ensures masks { result ≡ tl_masks_of t.old order.now finger (Lift finger) }
+    ensures tracker { t.new ≡ tl_tracker_of t.old order.now (Lift finger) }
+{
+    thumb_layout::tl_lift(t, order, finger)
 }
 
 #[unsafe(no_mangle)]
