@@ -40,7 +40,7 @@ unfolding tested_from whole_rects must tl_write_order_of
 overflow_cast-result c =
     let s = c.args in
     let answered : order_answer c.write_numbers.result ≡ written_order_of (tested_from s.numbers.now s.mode s.fit s.cutouts.now s.saved.now) s.out.now =
-        rw (eq-eqb _ 0 c.if-cutouts-ne0.false, eq-eqb _ 0 c.if-saved-ne0.false) c.write_numbers.ensures.answer in
+    rw (eq-eqb _ 0 c.if-cutouts-ne0.false, eq-eqb _ 0 c.if-saved-ne0.false) c.write_numbers.ensures.answer in
     let small : mag (number_of (order_answer c.write_numbers.result)) ≤ 827 = rw answered (write_order_small s.numbers.now s.mode s.fit s.cutouts.now s.saved.now s.out.now) in
     let bytes_fit : c.in-Bytes.n ≤ 827 = rw c.in-Bytes.is at small in
     sfits_of (omega (arith, bytes_fit))
@@ -50,7 +50,7 @@ unfolding tl_write_order_of tl_write_order_output_of tested_from whole_rects mus
 returns-in-Bytes c =
     let s = c.args in
     let answered : order_answer c.write_numbers.result ≡ written_order_of (tested_from s.numbers.now s.mode s.fit s.cutouts.now s.saved.now) s.out.now =
-        rw (eq-eqb _ 0 c.if-cutouts-ne0.false, eq-eqb _ 0 c.if-saved-ne0.false) c.write_numbers.ensures.answer in
+    rw (eq-eqb _ 0 c.if-cutouts-ne0.false, eq-eqb _ 0 c.if-saved-ne0.false) c.write_numbers.ensures.answer in
     let small : mag (number_of (order_answer c.write_numbers.result)) ≤ 827 = rw answered (write_order_small s.numbers.now s.mode s.fit s.cutouts.now s.saved.now s.out.now) in
     let bytes_fit : c.in-Bytes.n ≤ 827 = rw c.in-Bytes.is at small in
     record {
@@ -63,7 +63,7 @@ unfolding tl_write_order_of tl_write_order_output_of tested_from whole_rects mus
 returns-in-Refused c =
     let s = c.args in
     let answered : order_answer c.write_numbers.result ≡ written_order_of (tested_from s.numbers.now s.mode s.fit s.cutouts.now s.saved.now) s.out.now =
-        rw (eq-eqb _ 0 c.if-cutouts-ne0.false, eq-eqb _ 0 c.if-saved-ne0.false) c.write_numbers.ensures.answer in
+    rw (eq-eqb _ 0 c.if-cutouts-ne0.false, eq-eqb _ 0 c.if-saved-ne0.false) c.write_numbers.ensures.answer in
     record {
       answer = read_back c.minus.type_inv (c.minus.ensures ∙ ap number_of (rw c.in-Refused.is at answered));
       output = rw (eq-eqb _ 0 c.if-cutouts-ne0.false, eq-eqb _ 0 c.if-saved-ne0.false) c.write_numbers.ensures.output;
