@@ -1,5 +1,5 @@
 -- The order's count stays within its buffer, whose length stays.
-use Rattle.std.proofs.Common.{◌≡◌, ◌≤◌, ◌×◌, length}
+use Rattle.std.proofs.Common.{◌≡◌, ◌≤◌, length}
 use Rattle.replay.proofs.replay.Given as goal
 
 abbrev pub invariant-loop : goal.invariant-loop
