@@ -2,9 +2,8 @@
 use native.Mathlib.Omega.{arith}
 use mir.Syntax.{w32}
 use mir.Facts.{to_z_pos}
-use borrow.Author.Rules.{sfits_of, rules}
+use borrow.Author.Rules.{sfits_of}
 use Rattle.prelude.proofs.Signed.{read_back}
-use Rattle.std.proofs.lemmas.Grind.{common_steps}
 use Rattle.thumb_layout.proofs.layout_number.Goals as goal
 
 pub overflow_cast-result : goal.overflow_cast-result

@@ -1,9 +1,7 @@
 -- Minus the number of a refusal fits.
-use borrow.Author.Rules.{rules}
 use native.Mathlib.Omega.{arith}
 use lib.IntN.{pos}
 use Rattle.prelude.proofs.Signed.{minus_fits, minus_is}
-use Rattle.std.proofs.lemmas.Grind.{common_steps}
 use Rattle.thumb_layout.proofs.minus.Goals as goal
 
 pub overflow_sub-result : goal.overflow_sub-result

@@ -4,11 +4,10 @@ use Prim.Native.Nat.{ℕ, ◌≤◌}
 use native.Mathlib.Omega.{arith}
 use mir.Syntax.{w32}
 use mir.Facts.{to_z_pos}
-use borrow.Author.Rules.{sfits_of, rules}
+use borrow.Author.Rules.{sfits_of}
 use Rattle.film_sheet.specs.Film.{film_sheet_of}
 use Rattle.film_sheet.proofs.FilmLaws.{film_fits}
 use Rattle.thumb_layout.specs.Interface.{tl_film_of}
-use Rattle.std.proofs.lemmas.Grind.{common_steps}
 use Rattle.thumb_layout.proofs.tl_film.Goals as goal
 
 small : (order : List ℕ) → (film_sheet_of order).len ≤ 788

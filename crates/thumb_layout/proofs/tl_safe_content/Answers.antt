@@ -1,9 +1,7 @@
 -- The numbers that are read are those that were lent, so that `safe_content` answers for them.
 use mathlib.Core.Path.{◌≡◌}
-use borrow.Author.Rules.{rules}
 use Rattle.safe_area.specs.Safe.{content_answer}
 use Rattle.thumb_layout.specs.Interface.{content_from, tl_safe_content_of, tl_safe_content_output_of}
-use Rattle.std.proofs.lemmas.Grind.{common_steps}
 use Rattle.thumb_layout.proofs.tl_safe_content.Goals as goal
 
 pub returns-in-Area : goal.returns-in-Area

@@ -4,7 +4,6 @@ use borrow.Author.Rules.{rules}
 use Rattle.prelude.proofs.Signed.{kept}
 use Rattle.safe_area.specs.Safe.{edges_answer}
 use Rattle.thumb_layout.specs.Interface.{edges_from, tl_safe_edges_of, tl_safe_edges_output_of}
-use Rattle.std.proofs.lemmas.Grind.{common_steps}
 use Rattle.thumb_layout.proofs.tl_safe_edges.Goals as goal
 
 pub returns-in-Merged : goal.returns-in-Merged

@@ -5,7 +5,6 @@ use mir.Facts.{to_z_pos}
 use Rattle.prelude.proofs.Signed.{read_back}
 use Rattle.thumb_layout.specs.Interface.{number_of, tl_touch_of}
 use borrow.Author.Rules.{rules}
-use Rattle.std.proofs.lemmas.Grind.{common_steps}
 use Rattle.thumb_layout.proofs.tl_touch.Goals as goal
 
 pub returns-in-Mask : goal.returns-in-Mask

@@ -3,8 +3,6 @@ use mathlib.Core.Path.{ap, ◌∙◌}
 use Rattle.prelude.proofs.Signed.{read_back}
 use Rattle.thumb_layout.specs.Interface.{number_of, tl_viewport_layout_of}
 use Rattle.thumb_layout.proofs.InterfaceLaws.{viewport_small}
-use borrow.Author.Rules.{rules}
-use Rattle.std.proofs.lemmas.Grind.{common_steps}
 use Rattle.thumb_layout.proofs.tl_viewport_layout.Goals as goal
 
 pub layout_number-requires : goal.layout_number-requires

@@ -5,14 +5,13 @@ use native.Mathlib.Omega.{arith}
 use lib.Signed.{mag}
 use mir.Syntax.{w32}
 use mir.Facts.{to_z_pos}
-use borrow.Author.Rules.{sfits_of, rules}
+use borrow.Author.Rules.{sfits_of}
 use borrow.Author.Tests.{eq-eqb, ne_eqb}
 use Rattle.prelude.specs.Answer.{must}
 use Rattle.prelude.proofs.Signed.{read_back}
-use Rattle.order_writer.specs.OrderBytes.{order_answer, written_order_of, written_order_output}
+use Rattle.order_writer.specs.OrderBytes.{order_answer, written_order_of}
 use Rattle.thumb_layout.specs.Interface.{number_of, whole_rects, tested_from, tl_write_order_of, tl_write_order_output_of}
 use Rattle.thumb_layout.proofs.InterfaceLaws.{write_order_small}
-use Rattle.std.proofs.lemmas.Grind.{common_steps}
 use Rattle.thumb_layout.proofs.tl_write_order.Goals as goal
 
 -- ---- numbers that are no whole rectangles
