@@ -1,5 +1,5 @@
--- Inner functions of the code that the Rust does not have: controls whose toolbar and game are put in place afterwards. `dockedOf` has those of
--- `arranged`; finished, these are `side_rails` (`side-finished` of ControlLaws).
+-- Inner functions of the code that the Rust does not have: controls whose toolbar and game are put in place afterwards. `docked_of` has those of
+-- `arranged`; finished, these are `side_rails` (`side_finished` of ControlLaws).
 use Rattle.std.specs.Prelude.{false, cond, List, Float}
 use Rattle.std.specs.Float.Ieee.{lt}
 use Rattle.float.specs.Float.{◌⊖◌, k16, k122}

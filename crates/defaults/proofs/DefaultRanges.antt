@@ -46,7 +46,7 @@ screen_area W H =
     let zero = most_more zero_most max_area tt in
     record { x = zero; y = zero; w = range_most max_area W tt; h = range_most max_area H tt; w0 = above_zero W tt; h0 = above_zero H tt }
 
--- ---- `analogFullOf`
+-- ---- `analog_full_of`
 record SizesIn (s : Sizes) : Type 0 where
   pub bottom : In s.bottom (at 24) (at 32)
   pub stick : In s.stick (at 104) (at 128)

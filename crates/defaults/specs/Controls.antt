@@ -10,7 +10,7 @@ use Rattle.defaults.specs.Defaults.{clear_game_of, size_halves_of, measure_halve
 abbrev pub finished_in_of : Layout → Float → Float → Rect → Layout
 finished_in_of controls w h picture = clear_game_of (finished_of controls w h) picture
 
--- the controls of `analogFullOf`, without toolbar and game (`full-bare` of proofs/Anew)
+-- the controls of `analog_full_of`, without toolbar and game (`full_bare` of proofs/Anew)
 unfoldable pub analog_controls_of : Float → Float → Layout
 analog_controls_of w h =
     let b = measure_halves_of w h (size_halves_of w h) in

@@ -1,4 +1,4 @@
--- `hypotOf` is at least the size of its first side, where the second is no NaN: what is below the size is below it.
+-- `hypot_of` is at least the size of its first side, where the second is no NaN: what is below the size is below it.
 use mathlib.Core.Path.{refl, ◌∙◌}
 use mathlib.Core.Logic.{inl, inr}
 use mathlib.Core.Bool.{Bool, false}

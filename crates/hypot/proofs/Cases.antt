@@ -1,4 +1,4 @@
--- `hypotOf` with its sides exchanged, and its cases, by the patterns of the two sides.
+-- `hypot_of` with its sides exchanged, and its cases, by the patterns of the two sides.
 use mathlib.Core.Path.{◌≡◌, refl, sym}
 use mathlib.Core.Logic.{inl, inr}
 use Prim.Native.Nat.{ℕ, ◌+◌, ◌*◌, ◌<◌, min, max}

@@ -1,4 +1,4 @@
--- `isqrt n` is the largest r with r * r ≤ n, and `rootOf` compares with even numbers as twice the root does.
+-- `isqrt n` is the largest r with r * r ≤ n, and `root_of` compares with even numbers as twice the root does.
 use mathlib.Core.Path.{◌≡◌}
 use mathlib.Core.Logic.{inl, inr}
 use Prim.Native.Nat.{ℕ, zero, suc, ◌+◌, ◌*◌, ◌/◌, ◌^◌, ◌≤◌, ◌<◌, Ordering}
@@ -45,7 +45,7 @@ isqrt_from s n = root_le (s * s + n * n) s _ (omega arith) (is_root (s * s + n *
 pub isqrt_to : (s n : ℕ) → isqrt (s * s + n * n) ≤ s + n
 isqrt_to s n = root_le (s * s + n * n) _ (s + n) (is_root (s * s + n * n)).0 (omega arith)
 
--- ---- `rootOf`
+-- ---- `root_of`
 pub root_is : (m x : ℕ) (b : Bool) → x ≡ isqrt m → ltb (x * x) m ≡ b → cond b (2 * x + 1) (2 * x) ≡ root_of m
 root_is m x b e t = rw (← t, e)
 

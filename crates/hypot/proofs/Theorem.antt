@@ -1,4 +1,4 @@
--- `nearestRoot n` is the f32 nearest the root of n, ties to even, and no other is.
+-- `nearest_root n` is the f32 nearest the root of n, ties to even, and no other is.
 use mathlib.Core.Path.{◌≡◌, refl, sym, ap, ◌∙◌}
 use mathlib.Core.Logic.{◌⊎◌, inl, inr}
 use Prim.Native.Nat.{ℕ, ◌+◌, ◌-◌, ◌*◌, ◌/◌, ◌^◌, ◌≤◌, ◌<◌, compare}

@@ -20,18 +20,18 @@ pub record Nearest (n r : ℕ) : Type 0 where
 
 -- ---- the claims, proved in proofs/
 
--- One pattern r is nearest the root of n, no other is, and `nearestRoot n` is its f32. (`root-is-nearest`)
+-- One pattern r is nearest the root of n, no other is, and `nearest_root n` is its f32. (`root_is_nearest`)
 pub record RootIsNearest (n : ℕ) : Type 0 where
   pub r : ℕ
   pub is : Nearest n r
   pub only : (s : ℕ) → Nearest n s → s ≡ r
   pub root : nearest_root n ≡ f32_at r
 
--- The finite f32 with the pattern p is `patternValue p` units of 2 ^ -149. (`pattern-value-is`)
+-- The finite f32 with the pattern p is `pattern_value p` units of 2 ^ -149. (`pattern_value_is`)
 abbrev pub PatternValueIs : ℕ → Type 0
 PatternValueIs p = p < 0x7f80_0000 → HasValue (of_bits binary32 p) false (pattern_value p) (2 ^ 149)
 
--- Of two finite f32, `hypotOf` is the root of the sum of the squares of their values. (`hypot-is-root`)
+-- Of two finite f32, `hypot_of` is the root of the sum of the squares of their values. (`hypot_is_root`)
 abbrev pub HypotIsRoot : Float → Float → Type 0
 HypotIsRoot a b = T (fits binary32 a) → T (fits binary32 b) → unsigned_pattern_of a < 0x7f80_0000 → unsigned_pattern_of b < 0x7f80_0000
     → hypot_of a b ≡ nearest_root (pattern_value (unsigned_pattern_of a) * pattern_value (unsigned_pattern_of a) + pattern_value (unsigned_pattern_of b) * pattern_value (unsigned_pattern_of b))

@@ -17,6 +17,6 @@ significand_of p = p - exponent_of p * 0x80_0000
 abbrev pub pattern_value : ℕ → ℕ
 pattern_value p = significand_of p * 2 ^ exponent_of p
 
--- The f32 with the pattern p. From the infinity's pattern on, where `patternValue` goes on as if exponents had no limit, it is the infinity.
+-- The f32 with the pattern p. From the infinity's pattern on, where `pattern_value` goes on as if exponents had no limit, it is the infinity.
 abbrev pub f32_at : ℕ → Float
 f32_at p = of_bits binary32 (min p 0x7f80_0000)

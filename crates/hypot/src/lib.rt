@@ -145,7 +145,7 @@ fn packed(t: u64, k: u32) -> f32
 fn rounded(w: u64, f: u32) -> f32
     requires w_bound { w < 0x100_0000_0000 }
     requires f_bound { f ≤ 253 }
-    requires fact { (f ≡ 0) ⊎ (0x200_0000 ≤ w) }
+    requires w_large { (f ≡ 0) ⊎ (0x200_0000 ≤ w) }
     ensures { (n m : ℕ) → w ≡ root_of m → 4 * n ≡ m * (2 ^ f * 2 ^ f) → result ≡ nearest_root n }
 {
     let mut c = w / 4;
@@ -200,8 +200,8 @@ fn exact(a: f32, b: f32) -> f32
 
 // The sum of the squares. An f64 holds each square exactly.
 fn sum_of_squares(a: f32, b: f32) -> f64
-    requires t { T (not (is_nan a)) }
-    requires t_2 { T (not (is_nan b)) }
+    requires a_number { T (not (is_nan a)) }
+    requires b_number { T (not (is_nan b)) }
     ensures { result ≡ sum_of_squares_of a b }
 {
     let x = a as f64;

@@ -130,7 +130,7 @@ f4/3 = unfold of_bits div magnitude in (fraction refl refl refl tt tt)
 pub f480/272 : Fraction (k480 ⊘ k272) 0x70f0f1 0x400000
 f480/272 = unfold of_bits div magnitude in (fraction refl refl refl tt tt)
 
--- ---- the numbers of psp's shape, for `scaled-in`
+-- ---- the numbers of psp's shape, for `scaled_in`
 pub psp_wide : magnitude k480 ≤ 2 * magnitude k272
 unfolding of_bits magnitude
 psp_wide = lit≤ tt

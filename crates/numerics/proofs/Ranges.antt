@@ -1,5 +1,5 @@
 -- Ranges of formulas: a rule for each operation, so that a proof has the formula's own shape. A side condition is a closed test, answered by `tt`.
--- Each operation widens a range by 1/256 at most; `in-more` rounds one off.
+-- Each operation widens a range by 1/256 at most; `in_more` rounds one off.
 use mathlib.Core.Path.{◌≡◌, sym, ap, ◌∙◌, subst}
 use Prim.Native.Nat.{ℕ, ◌+◌, ◌-◌, ◌*◌, ◌/◌, ◌^◌, ◌≤◌, ◌<◌, min, max}
 use native.Mathlib.Nat.{min-le_left, min-le_right, le-max_left, le-max_right, mul-add, sub-add_cancel, le_trans, le_of_eq, mul-le-mul_left, mul-le-mul_right, le_of_mul-le-mul_right}

@@ -112,8 +112,8 @@ fn current_edges(size: [i32; 2], inset_size: [i32; 2], edges: [i32; 4]) -> [i32;
 }
 
 fn content(size: [i32; 2], inset_size: [i32; 2], edges: [i32; 4]) -> Rect
-    requires size_value { on_scale_of size ≡ true }
-    requires edges_value { on_scale_of edges ≡ true }
+    requires size_on_scale { on_scale_of size ≡ true }
+    requires edges_on_scale { on_scale_of edges ≡ true }
     ensures { result ≡ content_of size inset_size edges }
 {
     let w = size[0];

@@ -1,4 +1,4 @@
--- What a host may count on, as `specs/Promises.antt` states it. Laws for hosts: proofs cite `layout-small`, `viewport-small` and `write-order-small` alone.
+-- What a host may count on, as `specs/Promises.antt` states it. Laws for hosts: proofs cite `layout_small`, `viewport_small` and `write_order_small` alone.
 use mathlib.Core.Path.{◌≡◌, refl}
 use mathlib.Core.Bool.{Bool, true, false}
 use mathlib.Core.List.{List}

@@ -1,4 +1,4 @@
--- The docked controls, finished (`arranged-finished`).
+-- The docked controls, finished (`arranged_finished`).
 use native.Mathlib.Omega.{arith}
 use Rattle.arranged.proofs.ControlLaws.{arranged_finished}
 use Rattle.arranged.proofs.arranged.Goals as goal

@@ -1,4 +1,4 @@
--- The controls of the rails, finished (`side-finished`).
+-- The controls of the rails, finished (`side_finished`).
 use native.Mathlib.Omega.{arith}
 use Rattle.arranged.proofs.ControlLaws.{side_finished}
 use Rattle.arranged.proofs.side_rails.Goals as goal

@@ -1,4 +1,4 @@
--- The area below the toolbar over the blank layout is the one over every layout, by `same-below`.
+-- The area below the toolbar over the blank layout is the one over every layout, by `same_below`.
 use mathlib.Core.Path.{◌∙◌}
 use lib.Dec.{T}
 use lib.Ieee.{le}

@@ -1,4 +1,4 @@
--- Each branch gives what `arrangementOf` has there; the layout at first is of its mode.
+-- Each branch gives what `arrangement_of` has there; the layout at first is of its mode.
 use Rattle.arrangement_choice.proofs.ChoiceLabels.{first_mode}
 use Rattle.arrangement_choice.specs.Choice.{arrangement_of}
 use Rattle.arrangement_choice.proofs.arrangement.Goals as goal

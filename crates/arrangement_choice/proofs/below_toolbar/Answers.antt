@@ -1,4 +1,4 @@
--- The fold over the four keys is four calls of `max`; each number is that of `belowToolbarOf`.
+-- The fold over the four keys is four calls of `max`; each number is that of `below_toolbar_of`.
 use Rattle.arrangement_choice.specs.Choice.{below_toolbar_of}
 use Rattle.arrangement_choice.proofs.below_toolbar.Goals as goal
 

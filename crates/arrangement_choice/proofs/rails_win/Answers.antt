@@ -1,4 +1,4 @@
--- The two tests of `railsWinOf`, on both games and the first sticks.
+-- The two tests of `rails_win_of`, on both games and the first sticks.
 use Rattle.arrangement_choice.specs.Choice.{rails_win_of}
 use Rattle.arrangement_choice.proofs.rails_win.Goals as goal
 

@@ -1,4 +1,4 @@
--- By its three ways out; at the last, toolbar and game of `arranged` do not matter (`band-anew`).
+-- By its three ways out; at the last, toolbar and game of `arranged` do not matter (`band_anew`).
 use native.Mathlib.Omega.{arith}
 use Rattle.search.specs.Search.{place_game_in_aspect_of}
 use Rattle.toolbar.specs.Toolbar.{anchor_toolbar_of}

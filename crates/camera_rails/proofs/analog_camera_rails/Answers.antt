@@ -1,4 +1,4 @@
--- By its five ways out, each after the tests before it; the counts at the last by `cleared-counts`.
+-- By its five ways out, each after the tests before it; the counts at the last by `cleared_counts`.
 use native.Mathlib.Omega.{arith}
 use mathlib.Core.Path.{◌≡◌}
 use lib.ListN.{length}

@@ -1,4 +1,4 @@
--- The full layout, scaled and finished (`full-anew`), or the band; the counts by `analog-formed`.
+-- The full layout, scaled and finished (`full_anew`), or the band; the counts by `analog_formed`.
 use Rattle.layout.specs.Labels.{analog_labels}
 use Rattle.layout.proofs.LabelLaws.{with_counts}
 use Rattle.defaults.specs.Defaults.{analog_default_of}

@@ -1,4 +1,4 @@
--- The three steps, one after the other; the counts by `default-formed`.
+-- The three steps, one after the other; the counts by `default_formed`.
 use Rattle.layout.specs.Layout.{cutout_list}
 use Rattle.layout.specs.Labels.{standard_labels}
 use Rattle.layout.proofs.LabelLaws.{with_counts}

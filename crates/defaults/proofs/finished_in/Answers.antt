@@ -1,4 +1,4 @@
--- The game that `finished` places does not matter (`clear-anew`).
+-- The game that `finished` places does not matter (`clear_anew`).
 use Rattle.defaults.proofs.Anew.{clear_anew}
 use Rattle.defaults.proofs.finished_in.Goals as goal
 

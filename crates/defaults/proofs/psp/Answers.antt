@@ -1,4 +1,4 @@
--- The inputs of a psp, of `analog_default`; the counts by `psp-formed`.
+-- The inputs of a psp, of `analog_default`; the counts by `psp_formed`.
 use Rattle.layout.specs.Labels.{psp_labels}
 use Rattle.layout.proofs.LabelLaws.{with_counts}
 use Rattle.defaults.specs.Defaults.{psp_of}

@@ -1,4 +1,4 @@
--- Two tests against zero give the number without its sign (`abs-law`).
+-- Two tests against zero give the number without its sign (`abs_law`).
 use Rattle.std.proofs.Common.{T, rules}
 use lib.Ieee.{binary32, fits}
 use Rattle.float.proofs.Magnitude.{abs_law}

@@ -1,4 +1,4 @@
--- The test of `isFiniteOf`, below infinity.
+-- The test of `is_finite_of`, below infinity.
 use Rattle.float.specs.MinMax.{is_finite_of}
 use lib.Ieee.{of_bits, nan_bits}
 use Rattle.float.proofs.is_finite.Goals as goal

@@ -48,7 +48,7 @@ rounded-requires c =
     record {
       w_bound = rw c.root.ensures (root_small _ _ (omega (arith, small)) (omega arith));
       f_bound = omega arith;
-      fact = rw c.root.ensures sides.1;
+      w_large = rw c.root.ensures sides.1;
     }
 
 pub returns : goal.returns

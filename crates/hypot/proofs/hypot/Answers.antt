@@ -16,8 +16,8 @@ returns-then-b c = c.exact-then-b.ensures
 pub sum_of_squares-t-requires : goal.sum_of_squares-t-requires
 sum_of_squares-t-requires c =
     record {
-      t = no_nan _ c.if-a.false;
-      t_2 = no_nan _ c.if-b.false;
+      a_number = no_nan _ c.if-a.false;
+      b_number = no_nan _ c.if-b.false;
     }
 
 pub overflow_sub-result : goal.overflow_sub-result

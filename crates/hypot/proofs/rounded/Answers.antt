@@ -6,7 +6,7 @@ use Rattle.hypot.proofs.Ways.{leading_start, leading_next, leading_places, round
 use Rattle.hypot.proofs.rounded.Goals as goal
 
 pub loop-c-init : goal.loop-c-init
-loop-c-init c = leading_start c.args.w c.args.f c.requires.fact
+loop-c-init c = leading_start c.args.w c.args.f c.requires.w_large
 
 pub overflow_add-k : goal.overflow_add-k
 overflow_add-k c = let i = c.loop-c in let a = c.args in omega (arith, leading_places a.w a.f i.c i.u i.k i.invariant)

@@ -1,4 +1,4 @@
--- By the test: the inputs of a psp (`psp-counts`), or the layout as it is.
+-- By the test: the inputs of a psp (`psp_counts`), or the layout as it is.
 use mathlib.Core.Path.{◌≡◌}
 use lib.ListN.{length}
 use Rattle.prelude.proofs.Loops.{sized}

@@ -1,4 +1,4 @@
--- The first fault is that of the fields, or of the lists; else the output is too small and nothing is put, or the fields are put one after the other: `numbers-written`.
+-- The first fault is that of the fields, or of the lists; else the output is too small and nothing is put, or the fields are put one after the other: `numbers_written`.
 use native.Mathlib.Omega.{arith}
 use mathlib.Core.List.{[]}
 use mathlib.Core.Path.{◌≡◌, ap, sym, ◌∙◌}

@@ -1,4 +1,4 @@
--- The width that a pair has, then the eight keys, each as in `auxiliaryOf`.
+-- The width that a pair has, then the eight keys, each as in `auxiliary_of`.
 use lib.Ieee.{le, of_bits}
 use Rattle.picture.specs.Picture.{auxiliary_of}
 use Rattle.picture.proofs.auxiliary.Goals as goal

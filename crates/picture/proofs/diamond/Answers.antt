@@ -1,4 +1,4 @@
--- The cap and the four places of `diamondOf`.
+-- The cap and the four places of `diamond_of`.
 use Rattle.picture.specs.Picture.{diamond_of}
 use Rattle.picture.proofs.diamond.Goals as goal
 

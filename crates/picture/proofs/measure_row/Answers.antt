@@ -1,4 +1,4 @@
--- Each `pick` and `min` is a `cond` or a `minOf` of `measureRowOf`, in its order.
+-- Each `pick` and `min` is a `cond` or a `min_of` of `measure_row_of`, in its order.
 use Rattle.picture.specs.Picture.{measure_row_of}
 use Rattle.picture.proofs.measure_row.Goals as goal
 

@@ -1,4 +1,4 @@
--- Each call is an operation of `measureStackOf`, in its order.
+-- Each call is an operation of `measure_stack_of`, in its order.
 use lib.Ieee.{le, of_bits}
 use Rattle.picture.specs.Picture.{measure_stack_of}
 use Rattle.picture.proofs.measure_stack.Goals as goal

@@ -1,4 +1,4 @@
--- The caps, the two columns and the keys of `rowPlacesOf`, one call each.
+-- The caps, the two columns and the keys of `row_places_of`, one call each.
 use Rattle.picture.specs.Picture.{row_places_of}
 use Rattle.picture.proofs.row_places.Goals as goal
 

@@ -1,4 +1,4 @@
--- The places and the three squares of `rowedOf`; `arrange` keeps the counts.
+-- The places and the three squares of `rowed_of`; `arrange` keeps the counts.
 use Rattle.picture.specs.Picture.{rowed_of}
 use Rattle.picture.proofs.rowed.Goals as goal
 

@@ -1,4 +1,4 @@
--- The square of `squareOf`, in one call.
+-- The square of `square_of`, in one call.
 use Rattle.picture.proofs.square.Goals as goal
 
 pub returns : goal.returns

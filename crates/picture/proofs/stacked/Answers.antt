@@ -1,4 +1,4 @@
--- The squares, the caps and the keys are those of `stackedOf`; `arrange` keeps the counts.
+-- The squares, the caps and the keys are those of `stacked_of`; `arrange` keeps the counts.
 use Rattle.picture.specs.Picture.{stacked_of}
 use Rattle.picture.proofs.stacked.Goals as goal
 

@@ -1,4 +1,4 @@
--- Each step's layout has the labels of its mode, and so few counts; with every call replaced by its definition this is `laidOutOf`.
+-- Each step's layout has the labels of its mode, and so few counts; with every call replaced by its definition this is `laid_out_of`.
 use mathlib.Core.Path.{◌≡◌}
 use mathlib.Core.Bool.{cond}
 use Prim.Native.Nat.{◌≤◌}

@@ -1,4 +1,4 @@
--- No cutout is counted exactly where the list of them is empty; the other tests are those of `rowAllowedOf`.
+-- No cutout is counted exactly where the list of them is empty; the other tests are those of `row_allowed_of`.
 use Rattle.preset.specs.Preset.{row_allowed_of}
 use lib.ListN.{length}
 use native.Mathlib.Omega.{arith}

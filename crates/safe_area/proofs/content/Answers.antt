@@ -14,41 +14,41 @@ int_clamp-top-requires c = rw (read_back c.int_max-2.type_inv c.int_max-2.ensure
 
 pub int_to_float-left : goal.int_to_float-left
 int_to_float-left c =
-    let m = span c.args.size c.args.inset_size c.args.edges 0 2 c.requires.size_value c.requires.edges_value c.current_edges-current.ensures c.int_max.ensures c.int_clamp-left.ensures refl in
+    let m = span c.args.size c.args.inset_size c.args.edges 0 2 c.requires.size_on_scale c.requires.edges_on_scale c.current_edges-current.ensures c.int_max.ensures c.int_clamp-left.ensures refl in
     cast_small c.int_clamp-left.result (omega (arith, m.start_small))
 
 pub int_to_float-top : goal.int_to_float-top
 int_to_float-top c =
-    let m = span c.args.size c.args.inset_size c.args.edges 1 3 c.requires.size_value c.requires.edges_value c.current_edges-current.ensures c.int_max-2.ensures c.int_clamp-top.ensures refl in
+    let m = span c.args.size c.args.inset_size c.args.edges 1 3 c.requires.size_on_scale c.requires.edges_on_scale c.current_edges-current.ensures c.int_max-2.ensures c.int_clamp-top.ensures refl in
     cast_small c.int_clamp-top.result (omega (arith, m.start_small))
 
 pub overflow_sub-w : goal.overflow_sub-w
-overflow_sub-w c = (span c.args.size c.args.inset_size c.args.edges 0 2 c.requires.size_value c.requires.edges_value c.current_edges-current.ensures c.int_max.ensures c.int_clamp-left.ensures refl).first
+overflow_sub-w c = (span c.args.size c.args.inset_size c.args.edges 0 2 c.requires.size_on_scale c.requires.edges_on_scale c.current_edges-current.ensures c.int_max.ensures c.int_clamp-left.ensures refl).first
 
 pub overflow_sub-w-2 : goal.overflow_sub-w-2
-overflow_sub-w-2 c = (span c.args.size c.args.inset_size c.args.edges 0 2 c.requires.size_value c.requires.edges_value c.current_edges-current.ensures c.int_max.ensures c.int_clamp-left.ensures c.int_max-3.ensures).second
+overflow_sub-w-2 c = (span c.args.size c.args.inset_size c.args.edges 0 2 c.requires.size_on_scale c.requires.edges_on_scale c.current_edges-current.ensures c.int_max.ensures c.int_clamp-left.ensures c.int_max-3.ensures).second
 
 pub int_to_float-int_max : goal.int_to_float-int_max
 int_to_float-int_max c =
-    let m = span c.args.size c.args.inset_size c.args.edges 0 2 c.requires.size_value c.requires.edges_value c.current_edges-current.ensures c.int_max.ensures c.int_clamp-left.ensures c.int_max-3.ensures in
+    let m = span c.args.size c.args.inset_size c.args.edges 0 2 c.requires.size_on_scale c.requires.edges_on_scale c.current_edges-current.ensures c.int_max.ensures c.int_clamp-left.ensures c.int_max-3.ensures in
     cast_small c.int_max-4.result (extent_small m c.int_max-4.ensures)
 
 pub overflow_sub-h : goal.overflow_sub-h
-overflow_sub-h c = (span c.args.size c.args.inset_size c.args.edges 1 3 c.requires.size_value c.requires.edges_value c.current_edges-current.ensures c.int_max-2.ensures c.int_clamp-top.ensures refl).first
+overflow_sub-h c = (span c.args.size c.args.inset_size c.args.edges 1 3 c.requires.size_on_scale c.requires.edges_on_scale c.current_edges-current.ensures c.int_max-2.ensures c.int_clamp-top.ensures refl).first
 
 pub overflow_sub-h-2 : goal.overflow_sub-h-2
-overflow_sub-h-2 c = (span c.args.size c.args.inset_size c.args.edges 1 3 c.requires.size_value c.requires.edges_value c.current_edges-current.ensures c.int_max-2.ensures c.int_clamp-top.ensures c.int_max-5.ensures).second
+overflow_sub-h-2 c = (span c.args.size c.args.inset_size c.args.edges 1 3 c.requires.size_on_scale c.requires.edges_on_scale c.current_edges-current.ensures c.int_max-2.ensures c.int_clamp-top.ensures c.int_max-5.ensures).second
 
 pub int_to_float-int_max-2 : goal.int_to_float-int_max-2
 int_to_float-int_max-2 c =
-    let m = span c.args.size c.args.inset_size c.args.edges 1 3 c.requires.size_value c.requires.edges_value c.current_edges-current.ensures c.int_max-2.ensures c.int_clamp-top.ensures c.int_max-5.ensures in
+    let m = span c.args.size c.args.inset_size c.args.edges 1 3 c.requires.size_on_scale c.requires.edges_on_scale c.current_edges-current.ensures c.int_max-2.ensures c.int_clamp-top.ensures c.int_max-5.ensures in
     cast_small c.int_max-6.result (extent_small m c.int_max-6.ensures)
 
 pub returns : goal.returns
 unfolding content_of
 returns c =
-    let a = span c.args.size c.args.inset_size c.args.edges 0 2 c.requires.size_value c.requires.edges_value c.current_edges-current.ensures c.int_max.ensures c.int_clamp-left.ensures c.int_max-3.ensures in
-    let d = span c.args.size c.args.inset_size c.args.edges 1 3 c.requires.size_value c.requires.edges_value c.current_edges-current.ensures c.int_max-2.ensures c.int_clamp-top.ensures c.int_max-5.ensures in
+    let a = span c.args.size c.args.inset_size c.args.edges 0 2 c.requires.size_on_scale c.requires.edges_on_scale c.current_edges-current.ensures c.int_max.ensures c.int_clamp-left.ensures c.int_max-3.ensures in
+    let d = span c.args.size c.args.inset_size c.args.edges 1 3 c.requires.size_on_scale c.requires.edges_on_scale c.current_edges-current.ensures c.int_max-2.ensures c.int_clamp-top.ensures c.int_max-5.ensures in
     c.new.ensures
     ∙ rw (← c.current_edges-current.ensures, read_back c.int_clamp-left.type_inv a.start_is, read_back c.int_clamp-top.type_inv d.start_is)
     (rw (read_back c.int_max-4.type_inv (extent_is a c.int_max-4.ensures), read_back c.int_max-6.type_inv (extent_is d c.int_max-6.ensures)))

@@ -9,7 +9,7 @@ pub content-requires : goal.content-requires
 unfolding safe_content_of must
 content-requires c =
     let k = sizes_and_edges c.args.size c.args.inset_size c.args.edges (sym c.all_on_scale.ensures ∙ c.if-all_on_scale.true) in
-    record { size_value = k.0; edges_value = k.1 }
+    record { size_on_scale = k.0; edges_on_scale = k.1 }
 
 pub returns-then-all_on_scale : goal.returns-then-all_on_scale
 unfolding safe_content_of must

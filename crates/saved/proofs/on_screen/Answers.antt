@@ -1,4 +1,4 @@
--- The ends of each clamp are in order, by `side-ends` and `corner-ends`; the four numbers are those of `onScreenOf`.
+-- The ends of each clamp are in order, by `side_ends` and `corner_ends`; the four numbers are those of `on_screen_of`.
 use Rattle.saved.specs.Saved.{on_screen_of}
 use Rattle.saved.proofs.SavedLaws.{usable_finite}
 use Rattle.saved.proofs.Ends.{side_ends, corner_ends}

@@ -1,4 +1,4 @@
--- `centered` is the fold `centeredOf`: the outer loop has done the first part of it; what is left of the inner one gives the whole width, or is given up.
+-- `centered` is the fold `centered_of`: the outer loop has done the first part of it; what is left of the inner one gives the whole width, or is given up.
 use native.Mathlib.Omega.{arith}
 use mathlib.Core.Path.{◌≡◌, refl, ◌∙◌}
 use mathlib.Core.Logic.{inl, inr}

@@ -1,4 +1,4 @@
--- `obstacles` is `obstaclesOf`: what is stored, and behind it what the elements that are left give.
+-- `obstacles` is `obstacles_of`: what is stored, and behind it what the elements that are left give.
 use native.Mathlib.Omega.{arith}
 use mathlib.Core.Path.{sym}
 use mathlib.Core.List.{append-nil}

@@ -1,4 +1,4 @@
--- The four tests of `usableOf`.
+-- The four tests of `usable_of`.
 use Rattle.settings.specs.Settings.{usable_of}
 use Rattle.settings.proofs.usable.Goals as goal
 

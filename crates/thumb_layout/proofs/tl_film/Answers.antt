@@ -1,4 +1,4 @@
--- The text's length, 788 at most, fits (`film-fits`); the sheet is that of `film_sheet`.
+-- The text's length, 788 at most, fits (`film_fits`); the sheet is that of `film_sheet`.
 use mathlib.Core.List.{List}
 use Prim.Native.Nat.{ℕ, ◌≤◌}
 use native.Mathlib.Omega.{arith}

@@ -1,4 +1,4 @@
--- The answer is that of `order::layout` as a number, which an i32 holds, by `layout-small`.
+-- The answer is that of `order::layout` as a number, which an i32 holds, by `layout_small`.
 use mathlib.Core.Path.{ap, ◌∙◌}
 use Rattle.prelude.proofs.Signed.{read_back}
 use Rattle.thumb_layout.specs.Interface.{number_of, tl_layout_of}

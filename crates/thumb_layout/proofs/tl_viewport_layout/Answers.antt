@@ -1,4 +1,4 @@
--- The answer is that of `order::viewport_layout` as a number, which an i32 holds, by `viewport-small`.
+-- The answer is that of `order::viewport_layout` as a number, which an i32 holds, by `viewport_small`.
 use mathlib.Core.Path.{ap, ◌∙◌}
 use Rattle.prelude.proofs.Signed.{read_back}
 use Rattle.thumb_layout.specs.Interface.{number_of, tl_viewport_layout_of}

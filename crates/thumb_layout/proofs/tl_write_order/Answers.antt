@@ -1,4 +1,4 @@
--- The answer is that of `write_numbers` as a number, which an i32 holds, by `write-order-small`.
+-- The answer is that of `write_numbers` as a number, which an i32 holds, by `write_order_small`.
 use mathlib.Core.Path.{◌≡◌, ap, ◌∙◌}
 use Prim.Native.Nat.{◌≤◌}
 use native.Mathlib.Omega.{arith}

@@ -1,4 +1,4 @@
--- Either the output is too small and nothing is put, or the three fields are put one after the other: `layout-run`.
+-- Either the output is too small and nothing is put, or the three fields are put one after the other: `layout_run`.
 use native.Mathlib.Omega.{arith}
 use Prim.Native.Nat.{◌≤◌}
 use lib.ListN.{length}

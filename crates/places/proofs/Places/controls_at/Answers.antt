@@ -1,4 +1,4 @@
--- One control for each label, in the order of `analogLabels`, each as `control_at` gives it.
+-- One control for each label, in the order of `analog_labels`, each as `control_at` gives it.
 use Rattle.places.proofs.Places.controls_at.Goals as goal
 
 pub returns : goal.returns
