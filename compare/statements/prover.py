@@ -41,26 +41,37 @@ class Verdicts:
     late: bool = False
 
 
+def copied(root, work):
+    """The repository's crates in another folder, without their must-fail edits; what rt keeps there, in each crate's out/, stays."""
+    (work / "crates").mkdir(parents=True, exist_ok=True)
+    for file in ("crates.txt", "HANDLES"):
+        if (root / file).exists():
+            shutil.copy(root / file, work / file)
+    crates = {folder.name for folder in (root / "crates").iterdir() if folder.is_dir()}
+    for gone in {folder.name for folder in (work / "crates").iterdir()} - crates:
+        shutil.rmtree(work / "crates" / gone)
+    for crate in crates:
+        restored(root, work, crate)
+
+
+def restored(root, work, crate):
+    to = work / "crates" / crate
+    to.mkdir(exist_ok=True)
+    for path in to.iterdir():
+        if path.name != "out":
+            shutil.rmtree(path) if path.is_dir() else path.unlink()
+    shutil.copytree(root / "crates" / crate, to, ignore=shutil.ignore_patterns("out", "must-fail"), dirs_exist_ok=True)
+
+
 class Prover:
     """The prover in a copy of the repository. What rt has proved of the same text elsewhere on this machine, it begins with."""
 
     def __init__(self, root, work, limit):
         self.root, self.work, self.limit = root, work, limit
-        (work / "crates").mkdir(parents=True, exist_ok=True)
-        for file in ("crates.txt", "HANDLES"):
-            if (root / file).exists():
-                shutil.copy(root / file, work / file)
-        for folder in sorted((root / "crates").iterdir()):
-            self.restore(folder.name)
+        copied(root, work)
 
     def restore(self, crate):
-        """The crate's files as they are; what rt keeps stays."""
-        to = self.work / "crates" / crate
-        to.mkdir(exist_ok=True)
-        for path in to.iterdir():
-            if path.name != "out":
-                shutil.rmtree(path) if path.is_dir() else path.unlink()
-        shutil.copytree(self.root / "crates" / crate, to, ignore=shutil.ignore_patterns("out", "must-fail"), dirs_exist_ok=True)
+        restored(self.root, self.work, crate)
 
     def ready(self, crate):
         """Proves the crate as it is, and those below, without a limit: edits are tried over that."""
