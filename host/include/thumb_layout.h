@@ -1,6 +1,6 @@
 /* Thumb control layouts for film tablets: the functions of libthumb_layout.a.
 
-   Build the library with `rt staticlib thumb_layout` at the repository's root; it comes to target/staticlib/ and links into
+   Build the library with `tools/prove staticlib thumb_layout` at the repository's root; it comes to target/staticlib/ and links into
    x86-64 Linux programs. It needs memcpy, memmove and memset of the C library, and nothing else.
 
    Each function is proved, for every input, to give the answer and the output that its definition gives

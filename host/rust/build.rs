@@ -12,7 +12,7 @@ fn main() {
     println!("cargo::rerun-if-changed={}", library.display());
     if !library.exists() {
         println!(
-            "cargo::error=no library {}. Build it with `rt staticlib thumb_layout` at the \
+            "cargo::error=no library {}. Build it with `tools/prove staticlib thumb_layout` at the \
              repository's root, or set THUMB_LIB_DIR to its folder.",
             library.display()
         );

@@ -15,7 +15,6 @@ use Rattle.prelude.proofs.EachLaws.{each_take, each_drop}
 use Rattle.settings.specs.declared.Settings.{Settings}
 use Rattle.wire.specs.Wire.{short_of}
 use Rattle.reader.specs.declared.Tag.{Tag}
-use Rattle.reader.specs.declared.Tag.TheVariants as Tag
 use Rattle.reader.specs.Order.{read_screen_of, read_picture_of, read_mode_of, read_fit_of, read_place_of, read_cutouts_of, read_saved_of, from_byte_of, read_field_of, fields, read_order_of}
 use Rattle.film_sheet.specs.Film.{film_text_of}
 use Rattle.film_sheet.specs.Promises.{Byte, FirstBytes}

@@ -24,7 +24,6 @@ use Rattle.settings.proofs.Accepted.{parts_accepted}
 use Rattle.wire.specs.Wire.{short_of, number_at_of, rect_at_of, filled}
 use Rattle.wire.proofs.Rects.{bits_f32, number_f32, rect_f32, filled_f32}
 use Rattle.reader.specs.declared.Tag.{Tag}
-use Rattle.reader.specs.declared.Tag.TheVariants as Tag
 use Rattle.reader.specs.Order.{read_screen_of, read_picture_of, read_mode_of, read_fit_of, read_place_of, read_cutouts_of, read_saved_of, from_byte_of, read_field_of, fields, read_order_of}
 
 -- ---- a property of the value that an answer accepts, while a refusal has one of the reader's numbers

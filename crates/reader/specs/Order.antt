@@ -9,7 +9,6 @@ use Rattle.settings.specs.Settings.{screen_picture_of, with_mode_byte, fit_mark_
 use Rattle.wire.specs.Wire.{short_of, number_at_of, rect_at_of, filled}
 use Rattle.reader.specs.declared.Reading.{Reading}
 use Rattle.reader.specs.declared.Tag.{Tag}
-use Rattle.reader.specs.declared.Tag.TheVariants as Tag
 
 -- what a reading says; the settings of a refused one are left open
 unfoldable pub reading_answer : Reading → Answer Settings

@@ -279,15 +279,20 @@ fn more(n: u64, one: bool) -> u64 {
 }
 
 fn report(out: &mut impl Write, list: &str, t: Tally) -> io::Result<()> {
-    write!(out, "{list}: orders {}", t.orders)?;
-    write!(out, ", layouts {}", t.layouts)?;
-    write!(out, ", viewports {}", t.viewports)?;
-    write!(out, ", touches {}", t.touches)?;
-    write!(out, ", sheets {}", t.sheets)?;
-    write!(out, ", written orders {}", t.written)?;
-    write!(out, ", wrong {}", t.wrong)?;
+    out.write_all(list.as_bytes())?;
+    print(out, ": orders ", t.orders)?;
+    print(out, ", layouts ", t.layouts)?;
+    print(out, ", viewports ", t.viewports)?;
+    print(out, ", touches ", t.touches)?;
+    print(out, ", sheets ", t.sheets)?;
+    print(out, ", written orders ", t.written)?;
+    print(out, ", wrong ", t.wrong)?;
     if t.wrong > 0 {
-        write!(out, ", the first at order {}", t.first)?;
+        print(out, ", the first at order ", t.first)?;
     }
     writeln!(out)
+}
+
+fn print(out: &mut impl Write, name: &str, n: u64) -> io::Result<()> {
+    write!(out, "{name}{n}")
 }

@@ -26,7 +26,6 @@ use Rattle.settings.proofs.Accepted.{few_settings}
 use Rattle.wire.specs.Wire.{short_of, number_at_of, rect_at_of, filled, short_bytes, number_bytes, rect_bytes, head_bytes}
 use Rattle.wire.proofs.Items.{length_rect, length_items}
 use Rattle.reader.specs.declared.Tag.{Tag}
-use Rattle.reader.specs.declared.Tag.TheVariants as Tag
 use Rattle.reader.specs.Order.{read_screen_of, read_picture_of, read_mode_of, read_fit_of, read_place_of, read_cutouts_of, read_saved_of, from_byte_of, read_field_of, fields, read_order_of}
 use Rattle.order_writer.specs.OrderBytes.{replaced_preset, replaced_cutouts, replaced_of, fields_of, order_bytes}
 use Rattle.order_writer.specs.OrderBytes.{field_unless, screen_field, equal_of, picture_field, byte_field, place_field, rects_field}

@@ -1,7 +1,7 @@
 //! Thumb control layouts for film tablets.
 //!
 //! A safe wrapper of the proved library libthumb_layout.a
-//! (`rt staticlib thumb_layout` builds it). Nothing is kept between calls but
+//! (`tools/prove staticlib thumb_layout` builds it). Nothing is kept between calls but
 //! what a [`Tracker`] holds, and every function may be called from any thread.
 //! A refused call changes no element of an output, and no tracker.
 

@@ -1,9 +1,7 @@
 -- `anchor_toolbar` with no cutouts; the counts are read off its definition.
 use mathlib.Core.Path.{refl}
-use borrow.Author.Rules.{rules}
 use lib.Ieee.{le, of_bits}
 use Rattle.toolbar.specs.Toolbar.{anchor_toolbar_of}
-use Rattle.std.proofs.lemmas.Grind.{common_steps}
 use Rattle.arranged.proofs.anchored.Goals as goal
 
 pub returns : goal.returns

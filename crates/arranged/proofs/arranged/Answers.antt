@@ -1,8 +1,6 @@
 -- The docked controls, finished (`arranged-finished`).
 use native.Mathlib.Omega.{arith}
-use borrow.Author.Rules.{rules}
 use Rattle.arranged.proofs.ControlLaws.{arranged_finished}
-use Rattle.std.proofs.lemmas.Grind.{common_steps}
 use Rattle.arranged.proofs.arranged.Goals as goal
 
 pub returns : goal.returns

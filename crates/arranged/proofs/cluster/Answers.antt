@@ -1,13 +1,7 @@
 -- After i turns the cutouts from i on are left to give way to (`Rest`).
-use borrow.Author.Rules.{rules}
-use mathlib.Core.List.{foldl}
-use lib.ListN.{take}
-use Rattle.prelude.proofs.Loops.{in_array, Rest, goes_on, runs_out}
+use Rattle.prelude.proofs.Loops.{goes_on, runs_out}
 use Rattle.layout.specs.Layout.{any_rect}
-use Rattle.arranged.specs.Arranged.{give_way_of, cluster_of}
-use native.Mathlib.Omega.{arith}
-use Prim.Native.Nat.{◌-◌}
-use Rattle.std.proofs.lemmas.Grind.{common_steps}
+use Rattle.arranged.specs.Arranged.{cluster_of}
 use Rattle.arranged.proofs.cluster.Goals as goal
 
 pub loop-i-preserved : goal.loop-i-preserved

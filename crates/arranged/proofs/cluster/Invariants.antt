@@ -1,11 +1,7 @@
-use borrow.Author.Rules.{rules}
 use mathlib.Core.List.{foldl}
 use lib.ListN.{take}
-use Rattle.prelude.proofs.Loops.{in_array, Rest, goes_on, runs_out}
-use Rattle.layout.specs.Layout.{any_rect}
-use Rattle.arranged.specs.Arranged.{give_way_of, cluster_of}
-use native.Mathlib.Omega.{arith}
-use Prim.Native.Nat.{◌-◌}
+use Rattle.prelude.proofs.Loops.{Rest}
+use Rattle.arranged.specs.Arranged.{give_way_of}
 use Rattle.arranged.proofs.cluster.Given as goal
 
 abbrev pub invariant-loop-i : goal.invariant-loop-i

@@ -1,7 +1,5 @@
 -- Each number and each rectangle that a call gives is put for the term of the definition that it equals.
-use borrow.Author.Rules.{rules}
 use Rattle.arranged.specs.Arranged.{dock_places_of}
-use Rattle.std.proofs.lemmas.Grind.{common_steps}
 use Rattle.arranged.proofs.dock_places.Goals as goal
 
 pub returns : goal.returns

@@ -1,9 +1,7 @@
 -- The measures, the d-pad and the places that calls give are put for the terms of the definition that they equal.
-use borrow.Author.Rules.{rules}
 use native.Mathlib.Omega.{arith}
 use lib.Ieee.{le, of_bits}
 use Rattle.arranged.specs.Arranged.{docked_of}
-use Rattle.std.proofs.lemmas.Grind.{common_steps}
 use Rattle.arranged.proofs.docked.Goals as goal
 
 pub returns : goal.returns

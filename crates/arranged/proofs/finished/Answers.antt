@@ -1,10 +1,8 @@
 -- `place_game` over `anchored`; the counts are read off the definitions.
 use mathlib.Core.Path.{refl}
-use borrow.Author.Rules.{rules}
 use Rattle.search.specs.Search.{place_game_in_aspect_of}
 use Rattle.toolbar.specs.Toolbar.{anchor_toolbar_of}
 use Rattle.arranged.specs.Arranged.{finished_of}
-use Rattle.std.proofs.lemmas.Grind.{common_steps}
 use Rattle.arranged.proofs.finished.Goals as goal
 
 pub returns : goal.returns

@@ -1,7 +1,5 @@
 -- By the test of the two overlaps: the width is cut, or stays.
-use borrow.Author.Rules.{rules}
 use Rattle.arranged.specs.Arranged.{give_way_of}
-use Rattle.std.proofs.lemmas.Grind.{common_steps}
 use Rattle.arranged.proofs.give_way.Goals as goal
 
 pub returns-then-overlaps : goal.returns-then-overlaps

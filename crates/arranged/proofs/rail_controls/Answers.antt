@@ -1,8 +1,6 @@
 -- The d-pad and the places that calls give are those of the definition.
-use borrow.Author.Rules.{rules}
 use native.Mathlib.Omega.{arith}
 use Rattle.arranged.specs.Controls.{rail_controls_of}
-use Rattle.std.proofs.lemmas.Grind.{common_steps}
 use Rattle.arranged.proofs.rail_controls.Goals as goal
 
 pub returns : goal.returns

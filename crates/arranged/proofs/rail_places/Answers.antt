@@ -1,7 +1,5 @@
 -- Each rectangle that a call gives is put for the term of the definition that it equals.
-use borrow.Author.Rules.{rules}
 use Rattle.arranged.specs.Arranged.{rail_places_of}
-use Rattle.std.proofs.lemmas.Grind.{common_steps}
 use Rattle.arranged.proofs.rail_places.Goals as goal
 
 pub returns : goal.returns

@@ -1,8 +1,6 @@
 -- The bounds of `clamp` are in order; what max, clamp and min give is put for its terms.
-use borrow.Author.Rules.{rules}
 use lib.Ieee.{le, of_bits}
 use Rattle.arranged.specs.Arranged.{requested_of}
-use Rattle.std.proofs.lemmas.Grind.{common_steps}
 use Rattle.arranged.proofs.requested.Goals as goal
 
 pub returns : goal.returns

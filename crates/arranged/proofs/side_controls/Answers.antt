@@ -1,7 +1,5 @@
 -- By the test of the width: the dock, or the rails.
-use borrow.Author.Rules.{rules}
 use Rattle.arranged.specs.Controls.{side_controls_of}
-use Rattle.std.proofs.lemmas.Grind.{common_steps}
 use Rattle.arranged.proofs.side_controls.Goals as goal
 
 pub returns-then-cluster : goal.returns-then-cluster

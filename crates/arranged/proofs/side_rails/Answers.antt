@@ -1,8 +1,6 @@
 -- The controls of the rails, finished (`side-finished`).
 use native.Mathlib.Omega.{arith}
-use borrow.Author.Rules.{rules}
 use Rattle.arranged.proofs.ControlLaws.{side_finished}
-use Rattle.std.proofs.lemmas.Grind.{common_steps}
 use Rattle.arranged.proofs.side_rails.Goals as goal
 
 pub returns : goal.returns

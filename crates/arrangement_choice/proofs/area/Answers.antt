@@ -9,7 +9,6 @@ use Rattle.float.proofs.Ends.{zero_le_max}
 use Rattle.layout.specs.Layout.{cutout_list}
 use Rattle.arrangement_choice.proofs.Keys.{same_below}
 use Rattle.arrangement_choice.specs.Choice.{area_of}
-use Rattle.std.proofs.lemmas.Grind.{common_steps}
 use Rattle.arrangement_choice.proofs.area.Goals as goal
 
 pub anchor_toolbar-bar-requires : goal.anchor_toolbar-bar-requires

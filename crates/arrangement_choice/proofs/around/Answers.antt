@@ -1,7 +1,5 @@
 -- The controls about the largest picture, where there are such; else the layout at first.
-use borrow.Author.Rules.{rules}
 use Rattle.arrangement_choice.specs.Choice.{around_of}
-use Rattle.std.proofs.lemmas.Grind.{common_steps}
 use Rattle.arrangement_choice.proofs.around.Goals as goal
 
 pub returns-then-candidate : goal.returns-then-candidate

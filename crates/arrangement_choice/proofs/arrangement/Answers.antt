@@ -1,8 +1,6 @@
 -- Each branch gives what `arrangementOf` has there; the layout at first is of its mode.
 use Rattle.arrangement_choice.proofs.ChoiceLabels.{first_mode}
-use borrow.Author.Rules.{rules}
 use Rattle.arrangement_choice.specs.Choice.{arrangement_of}
-use Rattle.std.proofs.lemmas.Grind.{common_steps}
 use Rattle.arrangement_choice.proofs.arrangement.Goals as goal
 
 pub returns-then-not-plain : goal.returns-then-not-plain

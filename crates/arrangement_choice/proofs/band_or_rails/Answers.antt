@@ -3,8 +3,6 @@ use Rattle.layout.specs.Labels.{OfMode}
 use Rattle.band.proofs.BandLabels.{band_formed}
 use Rattle.arrangement_choice.specs.Choice.{band_or_rails_of}
 use Rattle.arrangement_choice.proofs.ChoiceCases.{found_case}
-use borrow.Author.Rules.{rules}
-use Rattle.std.proofs.lemmas.Grind.{common_steps}
 use Rattle.arrangement_choice.proofs.band_or_rails.Goals as goal
 
 pub try_rails-requires : goal.try_rails-requires

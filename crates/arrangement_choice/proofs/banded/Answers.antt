@@ -1,6 +1,4 @@
 -- The band, where there is one.
-use borrow.Author.Rules.{rules}
-use Rattle.std.proofs.lemmas.Grind.{common_steps}
 use Rattle.arrangement_choice.proofs.banded.Goals as goal
 
 pub returns-then-candidate : goal.returns-then-candidate

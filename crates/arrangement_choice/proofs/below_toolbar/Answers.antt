@@ -1,7 +1,5 @@
 -- The fold over the four keys is four calls of `max`; each number is that of `belowToolbarOf`.
-use borrow.Author.Rules.{rules}
 use Rattle.arrangement_choice.specs.Choice.{below_toolbar_of}
-use Rattle.std.proofs.lemmas.Grind.{common_steps}
 use Rattle.arrangement_choice.proofs.below_toolbar.Goals as goal
 
 pub returns : goal.returns

@@ -10,7 +10,6 @@ use Rattle.layout.specs.Layout.{Few}
 use Rattle.layout.proofs.LabelLaws.{few}
 use Rattle.arrangement_choice.proofs.ChoiceLabels.{start_mode}
 use Rattle.arrangement_choice.specs.Choice.{first_of}
-use Rattle.std.proofs.lemmas.Grind.{common_steps}
 use Rattle.arrangement_choice.proofs.first.Goals as goal
 
 pub anchor_toolbar-requires : goal.anchor_toolbar-requires

@@ -1,7 +1,5 @@
 -- The picture without obstacles, moved into the area.
-use borrow.Author.Rules.{rules}
 use Rattle.arrangement_choice.specs.Choice.{largest_of}
-use Rattle.std.proofs.lemmas.Grind.{common_steps}
 use Rattle.arrangement_choice.proofs.largest.Goals as goal
 
 pub returns : goal.returns

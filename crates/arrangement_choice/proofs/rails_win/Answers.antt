@@ -1,7 +1,5 @@
 -- The two tests of `railsWinOf`, on both games and the first sticks.
-use borrow.Author.Rules.{rules}
 use Rattle.arrangement_choice.specs.Choice.{rails_win_of}
-use Rattle.std.proofs.lemmas.Grind.{common_steps}
 use Rattle.arrangement_choice.proofs.rails_win.Goals as goal
 
 pub returns : goal.returns

@@ -1,7 +1,5 @@
 -- Each branch gives the default layout that `start_of` names.
-use borrow.Author.Rules.{rules}
 use Rattle.arrangement_choice.specs.Choice.{start_of}
-use Rattle.std.proofs.lemmas.Grind.{common_steps}
 use Rattle.arrangement_choice.proofs.start.Goals as goal
 
 pub returns-then-psp : goal.returns-then-psp

@@ -11,7 +11,6 @@ use Rattle.layout.specs.Layout.{Few, cutout_list}
 use Rattle.layout.proofs.LabelLaws.{few, few_faces}
 use Rattle.cutouts.proofs.CutoutLabels.{avoid_mode}
 use Rattle.arrangement_choice.specs.Choice.{try_rails_of}
-use Rattle.std.proofs.lemmas.Grind.{common_steps}
 use Rattle.arrangement_choice.proofs.try_rails.Goals as goal
 
 pub returns-then-not-candidate : goal.returns-then-not-candidate

@@ -1,8 +1,6 @@
 -- By the test of the sticks: the controls of all labels with two sticks, or the standard ones.
-use borrow.Author.Rules.{rules}
 use native.Mathlib.Omega.{arith}
 use Rattle.band.specs.Controls.{band_controls_of}
-use Rattle.std.proofs.lemmas.Grind.{common_steps}
 use Rattle.band.proofs.band_controls.Goals as goal
 
 pub returns-then-analog : goal.returns-then-analog

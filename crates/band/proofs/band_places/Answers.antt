@@ -1,6 +1,4 @@
 -- By the two tests: one of the three sets of places.
-use borrow.Author.Rules.{rules}
-use Rattle.std.proofs.lemmas.Grind.{common_steps}
 use Rattle.band.proofs.band_places.Goals as goal
 
 pub returns-then-deep : goal.returns-then-deep

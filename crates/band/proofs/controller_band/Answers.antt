@@ -1,13 +1,11 @@
 -- By its three ways out; at the last, toolbar and game of `arranged` do not matter (`band-anew`).
 use native.Mathlib.Omega.{arith}
-use borrow.Author.Rules.{rules}
 use Rattle.search.specs.Search.{place_game_in_aspect_of}
 use Rattle.toolbar.specs.Toolbar.{anchor_toolbar_of}
 use Rattle.float.proofs.Ends.{zero_le_max}
 use Rattle.band.specs.Band.{controller_band_of}
 use Rattle.band.proofs.Anew.{band_anew}
 use Rattle.layout.specs.Layout.{Few}
-use Rattle.std.proofs.lemmas.Grind.{common_steps}
 use Rattle.band.proofs.controller_band.Goals as goal
 
 pub returns-then-w-h : goal.returns-then-w-h

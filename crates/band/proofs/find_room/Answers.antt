@@ -1,7 +1,5 @@
 -- What pick and min give is put for its terms in the definition.
-use borrow.Author.Rules.{rules}
 use Rattle.band.specs.Band.{find_room_of}
-use Rattle.std.proofs.lemmas.Grind.{common_steps}
 use Rattle.band.proofs.find_room.Goals as goal
 
 pub returns : goal.returns

@@ -1,8 +1,6 @@
 -- What pick, clamp and `well_faces` give is put for its terms in the definition.
-use borrow.Author.Rules.{rules}
 use lib.Ieee.{le, of_bits}
 use Rattle.band.specs.Band.{measure_band_of}
-use Rattle.std.proofs.lemmas.Grind.{common_steps}
 use Rattle.band.proofs.measure_band.Goals as goal
 
 pub returns : goal.returns

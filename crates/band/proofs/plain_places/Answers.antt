@@ -1,7 +1,5 @@
 -- Each place is the rectangle that its call gives.
-use borrow.Author.Rules.{rules}
 use Rattle.band.specs.Band.{plain_places_of}
-use Rattle.std.proofs.lemmas.Grind.{common_steps}
 use Rattle.band.proofs.plain_places.Goals as goal
 
 pub returns : goal.returns

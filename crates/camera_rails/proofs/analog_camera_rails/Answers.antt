@@ -1,5 +1,4 @@
 -- By its five ways out, each after the tests before it; the counts at the last by `cleared-counts`.
-use borrow.Author.Rules.{rules}
 use native.Mathlib.Omega.{arith}
 use mathlib.Core.Path.{◌≡◌}
 use lib.ListN.{length}
@@ -8,7 +7,6 @@ use Rattle.search.specs.Search.{place_game_in_aspect_of}
 use Rattle.camera_rails.proofs.CameraLabels.{anchored_faces, cleared_counts}
 use Rattle.camera_rails.specs.CameraRails.{analog_camera_rails_of}
 use Rattle.layout.specs.Layout.{Few}
-use Rattle.std.proofs.lemmas.Grind.{common_steps}
 use Rattle.camera_rails.proofs.analog_camera_rails.Goals as goal
 
 pub returns-then-w-h : goal.returns-then-w-h

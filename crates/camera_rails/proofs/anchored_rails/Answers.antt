@@ -1,11 +1,9 @@
 -- The inputs, then the toolbar, which leaves the counts.
 use native.Mathlib.Omega.{arith}
-use borrow.Author.Rules.{rules}
 use Rattle.toolbar.specs.Toolbar.{anchor_toolbar_of}
 use Rattle.float.proofs.Ends.{zero_le_max}
 use Rattle.camera_rails.specs.CameraRails.{anchored_rails_of}
 use Rattle.layout.specs.Layout.{Few}
-use Rattle.std.proofs.lemmas.Grind.{common_steps}
 use Rattle.camera_rails.proofs.anchored_rails.Goals as goal
 
 pub anchor_toolbar-requires : goal.anchor_toolbar-requires

@@ -1,8 +1,6 @@
 -- The layout of `analog_default` at the places of the rails, with the d-pad and the sticks that calls give.
-use borrow.Author.Rules.{rules}
 use native.Mathlib.Omega.{arith}
 use Rattle.camera_rails.specs.CameraRails.{camera_railed_of}
-use Rattle.std.proofs.lemmas.Grind.{common_steps}
 use Rattle.camera_rails.proofs.camera_railed.Goals as goal
 
 pub returns : goal.returns

@@ -1,12 +1,7 @@
 -- After i turns the cutouts from i on are left to look at (`Rest`).
-use borrow.Author.Rules.{rules}
-use native.Mathlib.Omega.{arith}
-use Prim.Native.Nat.{◌-◌}
-use lib.ListN.{take}
-use Rattle.prelude.proofs.Loops.{in_array, Rest, goes_on, runs_out}
+use Rattle.prelude.proofs.Loops.{goes_on, runs_out}
 use Rattle.layout.specs.Layout.{any_rect}
 use Rattle.camera_rails.specs.CameraRails.{camera_top_of}
-use Rattle.std.proofs.lemmas.Grind.{common_steps}
 use Rattle.camera_rails.proofs.camera_top.Goals as goal
 use Rattle.camera_rails.proofs.camera_top.Goals.{then-in_rail, else-in_rail}
 

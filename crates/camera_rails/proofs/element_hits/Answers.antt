@@ -1,12 +1,7 @@
 -- After i turns the elements from i on are left to look at (`Rest`).
-use borrow.Author.Rules.{rules}
-use native.Mathlib.Omega.{arith}
-use Prim.Native.Nat.{◌-◌}
 use Rattle.prelude.specs.Lists.{any_of}
-use Rattle.prelude.proofs.Loops.{in_array, Rest, stops, goes_on, runs_out}
-use Rattle.layout.specs.Layout.{any_rect, cutout_list, element_list}
-use Rattle.cutouts.specs.Cutouts.{hits_of}
-use Rattle.std.proofs.lemmas.Grind.{common_steps}
+use Rattle.prelude.proofs.Loops.{stops, goes_on, runs_out}
+use Rattle.layout.specs.Layout.{any_rect}
 use Rattle.camera_rails.proofs.element_hits.Goals as goal
 
 pub returns-then-overlap : goal.returns-then-overlap

@@ -1,9 +1,5 @@
-use borrow.Author.Rules.{rules}
-use native.Mathlib.Omega.{arith}
-use Prim.Native.Nat.{◌-◌}
-use Rattle.prelude.specs.Lists.{any_of}
-use Rattle.prelude.proofs.Loops.{in_array, Rest, stops, goes_on, runs_out}
-use Rattle.layout.specs.Layout.{any_rect, cutout_list, element_list}
+use Rattle.prelude.proofs.Loops.{Rest}
+use Rattle.layout.specs.Layout.{cutout_list, element_list}
 use Rattle.cutouts.specs.Cutouts.{hits_of}
 use Rattle.camera_rails.proofs.element_hits.Given as goal
 

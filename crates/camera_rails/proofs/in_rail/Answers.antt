@@ -1,6 +1,5 @@
 -- By the two tests.
 use Rattle.camera_rails.specs.CameraRails.{in_rail_of}
-use Rattle.std.proofs.lemmas.Grind.{common_steps}
 use Rattle.camera_rails.proofs.in_rail.Goals as goal
 
 pub returns-then-c-rail : goal.returns-then-c-rail

@@ -1,7 +1,5 @@
 -- What pick gives is put for its term in the definition.
-use borrow.Author.Rules.{rules}
 use Rattle.camera_rails.specs.CameraRails.{measure_rail_of}
-use Rattle.std.proofs.lemmas.Grind.{common_steps}
 use Rattle.camera_rails.proofs.measure_rail.Goals as goal
 
 pub returns : goal.returns

@@ -1,7 +1,5 @@
 -- What `camera_top` and min give is put for its terms in the definition.
-use borrow.Author.Rules.{rules}
 use Rattle.camera_rails.specs.CameraRails.{size_face_of}
-use Rattle.std.proofs.lemmas.Grind.{common_steps}
 use Rattle.camera_rails.proofs.size_face.Goals as goal
 
 pub returns : goal.returns

@@ -1,7 +1,6 @@
 -- A number with a set sign bit, taken as negative, fits.
-use Rattle.std.proofs.Common.{◌%◌, pos, arith, rules}
+use Rattle.std.proofs.Common.{◌%◌, pos, arith}
 use Rattle.prelude.proofs.Signed.{minus_fits}
-use Rattle.std.proofs.lemmas.Grind.{common_steps}
 use Rattle.corner_cases.proofs.whole.Goals as goal
 
 pub overflow_sub-result : goal.overflow_sub-result

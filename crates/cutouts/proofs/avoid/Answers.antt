@@ -1,20 +1,13 @@
 -- The groups that are left, settled in turn, give the whole; an element on no cutout is left as it is.
-use Prim.Native.Nat.{ℕ, ◌-◌}
-use mathlib.Core.List.{List, [], ◌∷◌, foldl}
+use mathlib.Core.List.{foldl}
 use mathlib.Core.Path.{sym, ◌∙◌, ◌≡◌}
 use lib.ListN.{length}
 use lib.Seq.{length-take-le}
-use Rattle.prelude.specs.Lists.{range}
 use Rattle.prelude.proofs.ListLaws.{length_range, range_at}
-use Rattle.prelude.proofs.Loops.{sized, Rest, rest_all, goes_on, runs_out}
-use Rattle.geometry.specs.declared.Rect.{Rect}
-use Rattle.cutouts.specs.Cutouts.{settle_of, group_list}
-use Rattle.cutouts.proofs.Groups.{missed, outside, below_one}
-use Rattle.layout.specs.Layout.{element_list, cutout_list}
-use borrow.Author.Tests.{not-true}
-use borrow.Author.Rules.{rules}
+use Rattle.prelude.proofs.Loops.{sized, rest_all, goes_on, runs_out}
+use Rattle.cutouts.proofs.Groups.{missed, below_one}
+use Rattle.layout.specs.Layout.{cutout_list}
 use native.Mathlib.Omega.{arith}
-use Rattle.std.proofs.lemmas.Grind.{common_steps}
 use Rattle.cutouts.proofs.avoid.Goals as goal
 
 pub loop-i-init : goal.loop-i-init

@@ -6,8 +6,6 @@ use native.Mathlib.Omega.{arith}
 use Rattle.prelude.proofs.Loops.{in_array}
 use Rattle.prelude.proofs.ListLaws.{none_counted}
 use Rattle.cutouts.specs.Cutouts.{avoid_cutouts_of}
-use borrow.Author.Rules.{rules}
-use Rattle.std.proofs.lemmas.Grind.{common_steps}
 use Rattle.cutouts.proofs.avoid_cutouts.Goals as goal
 
 pub returns-then-cutouts-eq0 : goal.returns-then-cutouts-eq0

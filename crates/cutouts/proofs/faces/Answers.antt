@@ -1,20 +1,17 @@
 -- What is stored, and behind it the faces among the controls that are left: together all faces, so that there is room for each.
-use Prim.Native.Nat.{◌+◌, ◌-◌, ◌<◌, ◌≤◌}
-use borrow.Author.Tests.{not-true, not-false}
+use Prim.Native.Nat.{◌+◌, ◌<◌}
 use mathlib.Core.Path.{refl, ap, sym, ◌≡◌}
 use mathlib.Core.List.{◌∷◌, ◌++◌, append-nil}
 use lib.ListN.{length, take, drop, length-append, length-set}
 use lib.Seq.{length-take-le}
 use Rattle.prelude.specs.Lists.{enumerate_from}
-use Rattle.prelude.proofs.Loops.{in_array, Rest, rest_all, stops, goes_on, runs_out}
+use Rattle.prelude.proofs.Loops.{in_array, rest_all, stops, goes_on, runs_out}
 use Rattle.prelude.proofs.Stores.{put_rest}
 use Rattle.cutouts.specs.Cutouts.{group_list}
 use Rattle.cutouts.proofs.Groups.{faces_of, length_numbered, face_at, faces_below}
 use Rattle.layout.specs.Actions.{action_elements_of}
 use Rattle.layout.specs.Layout.{any_control, control_list}
-use borrow.Author.Rules.{rules}
 use native.Mathlib.Omega.{arith}
-use Rattle.std.proofs.lemmas.Grind.{common_steps}
 use Rattle.cutouts.proofs.faces.Goals as goal
 
 pub loop-i-init : goal.loop-i-init

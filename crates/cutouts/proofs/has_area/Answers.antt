@@ -1,6 +1,5 @@
 -- The two tests, in the definition's order.
 use Rattle.cutouts.specs.Cutouts.{has_area_of}
-use Rattle.std.proofs.lemmas.Grind.{common_steps}
 use Rattle.cutouts.proofs.has_area.Goals as goal
 
 pub returns-then-r : goal.returns-then-r

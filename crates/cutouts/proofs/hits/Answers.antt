@@ -1,13 +1,8 @@
 -- The rectangles that are left decide; one that overlaps a cutout ends the loop.
-use borrow.Author.Rules.{rules}
 use native.Mathlib.Omega.{arith}
-use Prim.Native.Nat.{◌-◌}
-use lib.ListN.{take}
-use Rattle.prelude.proofs.Loops.{Rest, stops, goes_on, runs_out}
+use Rattle.prelude.proofs.Loops.{stops, goes_on, runs_out}
 use Rattle.prelude.specs.Lists.{any_of}
-use Rattle.layout.specs.Layout.{any_rect, cutout_list}
-use Rattle.cutouts.specs.Cutouts.{hits_of}
-use Rattle.std.proofs.lemmas.Grind.{common_steps}
+use Rattle.layout.specs.Layout.{any_rect}
 use Rattle.cutouts.proofs.hits.Goals as goal
 
 pub loop-i-init : goal.loop-i-init

@@ -1,10 +1,6 @@
-use borrow.Author.Rules.{rules}
-use native.Mathlib.Omega.{arith}
-use Prim.Native.Nat.{◌-◌}
 use lib.ListN.{take}
-use Rattle.prelude.proofs.Loops.{Rest, stops, goes_on, runs_out}
-use Rattle.prelude.specs.Lists.{any_of}
-use Rattle.layout.specs.Layout.{any_rect, cutout_list}
+use Rattle.prelude.proofs.Loops.{Rest}
+use Rattle.layout.specs.Layout.{cutout_list}
 use Rattle.cutouts.specs.Cutouts.{hits_of}
 use Rattle.cutouts.proofs.hits.Given as goal
 

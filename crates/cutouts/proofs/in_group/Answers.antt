@@ -1,12 +1,8 @@
 -- The indices that are left decide; the one that is looked for ends the loop.
-use Prim.Native.Nat.{◌-◌}
 use borrow.Author.Tests.{eq-eqb, ne_eqb}
-use lib.ListN.{take}
-use Rattle.prelude.proofs.Loops.{in_array, Rest, stops, goes_on, runs_out}
+use Rattle.prelude.proofs.Loops.{stops, goes_on, runs_out}
 use Rattle.prelude.specs.Lists.{any_of}
 use Rattle.cutouts.specs.Cutouts.{in_group_of}
-use native.Mathlib.Omega.{arith}
-use Rattle.std.proofs.lemmas.Grind.{common_steps}
 use Rattle.cutouts.proofs.in_group.Goals as goal
 
 pub returns-then-at-k : goal.returns-then-at-k

@@ -1,10 +1,6 @@
-use Prim.Native.Nat.{◌-◌}
-use borrow.Author.Tests.{eq-eqb, ne_eqb}
 use lib.ListN.{take}
-use Rattle.prelude.proofs.Loops.{in_array, Rest, stops, goes_on, runs_out}
-use Rattle.prelude.specs.Lists.{any_of}
+use Rattle.prelude.proofs.Loops.{Rest}
 use Rattle.cutouts.specs.Cutouts.{in_group_of}
-use native.Mathlib.Omega.{arith}
 use Rattle.cutouts.proofs.in_group.Given as goal
 
 abbrev pub invariant-loop-k : goal.invariant-loop-k

@@ -1,15 +1,13 @@
 -- What is stored, and behind it the rectangles at the indices that are left; each index is below the count of the elements.
-use Prim.Native.Nat.{◌-◌, ◌<◌}
-use mathlib.Core.List.{◌++◌, map, append-nil}
+use Prim.Native.Nat.{◌<◌}
+use mathlib.Core.List.{append-nil}
 use mathlib.Core.Path.{refl, ap, sym, ◌∙◌, ◌≡◌}
-use lib.ListN.{length, take, get_or, length-set}
-use Rattle.prelude.proofs.Loops.{in_array, Rest, goes_on, runs_out}
+use lib.ListN.{take, get_or, length-set}
+use Rattle.prelude.proofs.Loops.{in_array, goes_on, runs_out}
 use Rattle.prelude.proofs.Stores.{put_rest}
 use Rattle.cutouts.specs.Cutouts.{group_list}
 use Rattle.cutouts.proofs.Groups.{members_first, below_index}
-use Rattle.layout.specs.Layout.{any_rect}
 use native.Mathlib.Omega.{arith}
-use Rattle.std.proofs.lemmas.Grind.{common_steps}
 use Rattle.cutouts.proofs.members.Goals as goal
 
 pub loop-k-init : goal.loop-k-init

@@ -1,19 +1,13 @@
 -- What is stored, and behind it the elements outside the group among the indices that are left.
-use Prim.Native.Nat.{◌-◌, ◌≤◌}
 use mathlib.Core.Path.{sym, ◌≡◌}
-use mathlib.Core.List.{◌++◌, append-nil}
-use lib.ListN.{length, take, get_or, length-set}
+use mathlib.Core.List.{append-nil}
+use lib.ListN.{length, length-set}
 use lib.Seq.{get_or-take, length-take-le}
-use Rattle.prelude.specs.Lists.{range}
 use Rattle.prelude.proofs.ListLaws.{length_range, range_at}
-use Rattle.prelude.proofs.Loops.{sized, Rest, rest_all, goes_on, runs_out}
+use Rattle.prelude.proofs.Loops.{sized, rest_all, goes_on, runs_out}
 use Rattle.prelude.proofs.Stores.{put_rest}
-use Rattle.cutouts.specs.Cutouts.{group_list}
-use Rattle.cutouts.proofs.Groups.{outside}
 use Rattle.layout.specs.Layout.{any_rect}
-use borrow.Author.Rules.{rules}
 use native.Mathlib.Omega.{arith}
-use Rattle.std.proofs.lemmas.Grind.{common_steps}
 use Rattle.cutouts.proofs.others.Goals as goal
 
 pub loop-i-init : goal.loop-i-init

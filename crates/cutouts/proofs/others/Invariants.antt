@@ -1,17 +1,12 @@
-use Prim.Native.Nat.{◌-◌, ◌≤◌}
-use mathlib.Core.Path.{sym, ◌≡◌}
-use mathlib.Core.List.{◌++◌, append-nil}
-use lib.ListN.{length, take, get_or, length-set}
-use lib.Seq.{get_or-take, length-take-le}
+use Prim.Native.Nat.{◌≤◌}
+use mathlib.Core.Path.{◌≡◌}
+use mathlib.Core.List.{◌++◌}
+use lib.ListN.{length, take, get_or}
 use Rattle.prelude.specs.Lists.{range}
-use Rattle.prelude.proofs.ListLaws.{length_range, range_at}
-use Rattle.prelude.proofs.Loops.{sized, Rest, rest_all, goes_on, runs_out}
-use Rattle.prelude.proofs.Stores.{put_rest}
+use Rattle.prelude.proofs.Loops.{Rest}
 use Rattle.cutouts.specs.Cutouts.{group_list}
 use Rattle.cutouts.proofs.Groups.{outside}
 use Rattle.layout.specs.Layout.{any_rect}
-use borrow.Author.Rules.{rules}
-use native.Mathlib.Omega.{arith}
 use Rattle.cutouts.proofs.others.Given as goal
 
 abbrev pub invariant-loop-i : goal.invariant-loop-i

@@ -1,9 +1,6 @@
 -- A group on no cutout stays; else it is shifted as the search answers.
-use borrow.Author.Tests.{not-true, not-false}
 use mathlib.Core.Path.{refl}
 use Rattle.cutouts.specs.Cutouts.{settle_of}
-use borrow.Author.Rules.{rules}
-use Rattle.std.proofs.lemmas.Grind.{common_steps}
 use Rattle.cutouts.proofs.settle.Goals as goal
 
 pub returns-then-not-hits : goal.returns-then-not-hits

@@ -1,8 +1,6 @@
 -- The two cases of the move.
 use mathlib.Core.Path.{refl}
 use Rattle.cutouts.specs.Cutouts.{shift_of}
-use borrow.Author.Rules.{rules}
-use Rattle.std.proofs.lemmas.Grind.{common_steps}
 use Rattle.cutouts.proofs.shift.Goals as goal
 
 pub returns-in-Stay : goal.returns-in-Stay

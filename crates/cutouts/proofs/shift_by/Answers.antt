@@ -1,17 +1,12 @@
 -- The elements so far, and then the group's indices that are left; each index is below the count of the elements.
-use Prim.Native.Nat.{ℕ, ◌-◌, ◌<◌}
-use mathlib.Core.List.{List, foldl}
-use mathlib.Core.Path.{refl, ◌≡◌}
-use lib.ListN.{length, take, get_or, set, length-set}
-use Rattle.prelude.proofs.Loops.{in_array, sized, Rest, goes_on, runs_out}
-use Rattle.geometry.specs.declared.Rect.{Rect}
+use Prim.Native.Nat.{◌<◌}
+use mathlib.Core.List.{foldl}
+use mathlib.Core.Path.{refl}
+use lib.ListN.{get_or, length-set}
+use Rattle.prelude.proofs.Loops.{in_array, sized, goes_on, runs_out}
 use Rattle.geometry.specs.Rect.{shifted_of}
-use Rattle.cutouts.specs.Cutouts.{shift_by_of}
 use Rattle.cutouts.proofs.Groups.{below_index, put_first}
-use Rattle.layout.specs.Layout.{any_rect}
-use borrow.Author.Rules.{rules}
 use native.Mathlib.Omega.{arith}
-use Rattle.std.proofs.lemmas.Grind.{common_steps}
 use Rattle.cutouts.proofs.shift_by.Goals as goal
 
 pub loop-k-init : goal.loop-k-init

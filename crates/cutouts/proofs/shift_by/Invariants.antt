@@ -1,15 +1,12 @@
-use Prim.Native.Nat.{ℕ, ◌-◌, ◌<◌}
+use Prim.Native.Nat.{ℕ}
 use mathlib.Core.List.{List, foldl}
-use mathlib.Core.Path.{refl, ◌≡◌}
-use lib.ListN.{length, take, get_or, set, length-set}
-use Rattle.prelude.proofs.Loops.{in_array, sized, Rest, goes_on, runs_out}
+use mathlib.Core.Path.{◌≡◌}
+use lib.ListN.{length, take, get_or, set}
+use Rattle.prelude.proofs.Loops.{Rest}
 use Rattle.geometry.specs.declared.Rect.{Rect}
 use Rattle.geometry.specs.Rect.{shifted_of}
 use Rattle.cutouts.specs.Cutouts.{shift_by_of}
-use Rattle.cutouts.proofs.Groups.{below_index, put_first}
 use Rattle.layout.specs.Layout.{any_rect}
-use borrow.Author.Rules.{rules}
-use native.Mathlib.Omega.{arith}
 use Rattle.cutouts.proofs.shift_by.Given as goal
 
 abbrev pub invariant-loop-k : goal.invariant-loop-k

@@ -1,17 +1,11 @@
 -- What is stored, and behind it the cutouts with an area among those that are left.
-use Prim.Native.Nat.{◌-◌, ◌≤◌}
-use borrow.Author.Tests.{not-true, not-false}
-use mathlib.Core.Path.{sym, ◌≡◌}
-use mathlib.Core.List.{◌++◌, append-nil}
-use lib.ListN.{length, take, length-set}
-use Rattle.prelude.proofs.Loops.{in_array, sized, Rest, goes_on, runs_out}
+use mathlib.Core.Path.{sym}
+use mathlib.Core.List.{append-nil}
+use lib.ListN.{length-set}
+use Rattle.prelude.proofs.Loops.{in_array, sized, goes_on, runs_out}
 use Rattle.prelude.proofs.Stores.{put_rest}
-use Rattle.prelude.specs.Lists.{retain}
-use Rattle.cutouts.specs.Cutouts.{has_area_of}
 use Rattle.layout.specs.Layout.{any_rect}
-use borrow.Author.Rules.{rules}
 use native.Mathlib.Omega.{arith}
-use Rattle.std.proofs.lemmas.Grind.{common_steps}
 use Rattle.cutouts.proofs.with_area.Goals as goal
 
 pub loop-i-init : goal.loop-i-init

@@ -1,8 +1,6 @@
 -- The controls at the places of the halves, with the d-pad and the sticks that calls give.
-use borrow.Author.Rules.{rules}
 use native.Mathlib.Omega.{arith}
 use Rattle.defaults.specs.Controls.{analog_controls_of}
-use Rattle.std.proofs.lemmas.Grind.{common_steps}
 use Rattle.defaults.proofs.analog_controls.Goals as goal
 
 pub returns : goal.returns

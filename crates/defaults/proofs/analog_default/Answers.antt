@@ -1,11 +1,9 @@
 -- The full layout, scaled and finished (`full-anew`), or the band; the counts by `analog-formed`.
-use borrow.Author.Rules.{rules}
 use Rattle.layout.specs.Labels.{analog_labels}
 use Rattle.layout.proofs.LabelLaws.{with_counts}
 use Rattle.defaults.specs.Defaults.{analog_default_of}
 use Rattle.defaults.proofs.DefaultLabels.{analog_formed}
 use Rattle.defaults.proofs.Anew.{full_anew}
-use Rattle.std.proofs.lemmas.Grind.{common_steps}
 use Rattle.defaults.proofs.analog_default.Goals as goal
 
 pub returns : goal.returns

@@ -1,12 +1,10 @@
 -- The three steps, one after the other; the counts by `default-formed`.
-use borrow.Author.Rules.{rules}
 use Rattle.layout.specs.Layout.{cutout_list}
 use Rattle.layout.specs.Labels.{standard_labels}
 use Rattle.layout.proofs.LabelLaws.{with_counts}
 use Rattle.arranged.proofs.ControlLaws.{arranged_finished}
 use Rattle.defaults.specs.Defaults.{default_in_of}
 use Rattle.defaults.proofs.DefaultLabels.{default_formed}
-use Rattle.std.proofs.lemmas.Grind.{common_steps}
 use Rattle.defaults.proofs.default_in.Goals as goal
 
 pub returns : goal.returns

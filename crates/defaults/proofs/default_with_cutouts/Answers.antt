@@ -1,7 +1,5 @@
 -- `default_in` with the screen for the picture.
-use borrow.Author.Rules.{rules}
 use native.Mathlib.Omega.{arith}
-use Rattle.std.proofs.lemmas.Grind.{common_steps}
 use Rattle.defaults.proofs.default_with_cutouts.Goals as goal
 
 pub returns : goal.returns

@@ -1,7 +1,5 @@
 -- The game that `finished` places does not matter (`clear-anew`).
-use borrow.Author.Rules.{rules}
 use Rattle.defaults.proofs.Anew.{clear_anew}
-use Rattle.std.proofs.lemmas.Grind.{common_steps}
 use Rattle.defaults.proofs.finished_in.Goals as goal
 
 pub returns : goal.returns

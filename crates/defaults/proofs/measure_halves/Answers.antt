@@ -1,7 +1,5 @@
 -- What `well_faces` and pick give is put for its terms in the definition.
-use borrow.Author.Rules.{rules}
 use Rattle.defaults.specs.Defaults.{measure_halves_of}
-use Rattle.std.proofs.lemmas.Grind.{common_steps}
 use Rattle.defaults.proofs.measure_halves.Goals as goal
 
 pub returns : goal.returns

@@ -1,10 +1,8 @@
 -- The inputs of a psp, of `analog_default`; the counts by `psp-formed`.
-use borrow.Author.Rules.{rules}
 use Rattle.layout.specs.Labels.{psp_labels}
 use Rattle.layout.proofs.LabelLaws.{with_counts}
 use Rattle.defaults.specs.Defaults.{psp_of}
 use Rattle.defaults.proofs.DefaultLabels.{psp_formed}
-use Rattle.std.proofs.lemmas.Grind.{common_steps}
 use Rattle.defaults.proofs.psp.Goals as goal
 
 pub returns : goal.returns

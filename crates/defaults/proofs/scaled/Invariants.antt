@@ -1,11 +1,5 @@
-use borrow.Author.Rules.{rules}
-use native.Mathlib.Omega.{arith}
-use mathlib.Core.Path.{refl}
-use Prim.Native.Nat.{◌-◌}
 use Rattle.prelude.specs.Lists.{map_first}
-use Rattle.prelude.proofs.Loops.{sized, Done, all_done, map_first_zero, changes}
-use Rattle.prelude.proofs.ListLaws.{take_map_first}
-use Rattle.layout.specs.Layout.{any_rect}
+use Rattle.prelude.proofs.Loops.{Done}
 use Rattle.defaults.specs.Defaults.{scaled_rect_of}
 use Rattle.defaults.proofs.scaled.Given as goal
 

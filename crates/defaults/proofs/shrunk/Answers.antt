@@ -1,10 +1,8 @@
 -- By the test of the sizes: all elements scaled, or none.
 use mathlib.Core.Path.{refl, ap}
-use borrow.Author.Rules.{rules}
 use Rattle.layout.specs.declared.Layout.{Layout}
 use Rattle.layout.specs.Elements.{set_elements_of}
 use Rattle.defaults.specs.Defaults.{shrunk_of}
-use Rattle.std.proofs.lemmas.Grind.{common_steps}
 use Rattle.defaults.proofs.shrunk.Goals as goal
 
 pub returns-then-requested-full : goal.returns-then-requested-full

@@ -1,8 +1,6 @@
 -- What clamp, pick and max give is put for its terms in the definition.
-use borrow.Author.Rules.{rules}
 use lib.Ieee.{le, of_bits}
 use Rattle.defaults.specs.Defaults.{size_halves_of}
-use Rattle.std.proofs.lemmas.Grind.{common_steps}
 use Rattle.defaults.proofs.size_halves.Goals as goal
 
 pub returns : goal.returns

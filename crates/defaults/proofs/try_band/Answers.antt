@@ -1,7 +1,5 @@
 -- By whether there is a band.
-use borrow.Author.Rules.{rules}
 use Rattle.defaults.specs.Defaults.{try_band_of}
-use Rattle.std.proofs.lemmas.Grind.{common_steps}
 use Rattle.defaults.proofs.try_band.Goals as goal
 
 pub returns-then-band : goal.returns-then-band

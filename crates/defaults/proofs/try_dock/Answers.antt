@@ -1,8 +1,6 @@
 -- By the test of the room: the docked controls, finished, or what was there.
-use borrow.Author.Rules.{rules}
 use Rattle.arranged.proofs.ControlLaws.{arranged_finished}
 use Rattle.defaults.specs.Defaults.{try_dock_of}
-use Rattle.std.proofs.lemmas.Grind.{common_steps}
 use Rattle.defaults.proofs.try_dock.Goals as goal
 
 pub returns-then-cluster-middle : goal.returns-then-cluster-middle

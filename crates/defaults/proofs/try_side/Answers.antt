@@ -1,8 +1,6 @@
 -- By the test of the screen: the controls of the rails, finished, or what was there.
-use borrow.Author.Rules.{rules}
 use Rattle.arranged.proofs.ControlLaws.{side_finished}
 use Rattle.defaults.specs.Defaults.{try_side_of}
-use Rattle.std.proofs.lemmas.Grind.{common_steps}
 use Rattle.defaults.proofs.try_side.Goals as goal
 
 pub returns-then-w-h : goal.returns-then-w-h

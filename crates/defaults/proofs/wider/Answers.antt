@@ -1,6 +1,5 @@
 -- By the test of the widths.
 use Rattle.defaults.specs.Defaults.{wider_of}
-use Rattle.std.proofs.lemmas.Grind.{common_steps}
 use Rattle.defaults.proofs.wider.Goals as goal
 
 pub returns-then-rival-game : goal.returns-then-rival-game

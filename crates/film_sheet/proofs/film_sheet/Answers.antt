@@ -1,5 +1,4 @@
 -- `film_sheet` is the sheet of what reading the order gives: the laws of reading say which case it is and that its numbers are in range.
-use borrow.Author.Rules.{rules}
 use native.Mathlib.Omega.{arith}
 use Rattle.reader.proofs.Accepted.{accepted_order, refused_order}
 use Rattle.sheet.specs.Sheet.{layout_sheet_of, refused_sheet_of}
@@ -7,7 +6,6 @@ use Rattle.reader.proofs.Readings.{read_refused, read_accepted}
 use Rattle.preset.proofs.PresetLabels.{settings_few}
 use Rattle.film_sheet.specs.Film.{film_text_of, film_sheet_of}
 use Rattle.film_sheet.proofs.FilmLaws.{order_bounded}
-use Rattle.std.proofs.lemmas.Grind.{common_steps}
 use Rattle.film_sheet.proofs.film_sheet.Goals as goal
 
 pub refused_sheet-requires : goal.refused_sheet-requires

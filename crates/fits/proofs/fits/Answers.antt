@@ -1,14 +1,10 @@
 -- `fits`: what is left from an input on gives the whole answer.
-use borrow.Author.Rules.{rules}
-use borrow.Author.Tests.{not-true, not-false}
 use native.Mathlib.Omega.{arith}
 use mathlib.Core.Path.{◌≡◌}
-use Prim.Native.Nat.{◌-◌}
-use lib.ListN.{length, take}
-use Rattle.prelude.proofs.Loops.{sized, Rest, stops, goes_on, runs_out}
-use Rattle.layout.specs.Layout.{any_rect, cutout_list}
+use lib.ListN.{length}
+use Rattle.prelude.proofs.Loops.{sized, stops, goes_on, runs_out}
+use Rattle.layout.specs.Layout.{any_rect}
 use Rattle.fits.specs.Fits.{from_stick, all_fit, fits_of}
-use Rattle.std.proofs.lemmas.Grind.{common_steps}
 use Rattle.fits.proofs.fits.Goals as goal
 
 pub loop-i-init : goal.loop-i-init

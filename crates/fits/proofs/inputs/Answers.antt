@@ -1,11 +1,10 @@
 -- `inputs`: the loop has stored the d-pad and the first controls; the two sticks follow.
-use borrow.Author.Rules.{rules}
 use native.Mathlib.Omega.{arith}
 use mathlib.Core.Path.{◌≡◌, refl, ap, ◌∙◌}
-use Prim.Native.Nat.{◌+◌, ◌-◌, ◌≤◌}
+use Prim.Native.Nat.{◌+◌}
 use mathlib.Core.Bool.{false}
 use mathlib.Core.List.{List, [], ◌∷◌, ◌++◌, map}
-use lib.ListN.{length, take, get_or, length-set}
+use lib.ListN.{take, get_or, length-set}
 use Rattle.prelude.proofs.Loops.{take_map}
 use Rattle.prelude.proofs.Stores.{map_put, take_store, two}
 use Rattle.geometry.specs.declared.Rect.{Rect}
@@ -13,7 +12,6 @@ use Rattle.layout.specs.Layout.{any_rect, control_list}
 use Rattle.layout.proofs.ArrayLaws.{array_lengths}
 use Rattle.fits.specs.declared.Input.{Input}
 use Rattle.fits.specs.Fits.{input, from_control, from_stick, inputs_of}
-use Rattle.std.proofs.lemmas.Grind.{common_steps}
 use Rattle.fits.proofs.inputs.Goals as goal
 
 pub loop-i-init : goal.loop-i-init

@@ -1,7 +1,5 @@
 -- `lies_clear`: the three tests of the definition in turn.
-use borrow.Author.Rules.{rules}
 use Rattle.fits.specs.Fits.{lies_clear_of}
-use Rattle.std.proofs.lemmas.Grind.{common_steps}
 use Rattle.fits.proofs.lies_clear.Goals as goal
 
 pub returns-then-not-overlaps : goal.returns-then-not-overlaps

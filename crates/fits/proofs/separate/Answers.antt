@@ -1,7 +1,5 @@
 -- `separate`: the tests of the definition in turn, up to the first that settles it.
-use borrow.Author.Rules.{rules}
 use Rattle.fits.specs.Fits.{separate_of}
-use Rattle.std.proofs.lemmas.Grind.{common_steps}
 use Rattle.fits.proofs.separate.Goals as goal
 
 pub returns-then-not-overlaps : goal.returns-then-not-overlaps

@@ -1,14 +1,8 @@
 -- `separate_after`: the inputs passed leave the answer to those after them.
-use borrow.Author.Rules.{rules}
-use borrow.Author.Tests.{not-true, not-false}
-use native.Mathlib.Omega.{arith}
-use Prim.Native.Nat.{◌+◌, ◌-◌}
-use lib.ListN.{take, drop}
 use Rattle.prelude.specs.Lists.{all_of}
-use Rattle.prelude.proofs.Loops.{in_array, Rest, stops, goes_on, runs_out}
+use Rattle.prelude.proofs.Loops.{stops, goes_on, runs_out}
 use Rattle.layout.specs.Layout.{any_rect}
-use Rattle.fits.specs.Fits.{from_stick, separate_of}
-use Rattle.std.proofs.lemmas.Grind.{common_steps}
+use Rattle.fits.specs.Fits.{from_stick}
 use Rattle.fits.proofs.separate_after.Goals as goal
 
 pub returns-then-not-separate : goal.returns-then-not-separate

@@ -1,7 +1,5 @@
 -- The definition's three tests: the layout from before at each, else the layout with the row.
-use borrow.Author.Rules.{rules}
 use Rattle.landscape.specs.Landscape.{fit_landscape_controls_of}
-use Rattle.std.proofs.lemmas.Grind.{common_steps}
 use Rattle.landscape.proofs.fit_landscape_controls.Goals as goal
 
 pub returns-then-w-h : goal.returns-then-w-h

@@ -1,7 +1,5 @@
 -- Label by label.
-use borrow.Author.Rules.{rules}
 use Rattle.landscape.specs.Landscape.{place_in_row_of}
-use Rattle.std.proofs.lemmas.Grind.{common_steps}
 use Rattle.landscape.proofs.place_in_row.Goals as goal
 
 pub returns-in-Tri : goal.returns-in-Tri

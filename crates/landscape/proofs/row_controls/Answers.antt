@@ -1,14 +1,9 @@
 -- The first i controls are in the row.
-use borrow.Author.Rules.{rules}
 use mathlib.Core.Path.{ap, ◌∙◌}
 use lib.ListN.{get_or}
-use Rattle.prelude.specs.Lists.{map_first}
-use Rattle.prelude.proofs.Loops.{sized, Done, all_done, map_first_zero, changes}
+use Rattle.prelude.proofs.Loops.{sized, all_done, map_first_zero, changes}
 use Rattle.layout.specs.Layout.{any_control, with_bounds}
-use Rattle.landscape.specs.Landscape.{in_row}
 use native.Mathlib.Omega.{arith}
-use Prim.Native.Nat.{◌-◌}
-use Rattle.std.proofs.lemmas.Grind.{common_steps}
 use Rattle.landscape.proofs.row_controls.Goals as goal
 
 pub loop-i-init : goal.loop-i-init

@@ -1,8 +1,6 @@
 -- The left stick, and with two sticks the right one.
 use borrow.Author.Tests.{le-ltb, lt-ltb}
-use borrow.Author.Rules.{rules}
 use Rattle.landscape.specs.Landscape.{row_sticks_of}
-use Rattle.std.proofs.lemmas.Grind.{common_steps}
 use Rattle.landscape.proofs.row_sticks.Goals as goal
 
 pub returns-then-count-gt1 : goal.returns-then-count-gt1

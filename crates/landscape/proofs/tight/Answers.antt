@@ -1,6 +1,5 @@
 -- The three tests, in the definition's order.
 use Rattle.landscape.specs.Landscape.{tight_of}
-use Rattle.std.proofs.lemmas.Grind.{common_steps}
 use Rattle.landscape.proofs.tight.Goals as goal
 
 pub returns-then-row : goal.returns-then-row

@@ -1,8 +1,6 @@
 -- The d-pad, the controls and the sticks, by the calls' contracts.
 use mathlib.Core.Path.{refl}
-use borrow.Author.Rules.{rules}
 use Rattle.landscape.specs.Landscape.{with_key_row_of}
-use Rattle.std.proofs.lemmas.Grind.{common_steps}
 use Rattle.landscape.proofs.with_key_row.Goals as goal
 
 pub returns : goal.returns

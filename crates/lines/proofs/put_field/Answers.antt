@@ -1,11 +1,9 @@
 -- `put_field` puts a blank, and the number from the next place on.
 use lib.ListN.{length-set}
 use native.Mathlib.Omega.{arith}
-use borrow.Author.Rules.{rules}
 use Rattle.lines.specs.Line.{field_text}
 use Rattle.lines.proofs.Numbers.{kept_number}
 use Rattle.lines.proofs.Puts.{one, put_after, put_length}
-use Rattle.std.proofs.lemmas.Grind.{common_steps}
 use Rattle.lines.proofs.put_field.Goals as goal
 
 pub bounds-out-at : goal.bounds-out-at

@@ -3,7 +3,6 @@ use native.Mathlib.Omega.{arith}
 use Rattle.lines.specs.Line.{head_text}
 use Rattle.lines.proofs.LineLaws.{length_head}
 use Rattle.lines.proofs.Puts.{one, put_after, put_ends, put_length}
-use Rattle.std.proofs.lemmas.Grind.{common_steps}
 use Rattle.lines.proofs.put_head.Goals as goal
 
 pub put_text-number-requires : goal.put_text-number-requires

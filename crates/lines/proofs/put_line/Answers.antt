@@ -4,7 +4,6 @@ use Prim.Native.Nat.{ℕ, ◌+◌, ◌≤◌}
 use native.Mathlib.Omega.{arith}
 use lib.ListN.{length}
 use lib.Seq.{length-take-le}
-use mathlib.Core.List.{List}
 use Rattle.prelude.proofs.Loops.{sized}
 use Rattle.lines.specs.declared.SheetLine.{SheetLine}
 use Rattle.lines.specs.Line.{name_text, line_in, field_text, line_text, PrintableLine, put_of}

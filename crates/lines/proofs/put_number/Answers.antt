@@ -2,10 +2,8 @@
 use mathlib.Core.Path.{ap}
 use native.Mathlib.Omega.{arith}
 use lib.ListN.{length, length-set}
-use borrow.Author.Rules.{rules}
 use Rattle.lines.proofs.Numbers.{BelowZero, NotBelowZero, below_zero, not_below_zero}
 use Rattle.lines.proofs.Puts.{one, put_after, put_length}
-use Rattle.std.proofs.lemmas.Grind.{common_steps}
 use Rattle.lines.proofs.put_number.Goals as goal
 
 pub bounds-out-at : goal.bounds-out-at

@@ -1,16 +1,14 @@
 -- `put_text` stores a byte a turn: after i of them the rest of the text is still to be put from `at` + i on.
 use native.Mathlib.Nat.{add-zero, add_assoc}
-use lib.ListN.{length, take}
+use lib.ListN.{length}
 use lib.Seq.{take-length}
 use mathlib.Core.Path.{◌≡◌, ◌∙◌}
 use mathlib.Core.List.{[], ◌∷◌}
-use Rattle.prelude.proofs.Loops.{Rest, goes_on, runs_out}
+use Rattle.prelude.proofs.Loops.{goes_on, runs_out}
 use Rattle.prelude.proofs.Stores.{length_stored}
 use Rattle.lines.specs.Line.{put_of}
 use Rattle.lines.proofs.Puts.{none, one, onward, put_length}
 use native.Mathlib.Omega.{arith}
-use Prim.Native.Nat.{◌+◌, ◌-◌}
-use Rattle.std.proofs.lemmas.Grind.{common_steps}
 use Rattle.lines.proofs.put_text.Goals as goal
 
 pub loop-i-init : goal.loop-i-init

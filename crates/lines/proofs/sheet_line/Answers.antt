@@ -4,7 +4,6 @@ use Rattle.tenths.proofs.Floors.{Small}
 use Rattle.lines.specs.Line.{line_of}
 use Rattle.lines.proofs.LineLaws.{most_edge, in_limit, zero_in_range, line_numbers}
 use Rattle.lines.proofs.Numbers.{difference_fits, edge_few, corner_is, span_is}
-use Rattle.std.proofs.lemmas.Grind.{common_steps}
 use Rattle.lines.proofs.sheet_line.Goals as goal
 
 pub edge-x-requires : goal.edge-x-requires

@@ -1,17 +1,8 @@
 -- The rectangles that are left decide; one that does not come to lie clear ends the loop.
-use borrow.Author.Rules.{rules}
-use borrow.Author.Tests.{not-true, not-false}
 use native.Mathlib.Omega.{arith}
-use mathlib.Core.Bool.{Bool}
-use mathlib.Core.List.{List}
-use Prim.Native.Nat.{◌-◌}
-use lib.ListN.{take}
 use Rattle.prelude.specs.Lists.{all_of}
-use Rattle.prelude.proofs.Loops.{Rest, stops, goes_on, runs_out}
-use Rattle.geometry.specs.declared.Rect.{Rect}
-use Rattle.layout.specs.Layout.{cutout_list, element_list, any_rect}
-use Rattle.moves.specs.Moves.{all_clear_of}
-use Rattle.std.proofs.lemmas.Grind.{common_steps}
+use Rattle.prelude.proofs.Loops.{stops, goes_on, runs_out}
+use Rattle.layout.specs.Layout.{any_rect}
 use Rattle.moves.proofs.all_clear.Goals as goal
 
 pub loop-j-init : goal.loop-j-init

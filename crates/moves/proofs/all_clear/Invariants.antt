@@ -1,14 +1,9 @@
-use borrow.Author.Rules.{rules}
-use borrow.Author.Tests.{not-true, not-false}
-use native.Mathlib.Omega.{arith}
 use mathlib.Core.Bool.{Bool}
 use mathlib.Core.List.{List}
-use Prim.Native.Nat.{◌-◌}
 use lib.ListN.{take}
-use Rattle.prelude.specs.Lists.{all_of}
-use Rattle.prelude.proofs.Loops.{Rest, stops, goes_on, runs_out}
+use Rattle.prelude.proofs.Loops.{Rest}
 use Rattle.geometry.specs.declared.Rect.{Rect}
-use Rattle.layout.specs.Layout.{cutout_list, element_list, any_rect}
+use Rattle.layout.specs.Layout.{cutout_list, element_list}
 use Rattle.moves.specs.Moves.{all_clear_of}
 use Rattle.moves.proofs.all_clear.Given as goal
 

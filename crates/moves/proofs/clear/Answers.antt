@@ -1,7 +1,5 @@
 -- The three tests, in the definition's order.
-use borrow.Author.Rules.{rules}
 use Rattle.moves.specs.Moves.{clear_of}
-use Rattle.std.proofs.lemmas.Grind.{common_steps}
 use Rattle.moves.proofs.clear.Goals as goal
 
 pub returns-then-not-overlap : goal.returns-then-not-overlap

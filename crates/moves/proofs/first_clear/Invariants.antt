@@ -1,13 +1,6 @@
-use borrow.Author.Rules.{rules}
-use native.Mathlib.Omega.{arith}
-use mathlib.Core.Path.{◌≡◌, refl}
-use mathlib.Core.List.{List, zip}
-use Prim.Native.Nat.{ℕ, ◌-◌, ◌<◌, ◌≤◌}
-use native.Mathlib.Nat.{lt_of_lt_of_le}
-use lib.Ieee.{Float, nan}
-use lib.ListN.{length, take, get_or}
-use Rattle.prelude.proofs.ListLaws.{length_zip_with, get_d_zip_with}
-use Rattle.prelude.proofs.Loops.{Rest, stops, goes_on, runs_out}
+use mathlib.Core.List.{zip}
+use lib.ListN.{take}
+use Rattle.prelude.proofs.Loops.{Rest}
 use Rattle.layout.specs.Layout.{cutout_list, element_list}
 use Rattle.moves.specs.Moves.{moves_in, first_clear_of}
 use Rattle.moves.proofs.first_clear.Given as goal

@@ -1,8 +1,6 @@
 -- Each of the three arrays is opened at the slot of the new length.
 use native.Mathlib.Omega.{arith}
 use Rattle.moves.proofs.Inserts.{insert_holds}
-use borrow.Author.Rules.{rules}
-use Rattle.std.proofs.lemmas.Grind.{common_steps}
 use Rattle.moves.proofs.insert.Goals as goal
 
 pub returns : goal.returns

@@ -2,10 +2,9 @@
 use mathlib.Core.Path.{◌∙◌, ◌≡◌}
 use lib.Ieee.{nan}
 use lib.ListN.{length-set, length, get_or}
-use Rattle.moves.proofs.Inserts.{Opened, open_start, open_step, open_put}
+use Rattle.moves.proofs.Inserts.{open_start, open_step, open_put}
 use native.Mathlib.Omega.{arith}
-use Prim.Native.Nat.{◌-◌, ◌≤◌}
-use Rattle.std.proofs.lemmas.Grind.{common_steps}
+use Prim.Native.Nat.{◌-◌}
 use Rattle.moves.proofs.insert_at.Goals as goal
 
 pub loop-j-init : goal.loop-j-init

@@ -1,9 +1,7 @@
-use mathlib.Core.Path.{◌∙◌, ◌≡◌}
-use lib.Ieee.{nan}
-use lib.ListN.{length-set, length, get_or}
-use Rattle.moves.proofs.Inserts.{Opened, open_start, open_step, open_put}
-use native.Mathlib.Omega.{arith}
-use Prim.Native.Nat.{◌-◌, ◌≤◌}
+use mathlib.Core.Path.{◌≡◌}
+use lib.ListN.{length}
+use Rattle.moves.proofs.Inserts.{Opened}
+use Prim.Native.Nat.{◌≤◌}
 use Rattle.moves.proofs.insert_at.Given as goal
 
 abbrev pub invariant-loop-j : goal.invariant-loop-j

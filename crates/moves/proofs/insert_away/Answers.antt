@@ -2,8 +2,6 @@
 use Prim.Native.Nat.{◌+◌}
 use native.Mathlib.Omega.{arith}
 use Rattle.moves.proofs.Inserts.{held, holds_next, recount}
-use borrow.Author.Rules.{rules}
-use Rattle.std.proofs.lemmas.Grind.{common_steps}
 use Rattle.moves.proofs.insert_away.Goals as goal
 
 pub insert-requires-2 : goal.insert-requires-2

@@ -1,16 +1,10 @@
 -- What is inserted, and then the moves off the holes that are left: together the whole.
-use borrow.Author.Rules.{rules}
-use borrow.Author.Tests.{not-true, not-false}
 use native.Mathlib.Omega.{arith}
-use mathlib.Core.List.{List, foldl, foldl-append, flat_map}
-use Prim.Native.Nat.{◌*◌, ◌+◌, ◌-◌, ◌≤◌}
-use lib.Ieee.{Float}
-use Rattle.prelude.proofs.Loops.{in_array, Rest, goes_on, runs_out}
-use Rattle.geometry.specs.declared.Rect.{Rect}
-use Rattle.layout.specs.Layout.{any_rect, cutout_list}
-use Rattle.moves.specs.Moves.{HoldMoves, moves_off, insert_of, moves_in}
+use mathlib.Core.List.{foldl-append, flat_map}
+use Rattle.prelude.proofs.Loops.{in_array, goes_on, runs_out}
+use Rattle.layout.specs.Layout.{any_rect}
+use Rattle.moves.specs.Moves.{moves_off}
 use Rattle.moves.proofs.Inserts.{held}
-use Rattle.std.proofs.lemmas.Grind.{common_steps}
 use Rattle.moves.proofs.insert_off.Goals as goal
 
 pub loop-k-init : goal.loop-k-init

@@ -1,14 +1,10 @@
-use borrow.Author.Rules.{rules}
-use borrow.Author.Tests.{not-true, not-false}
-use native.Mathlib.Omega.{arith}
-use mathlib.Core.List.{List, foldl, foldl-append, flat_map}
-use Prim.Native.Nat.{◌*◌, ◌+◌, ◌-◌, ◌≤◌}
+use mathlib.Core.List.{List, foldl, flat_map}
+use Prim.Native.Nat.{◌*◌, ◌+◌, ◌≤◌}
 use lib.Ieee.{Float}
-use Rattle.prelude.proofs.Loops.{in_array, Rest, goes_on, runs_out}
+use Rattle.prelude.proofs.Loops.{Rest}
 use Rattle.geometry.specs.declared.Rect.{Rect}
-use Rattle.layout.specs.Layout.{any_rect, cutout_list}
+use Rattle.layout.specs.Layout.{cutout_list}
 use Rattle.moves.specs.Moves.{HoldMoves, moves_off, insert_of, moves_in}
-use Rattle.moves.proofs.Inserts.{held}
 use Rattle.moves.proofs.insert_off.Given as goal
 
 abbrev pub invariant-loop-k : goal.invariant-loop-k

@@ -1,8 +1,6 @@
 -- The definition's two cases, by the test of the sign's bit.
 use borrow.Author.Tests.{lt-ltb, le-ltb}
 use Rattle.moves.specs.Moves.{rank_of}
-use borrow.Author.Rules.{rules}
-use Rattle.std.proofs.lemmas.Grind.{common_steps}
 use Rattle.moves.proofs.rank.Goals as goal
 
 pub returns-then-b-lt2147483648 : goal.returns-then-b-lt2147483648

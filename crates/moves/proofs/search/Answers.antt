@@ -1,16 +1,11 @@
 -- What is inserted, and then the moves of the rectangles that are left: together all candidates in their order.
 use native.Mathlib.Omega.{arith}
 use mathlib.Core.Path.{refl, ap, ◌∙◌}
-use mathlib.Core.List.{List, foldl, foldl-append, flat_map}
-use Prim.Native.Nat.{◌*◌, ◌-◌, ◌≤◌}
-use lib.Ieee.{Float}
-use lib.ListN.{take}
-use Rattle.prelude.proofs.Loops.{Rest, goes_on, runs_out}
-use Rattle.geometry.specs.declared.Rect.{Rect}
-use Rattle.layout.specs.Layout.{any_rect, cutout_list}
-use Rattle.moves.specs.Moves.{HoldMoves, candidates_of, insert_of, ordered_of, moves_in, first_clear_of, search_of}
+use mathlib.Core.List.{foldl-append, flat_map}
+use Rattle.prelude.proofs.Loops.{goes_on, runs_out}
+use Rattle.layout.specs.Layout.{any_rect}
+use Rattle.moves.specs.Moves.{candidates_of, ordered_of, moves_in, first_clear_of, search_of}
 use Rattle.moves.proofs.Inserts.{holds_none, held}
-use Rattle.std.proofs.lemmas.Grind.{common_steps}
 use Rattle.moves.proofs.search.Goals as goal
 
 pub loop-i-init : goal.loop-i-init

@@ -1,14 +1,11 @@
-use native.Mathlib.Omega.{arith}
-use mathlib.Core.Path.{refl, ap, ◌∙◌}
-use mathlib.Core.List.{List, foldl, foldl-append, flat_map}
-use Prim.Native.Nat.{◌*◌, ◌-◌, ◌≤◌}
+use mathlib.Core.List.{List, foldl}
+use Prim.Native.Nat.{◌*◌, ◌≤◌}
 use lib.Ieee.{Float}
 use lib.ListN.{take}
-use Rattle.prelude.proofs.Loops.{Rest, goes_on, runs_out}
+use Rattle.prelude.proofs.Loops.{Rest}
 use Rattle.geometry.specs.declared.Rect.{Rect}
-use Rattle.layout.specs.Layout.{any_rect, cutout_list}
-use Rattle.moves.specs.Moves.{HoldMoves, candidates_of, insert_of, ordered_of, moves_in, first_clear_of, search_of}
-use Rattle.moves.proofs.Inserts.{holds_none, held}
+use Rattle.layout.specs.Layout.{cutout_list}
+use Rattle.moves.specs.Moves.{HoldMoves, candidates_of, insert_of, ordered_of, moves_in}
 use Rattle.moves.proofs.search.Given as goal
 
 abbrev pub invariant-loop-i : goal.invariant-loop-i

@@ -1,7 +1,5 @@
 -- Both ranks, by the calls' contracts.
 use Rattle.moves.specs.Moves.{shorter_of}
-use borrow.Author.Rules.{rules}
-use Rattle.std.proofs.lemmas.Grind.{common_steps}
 use Rattle.moves.proofs.shorter.Goals as goal
 
 pub returns : goal.returns

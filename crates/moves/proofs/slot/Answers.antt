@@ -1,12 +1,8 @@
 -- The lengths that are left have the slot; the first that is longer ends the loop.
 use lib.Ieee.{nan}
-use lib.ListN.{take}
-use Rattle.prelude.proofs.Loops.{Rest, stops, goes_on, runs_out}
+use Rattle.prelude.proofs.Loops.{stops, goes_on, runs_out}
 use Rattle.moves.specs.Moves.{slot_of}
-use borrow.Author.Rules.{rules}
 use native.Mathlib.Omega.{arith}
-use Prim.Native.Nat.{◌+◌, ◌-◌}
-use Rattle.std.proofs.lemmas.Grind.{common_steps}
 use Rattle.moves.proofs.slot.Goals as goal
 
 pub loop-i-init : goal.loop-i-init

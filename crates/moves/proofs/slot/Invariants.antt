@@ -1,10 +1,7 @@
-use lib.Ieee.{nan}
 use lib.ListN.{take}
-use Rattle.prelude.proofs.Loops.{Rest, stops, goes_on, runs_out}
+use Rattle.prelude.proofs.Loops.{Rest}
 use Rattle.moves.specs.Moves.{slot_of}
-use borrow.Author.Rules.{rules}
-use native.Mathlib.Omega.{arith}
-use Prim.Native.Nat.{◌+◌, ◌-◌}
+use Prim.Native.Nat.{◌+◌}
 use Rattle.moves.proofs.slot.Given as goal
 
 abbrev pub invariant-loop-i : goal.invariant-loop-i

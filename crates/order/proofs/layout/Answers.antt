@@ -1,6 +1,5 @@
 -- A refused order is refused; else its layout, of few counts, is written, and demand 3 holds of what is written.
 use mathlib.Core.Path.{sym}
-use borrow.Author.Rules.{rules}
 use Rattle.prelude.proofs.AnswerLaws.{never}
 use Rattle.reader.proofs.Accepted.{accepted_order}
 use Rattle.written_layout.proofs.Owned.{layout_owned}
@@ -8,7 +7,6 @@ use Rattle.order.specs.Orders.{order_layout, layout_of, layout_output_of}
 use Rattle.preset.proofs.PresetLabels.{settings_few}
 use Rattle.reader.proofs.Readings.{read_refused, read_accepted}
 use Rattle.order.proofs.OrderLaws.{order_widest}
-use Rattle.std.proofs.lemmas.Grind.{common_steps}
 use Rattle.order.proofs.layout.Goals as goal
 
 pub returns-then-reading-ne0 : goal.returns-then-reading-ne0

@@ -1,10 +1,8 @@
 -- A refused order is refused; else the mask is that of its layout, of few counts.
-use borrow.Author.Rules.{rules}
 use Rattle.reader.proofs.Accepted.{accepted_order}
 use Rattle.order.specs.Orders.{order_layout, touch_of}
 use Rattle.preset.proofs.PresetLabels.{settings_few}
 use Rattle.reader.proofs.Readings.{read_refused, read_accepted}
-use Rattle.std.proofs.lemmas.Grind.{common_steps}
 use Rattle.order.proofs.touch.Goals as goal
 
 pub returns-then-reading-ne0 : goal.returns-then-reading-ne0

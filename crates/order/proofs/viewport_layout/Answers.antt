@@ -1,13 +1,11 @@
 -- A refused order and tops off their limits are refused; else the viewport's layout, of few counts, is written.
 use mathlib.Core.Path.{sym, ◌∙◌}
-use borrow.Author.Rules.{rules}
 use Rattle.prelude.specs.Answer.{must}
 use Rattle.settings.proofs.Accepted.{tops_least}
 use Rattle.reader.proofs.Accepted.{accepted_order}
 use Rattle.order.specs.Orders.{order_viewport, viewport_of, viewport_output_of}
 use Rattle.preset.proofs.PresetLabels.{viewport_few}
 use Rattle.reader.proofs.Readings.{read_refused, read_accepted}
-use Rattle.std.proofs.lemmas.Grind.{common_steps}
 use Rattle.order.proofs.viewport_layout.Goals as goal
 
 pub returns-then-reading-ne0 : goal.returns-then-reading-ne0

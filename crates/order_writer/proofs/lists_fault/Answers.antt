@@ -1,13 +1,11 @@
 -- Test by test: the first that fails gives its number.
-use borrow.Author.Rules.{rules}
-use borrow.Author.Tests.{le-leb, lt-leb, not-true, not-false}
+use borrow.Author.Tests.{le-leb, lt-leb}
 use mathlib.Core.Path.{◌≡◌, sym, ◌∙◌}
 use Prim.Native.Nat.{ℕ, ◌/◌}
 use lib.ListN.{length}
 use Rattle.prelude.specs.Answer.{accepted, refusal_of, must}
 use Rattle.settings.specs.Settings.{must_saved}
 use Rattle.order_writer.specs.Numbers.{lists_fault_of}
-use Rattle.std.proofs.lemmas.Grind.{common_steps}
 use Rattle.order_writer.proofs.lists_fault.Goals as goal
 
 pub returns-then-cutouts-gt16 : goal.returns-then-cutouts-gt16

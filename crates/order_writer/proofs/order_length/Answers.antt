@@ -1,12 +1,10 @@
 -- The sum of the fields' lengths, by what is found of each.
-use borrow.Author.Rules.{rules}
 use native.Mathlib.Omega.{arith}
 use mathlib.Core.Path.{ap, ◌∙◌}
 use Rattle.settings.proofs.Accepted.{few_settings}
 use Rattle.order_writer.specs.OrderBytes.{equal_of}
 use Rattle.order_writer.proofs.Owned.{settings_fit}
 use Rattle.order_writer.proofs.Replaced.{written_length}
-use Rattle.std.proofs.lemmas.Grind.{common_steps}
 use Rattle.order_writer.proofs.order_length.Goals as goal
 
 pub rects_length-requires : goal.rects_length-requires

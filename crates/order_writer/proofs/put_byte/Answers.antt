@@ -1,5 +1,4 @@
 -- Left out, or a head and behind it the byte.
-use borrow.Author.Rules.{rules}
 use borrow.Author.Tests.{eq-eqb, ne_eqb}
 use native.Mathlib.Omega.{arith}
 use mathlib.Core.List.{[], ◌∷◌}
@@ -8,7 +7,6 @@ use lib.Dec.{eqb}
 use Rattle.prelude.specs.Lists.{stored}
 use Rattle.prelude.proofs.Stores.{length_stored}
 use Rattle.order_writer.proofs.Fields.{left_out, put_in}
-use Rattle.std.proofs.lemmas.Grind.{common_steps}
 use Rattle.order_writer.proofs.put_byte.Goals as goal
 
 pub returns-then-b-absent : goal.returns-then-b-absent

@@ -1,11 +1,10 @@
 -- Left out, or a head and behind it one rectangle a turn, each where the one before it ended.
-use borrow.Author.Rules.{rules}
 use borrow.Author.Tests.{ne_eqb}
 use native.Mathlib.Omega.{arith}
 use mathlib.Core.Bool.{false}
 use mathlib.Core.Path.{◌≡◌, refl, ap, ◌∙◌}
 use mathlib.Core.List.{flat_map}
-use Prim.Native.Nat.{◌+◌, ◌-◌, ◌*◌, ◌/◌, ◌≤◌}
+use Prim.Native.Nat.{◌+◌, ◌*◌, ◌/◌, ◌≤◌}
 use lib.ListN.{length}
 use lib.Seq.{take_all}
 use Rattle.prelude.specs.Lists.{is_empty, stored}
@@ -13,11 +12,10 @@ use Rattle.prelude.proofs.Loops.{runs_out}
 use Rattle.prelude.proofs.Stores.{length_stored}
 use Rattle.layout.specs.Layout.{any_rect}
 use Rattle.wire.specs.Wire.{rect_bytes}
-use Rattle.wire.proofs.Items.{length_rect, length_items, Putting, puts}
+use Rattle.wire.proofs.Items.{length_rect, length_items, puts}
 use Rattle.order_writer.specs.Numbers.{rects_in}
 use Rattle.order_writer.proofs.Fields.{put_in}
 use Rattle.order_writer.proofs.NumbersLaws.{length_rects, rects_at, begun}
-use Rattle.std.proofs.lemmas.Grind.{common_steps}
 use Rattle.order_writer.proofs.put_cutouts_from.Goals as goal
 
 pub returns-then-n-eq0 : goal.returns-then-n-eq0

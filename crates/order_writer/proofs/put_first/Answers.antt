@@ -1,16 +1,11 @@
 -- Four fields, each where the one before it ended.
-use borrow.Author.Rules.{rules}
 use native.Mathlib.Omega.{arith}
-use mathlib.Core.Bool.{Bool, cond}
 use mathlib.Core.Path.{◌≡◌, ap, ◌∙◌}
-use Prim.Native.Nat.{ℕ, ◌+◌}
-use lib.Dec.{eqb}
 use lib.ListN.{length}
 use Rattle.prelude.proofs.Stores.{length_stored}
 use Rattle.settings.specs.Settings.{screen_picture_of}
-use Rattle.order_writer.specs.OrderBytes.{equal_of, first_fields}
+use Rattle.order_writer.specs.OrderBytes.{equal_of}
 use Rattle.order_writer.proofs.Runs.{first_length, first_run}
-use Rattle.std.proofs.lemmas.Grind.{common_steps}
 use Rattle.order_writer.proofs.put_first.Goals as goal
 
 pub put_screen-requires : goal.put_screen-requires

@@ -1,20 +1,16 @@
 -- Three fields, each where the one before it ended.
-use borrow.Author.Rules.{rules}
 use native.Mathlib.Omega.{arith}
-use mathlib.Core.Bool.{cond}
 use mathlib.Core.List.{map}
 use mathlib.Core.Path.{◌≡◌, ap, ◌∙◌}
-use Prim.Native.Nat.{◌+◌}
 use lib.ListN.{length}
 use lib.Seq.{length-take-le}
 use Rattle.prelude.proofs.Loops.{in_array}
 use Rattle.prelude.proofs.Stores.{length_stored}
 use Rattle.layout.specs.Layout.{cutout_list}
 use Rattle.settings.specs.Settings.{saved_list}
-use Rattle.order_writer.specs.OrderBytes.{writable_of, rects_length, last_fields}
+use Rattle.order_writer.specs.OrderBytes.{writable_of}
 use Rattle.order_writer.proofs.Runs.{last_length, last_run}
 use Rattle.order_writer.proofs.Replaced.{counted}
-use Rattle.std.proofs.lemmas.Grind.{common_steps}
 use Rattle.order_writer.proofs.put_last.Goals as goal
 
 pub put_place-place_end-requires : goal.put_place-place_end-requires

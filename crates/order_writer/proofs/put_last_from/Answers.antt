@@ -1,17 +1,13 @@
 -- Three fields, each where the one before it ended.
-use borrow.Author.Rules.{rules}
 use native.Mathlib.Omega.{arith}
-use mathlib.Core.Bool.{cond}
 use mathlib.Core.List.{map}
 use mathlib.Core.Path.{◌≡◌, ap, ◌∙◌}
-use Prim.Native.Nat.{◌+◌, ◌/◌}
 use lib.ListN.{length, length-map}
 use Rattle.prelude.proofs.Stores.{length_stored}
-use Rattle.order_writer.specs.OrderBytes.{writable_of, rects_length, last_fields}
+use Rattle.order_writer.specs.OrderBytes.{writable_of}
 use Rattle.order_writer.specs.Numbers.{rects_in}
 use Rattle.order_writer.proofs.NumbersLaws.{length_rects}
 use Rattle.order_writer.proofs.Runs.{last_length, last_run}
-use Rattle.std.proofs.lemmas.Grind.{common_steps}
 use Rattle.order_writer.proofs.put_last_from.Goals as goal
 
 pub put_place-place_end-requires : goal.put_place-place_end-requires

@@ -1,10 +1,8 @@
 -- Left out, or a head and behind it the rectangle.
-use borrow.Author.Rules.{rules}
 use native.Mathlib.Omega.{arith}
 use Rattle.prelude.proofs.Stores.{length_stored}
 use Rattle.wire.specs.Wire.{number_bytes, rect_bytes}
 use Rattle.order_writer.proofs.Fields.{left_out, put_in}
-use Rattle.std.proofs.lemmas.Grind.{common_steps}
 use Rattle.order_writer.proofs.put_picture.Goals as goal
 
 pub returns-then-absent : goal.returns-then-absent

@@ -1,5 +1,4 @@
 -- Left out, or a head and behind it three numbers.
-use borrow.Author.Rules.{rules}
 use native.Mathlib.Omega.{arith}
 use mathlib.Core.List.{◌++◌}
 use Prim.Native.Nat.{◌+◌, ◌≤◌}
@@ -8,7 +7,6 @@ use Rattle.prelude.proofs.Stores.{then, length_stored}
 use Rattle.wire.specs.Wire.{number_bytes}
 use Rattle.wire.proofs.Items.{length_f32}
 use Rattle.order_writer.proofs.Fields.{left_out, put_in}
-use Rattle.std.proofs.lemmas.Grind.{common_steps}
 use Rattle.order_writer.proofs.put_place.Goals as goal
 
 pub returns-then-absent : goal.returns-then-absent

@@ -1,9 +1,7 @@
 -- Four numbers are put, each where the one before it ended.
-use borrow.Author.Rules.{rules}
 use native.Mathlib.Omega.{arith}
 use Rattle.prelude.proofs.Stores.{then}
 use Rattle.wire.specs.Wire.{number_bytes, rect_bytes}
-use Rattle.std.proofs.lemmas.Grind.{common_steps}
 use Rattle.order_writer.proofs.put_rect_from.Goals as goal
 
 pub returns : goal.returns

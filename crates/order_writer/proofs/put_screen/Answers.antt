@@ -1,9 +1,7 @@
 -- A head, and behind it two numbers.
-use borrow.Author.Rules.{rules}
 use native.Mathlib.Omega.{arith}
 use Rattle.prelude.proofs.Stores.{then}
 use Rattle.wire.specs.Wire.{number_bytes, head_bytes, short_bytes}
-use Rattle.std.proofs.lemmas.Grind.{common_steps}
 use Rattle.order_writer.proofs.put_screen.Goals as goal
 
 pub returns : goal.returns

@@ -1,11 +1,9 @@
 -- The rectangle, if it is usable, else four NaN.
-use borrow.Author.Rules.{rules}
 use mathlib.Core.Bool.{true, false}
 use mathlib.Core.Path.{◌≡◌, ap, sym, ◌∙◌}
 use Rattle.settings.specs.Settings.{usable_of}
 use Rattle.order_writer.specs.OrderBytes.{writable_of}
 use Rattle.order_writer.specs.Numbers.{rect_from}
-use Rattle.std.proofs.lemmas.Grind.{common_steps}
 use Rattle.order_writer.proofs.put_writable_from.Goals as goal
 
 pub returns-then-usable : goal.returns-then-usable

@@ -1,15 +1,9 @@
 -- The loop stops at the first rectangle off its limits; else all are within.
-use borrow.Author.Rules.{rules}
-use borrow.Author.Tests.{not-true, not-false}
-use native.Mathlib.Omega.{arith}
-use Prim.Native.Nat.{◌-◌}
 use Rattle.prelude.specs.Lists.{all_of}
-use Rattle.prelude.proofs.Loops.{Rest, rest_all, stops, goes_on, runs_out}
+use Rattle.prelude.proofs.Loops.{rest_all, stops, goes_on, runs_out}
 use Rattle.layout.specs.Layout.{any_rect}
 use Rattle.settings.specs.Settings.{least, rect_in_limits_of}
-use Rattle.order_writer.specs.Numbers.{rects_in}
 use Rattle.order_writer.proofs.NumbersLaws.{length_rects, rects_at}
-use Rattle.std.proofs.lemmas.Grind.{common_steps}
 use Rattle.order_writer.proofs.rects_in_limits.Goals as goal
 
 pub loop-i-init : goal.loop-i-init

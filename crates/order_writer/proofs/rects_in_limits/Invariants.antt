@@ -1,13 +1,7 @@
-use borrow.Author.Rules.{rules}
-use borrow.Author.Tests.{not-true, not-false}
-use native.Mathlib.Omega.{arith}
-use Prim.Native.Nat.{◌-◌}
 use Rattle.prelude.specs.Lists.{all_of}
-use Rattle.prelude.proofs.Loops.{Rest, rest_all, stops, goes_on, runs_out}
-use Rattle.layout.specs.Layout.{any_rect}
+use Rattle.prelude.proofs.Loops.{Rest}
 use Rattle.settings.specs.Settings.{least, rect_in_limits_of}
 use Rattle.order_writer.specs.Numbers.{rects_in}
-use Rattle.order_writer.proofs.NumbersLaws.{length_rects, rects_at}
 use Rattle.order_writer.proofs.rects_in_limits.Given as goal
 
 abbrev pub invariant-loop-i : goal.invariant-loop-i

@@ -1,8 +1,6 @@
 -- By the test for none.
-use borrow.Author.Rules.{rules}
 use borrow.Author.Tests.{eq-eqb, ne_eqb}
 use native.Mathlib.Omega.{arith}
-use Rattle.std.proofs.lemmas.Grind.{common_steps}
 use Rattle.order_writer.proofs.rects_length.Goals as goal
 
 pub returns-then-n-eq0 : goal.returns-then-n-eq0

@@ -1,9 +1,7 @@
 -- Each field has the numbers that were lent; the lists are those of absent fields.
-use borrow.Author.Rules.{rules}
 use Rattle.prelude.specs.Lists.{tabulate}
 use Rattle.settings.specs.Settings.{default_of, absent_of}
 use Rattle.order_writer.specs.Numbers.{rects_in, settings_from}
-use Rattle.std.proofs.lemmas.Grind.{common_steps}
 use Rattle.order_writer.proofs.settings_from.Goals as goal
 
 pub returns : goal.returns

@@ -1,7 +1,5 @@
 -- The rectangle, if it is usable, else four NaN.
-use borrow.Author.Rules.{rules}
 use Rattle.order_writer.specs.OrderBytes.{writable_of}
-use Rattle.std.proofs.lemmas.Grind.{common_steps}
 use Rattle.order_writer.proofs.writable.Goals as goal
 
 pub returns-then-usable : goal.returns-then-usable

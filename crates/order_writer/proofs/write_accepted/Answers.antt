@@ -1,19 +1,13 @@
 -- Either the output is too small and nothing is put, or the fields are put one after the other: `as_written`.
-use borrow.Author.Rules.{rules}
 use native.Mathlib.Omega.{arith}
-use mathlib.Core.List.{◌++◌, map}
 use mathlib.Core.Path.{◌≡◌, ap, ◌∙◌}
-use Prim.Native.Nat.{◌+◌}
 use lib.ListN.{length, length-append}
 use Rattle.prelude.proofs.Stores.{then, length_stored}
-use Rattle.layout.specs.Layout.{cutout_list}
-use Rattle.settings.specs.Settings.{saved_list}
 use Rattle.settings.proofs.Accepted.{few_settings}
 use Rattle.wire.proofs.Output.{too_small, has_room}
-use Rattle.order_writer.specs.OrderBytes.{writable_of, first_fields, last_fields, order_bytes}
+use Rattle.order_writer.specs.OrderBytes.{first_fields, order_bytes}
 use Rattle.order_writer.proofs.Owned.{settings_fit}
 use Rattle.order_writer.proofs.Replaced.{as_written}
-use Rattle.std.proofs.lemmas.Grind.{common_steps}
 use Rattle.order_writer.proofs.write_accepted.Goals as goal
 
 pub returns-then-out-length : goal.returns-then-out-length

@@ -1,20 +1,17 @@
 -- The first fault is that of the fields, or of the lists; else the output is too small and nothing is put, or the fields are put one after the other: `numbers-written`.
-use borrow.Author.Rules.{rules}
 use native.Mathlib.Omega.{arith}
-use mathlib.Core.List.{[], map}
+use mathlib.Core.List.{[]}
 use mathlib.Core.Path.{◌≡◌, ap, sym, ◌∙◌}
-use Prim.Native.Nat.{◌+◌, ◌/◌, ◌≤◌}
+use Prim.Native.Nat.{◌+◌}
 use lib.ListN.{length}
 use Rattle.prelude.specs.Answer.{accepted}
 use Rattle.prelude.proofs.Stores.{length_stored}
-use Rattle.settings.specs.declared.Settings.{Settings}
 use Rattle.settings.specs.Settings.{tested_of, first_fault_of}
 use Rattle.settings.proofs.Accepted.{no_fault}
 use Rattle.wire.proofs.Output.{too_small, has_room}
-use Rattle.order_writer.specs.OrderBytes.{writable_of, first_fields, last_fields, order_bytes}
-use Rattle.order_writer.specs.Numbers.{rects_in, settings_from, lists_fault_of}
+use Rattle.order_writer.specs.OrderBytes.{order_bytes}
+use Rattle.order_writer.specs.Numbers.{settings_from, lists_fault_of}
 use Rattle.order_writer.proofs.FromNumbers.{field_fault, list_fault, no_list_fault, few_lists, sum_of, parts_of, numbers_run}
-use Rattle.std.proofs.lemmas.Grind.{common_steps}
 use Rattle.order_writer.proofs.write_numbers.Goals as goal
 
 pub returns-then-fault-ne0 : goal.returns-then-fault-ne0

@@ -1,9 +1,7 @@
 -- The first fault is the refusal; settings without one are accepted, and written.
-use borrow.Author.Rules.{rules}
 use mathlib.Core.Path.{sym, ◌∙◌}
 use Rattle.settings.proofs.Accepted.{no_fault, a_fault}
 use Rattle.order_writer.specs.OrderBytes.{write_order_of, order_output_of}
-use Rattle.std.proofs.lemmas.Grind.{common_steps}
 use Rattle.order_writer.proofs.write_order.Goals as goal
 
 pub returns-then-fault-ne0 : goal.returns-then-fault-ne0

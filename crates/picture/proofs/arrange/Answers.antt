@@ -1,7 +1,5 @@
 -- `placed` moves the controls and keeps the counts; the d-pad and the sticks are stored.
-use borrow.Author.Rules.{rules}
 use Rattle.picture.specs.Picture.{arrange_of}
-use Rattle.std.proofs.lemmas.Grind.{common_steps}
 use Rattle.picture.proofs.arrange.Goals as goal
 
 pub returns : goal.returns

@@ -1,8 +1,6 @@
 -- The width that a pair has, then the eight keys, each as in `auxiliaryOf`.
-use borrow.Author.Rules.{rules}
 use lib.Ieee.{le, of_bits}
 use Rattle.picture.specs.Picture.{auxiliary_of}
-use Rattle.std.proofs.lemmas.Grind.{common_steps}
 use Rattle.picture.proofs.auxiliary.Goals as goal
 
 pub returns : goal.returns

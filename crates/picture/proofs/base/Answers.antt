@@ -1,8 +1,6 @@
 -- Each branch gives the default layout that `base_of` names, of few counts.
 use native.Mathlib.Omega.{arith}
-use borrow.Author.Rules.{rules}
 use Rattle.picture.specs.Picture.{base_of}
-use Rattle.std.proofs.lemmas.Grind.{common_steps}
 use Rattle.picture.proofs.base.Goals as goal
 
 pub returns-then-psp : goal.returns-then-psp

@@ -1,7 +1,5 @@
 -- The cap and the four places of `diamondOf`.
-use borrow.Author.Rules.{rules}
 use Rattle.picture.specs.Picture.{diamond_of}
-use Rattle.std.proofs.lemmas.Grind.{common_steps}
 use Rattle.picture.proofs.diamond.Goals as goal
 
 pub returns : goal.returns

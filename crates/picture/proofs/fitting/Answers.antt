@@ -1,6 +1,4 @@
 -- A layout that is there and fits.
-use borrow.Author.Rules.{rules}
-use Rattle.std.proofs.lemmas.Grind.{common_steps}
 use Rattle.picture.proofs.fitting.Goals as goal
 
 pub returns-then-m : goal.returns-then-m

@@ -1,8 +1,6 @@
 -- None where the wells or the room between the halves are too small, else the row; either way the counts are few.
 use native.Mathlib.Omega.{arith}
-use borrow.Author.Rules.{rules}
 use Rattle.picture.specs.Picture.{horizontal_of}
-use Rattle.std.proofs.lemmas.Grind.{common_steps}
 use Rattle.picture.proofs.horizontal.Goals as goal
 
 pub returns-then-row : goal.returns-then-row

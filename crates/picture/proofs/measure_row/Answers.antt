@@ -1,7 +1,5 @@
 -- Each `pick` and `min` is a `cond` or a `minOf` of `measureRowOf`, in its order.
-use borrow.Author.Rules.{rules}
 use Rattle.picture.specs.Picture.{measure_row_of}
-use Rattle.std.proofs.lemmas.Grind.{common_steps}
 use Rattle.picture.proofs.measure_row.Goals as goal
 
 pub returns : goal.returns

@@ -1,8 +1,6 @@
 -- Each call is an operation of `measureStackOf`, in its order.
-use borrow.Author.Rules.{rules}
 use lib.Ieee.{le, of_bits}
 use Rattle.picture.specs.Picture.{measure_stack_of}
-use Rattle.std.proofs.lemmas.Grind.{common_steps}
 use Rattle.picture.proofs.measure_stack.Goals as goal
 
 pub returns : goal.returns

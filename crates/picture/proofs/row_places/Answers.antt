@@ -1,7 +1,5 @@
 -- The caps, the two columns and the keys of `rowPlacesOf`, one call each.
-use borrow.Author.Rules.{rules}
 use Rattle.picture.specs.Picture.{row_places_of}
-use Rattle.std.proofs.lemmas.Grind.{common_steps}
 use Rattle.picture.proofs.row_places.Goals as goal
 
 pub returns : goal.returns

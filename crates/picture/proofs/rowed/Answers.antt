@@ -1,7 +1,5 @@
 -- The places and the three squares of `rowedOf`; `arrange` keeps the counts.
-use borrow.Author.Rules.{rules}
 use Rattle.picture.specs.Picture.{rowed_of}
-use Rattle.std.proofs.lemmas.Grind.{common_steps}
 use Rattle.picture.proofs.rowed.Goals as goal
 
 pub returns : goal.returns

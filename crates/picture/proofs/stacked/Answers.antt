@@ -1,7 +1,5 @@
 -- The squares, the caps and the keys are those of `stackedOf`; `arrange` keeps the counts.
-use borrow.Author.Rules.{rules}
 use Rattle.picture.specs.Picture.{stacked_of}
-use Rattle.std.proofs.lemmas.Grind.{common_steps}
 use Rattle.picture.proofs.stacked.Goals as goal
 
 pub arrange-requires : goal.arrange-requires

@@ -1,8 +1,6 @@
 -- None where the columns are cramped, else the stacks; either way the counts are few.
 use native.Mathlib.Omega.{arith}
-use borrow.Author.Rules.{rules}
 use Rattle.picture.specs.Picture.{vertical_of}
-use Rattle.std.proofs.lemmas.Grind.{common_steps}
 use Rattle.picture.proofs.vertical.Goals as goal
 
 pub returns-then-cramped : goal.returns-then-cramped

@@ -1,8 +1,6 @@
 -- The empty layout with its parts set, and the controls of `controls_at`.
 use mathlib.Core.Path.{refl}
-use borrow.Author.Rules.{rules}
 use Rattle.places.specs.Places.{controller_of}
-use Rattle.std.proofs.lemmas.Grind.{common_steps}
 use Rattle.places.proofs.controller.Goals as goal
 
 pub returns : goal.returns

@@ -1,10 +1,6 @@
-use borrow.Author.Rules.{rules}
 use Rattle.prelude.specs.Lists.{map_first}
-use Rattle.prelude.proofs.Loops.{sized, Done, all_done, map_first_zero, changes}
-use Rattle.layout.specs.Layout.{any_control}
+use Rattle.prelude.proofs.Loops.{Done}
 use Rattle.places.specs.Places.{placed_control}
-use native.Mathlib.Omega.{arith}
-use Prim.Native.Nat.{◌-◌}
 use Rattle.places.proofs.place_all.Given as goal
 
 abbrev pub invariant-loop-i : goal.invariant-loop-i

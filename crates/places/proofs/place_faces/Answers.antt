@@ -1,7 +1,5 @@
 -- Each cap is the rectangle that its call gives.
-use borrow.Author.Rules.{rules}
 use Rattle.places.specs.Places.{place_faces_of}
-use Rattle.std.proofs.lemmas.Grind.{common_steps}
 use Rattle.places.proofs.place_faces.Goals as goal
 
 pub returns : goal.returns

@@ -1,8 +1,6 @@
 -- Only the controls change, as `place_all` changes them.
 use mathlib.Core.Path.{refl}
-use borrow.Author.Rules.{rules}
 use Rattle.places.specs.Places.{placed_of}
-use Rattle.std.proofs.lemmas.Grind.{common_steps}
 use Rattle.places.proofs.placed.Goals as goal
 
 pub returns : goal.returns

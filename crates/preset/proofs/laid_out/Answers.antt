@@ -22,7 +22,6 @@ use Rattle.arrangement_choice.proofs.ChoiceLabels.{arrangement_mode}
 use Rattle.preset.proofs.PresetLabels.{saved_mode}
 use Rattle.preset.specs.Preset.{settled_of, analog_of, row_allowed_of, laid_out_of}
 use borrow.Author.Rules.{rules}
-use Rattle.std.proofs.lemmas.Grind.{common_steps}
 use Rattle.preset.proofs.laid_out.Goals as goal
 
 -- ---- each layout has the labels of its mode

@@ -3,13 +3,11 @@ use lib.Dec.{T}
 use lib.Ieee.{Float, lt, le, ne, is_nan, of_bits}
 use lib.Ieee.Scale.{finite}
 use mathlib.Core.Path.{◌≡◌}
-use borrow.Author.Rules.{rules}
 use Rattle.prelude.proofs.Booleans.{either}
 use Rattle.float.specs.Float.{k0, k1}
 use Rattle.float.specs.MinMax.{max_of}
 use Rattle.float.proofs.Ends.{le_trans, le_max_right}
 use Rattle.preset.specs.Preset.{layout_in_of}
-use Rattle.std.proofs.lemmas.Grind.{common_steps}
 use Rattle.preset.proofs.layout_in.Goals as goal
 
 -- a finite side, raised to 1

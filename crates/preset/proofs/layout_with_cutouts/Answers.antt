@@ -1,6 +1,4 @@
 -- The picture is the whole screen, of 1 by 1 at least.
-use borrow.Author.Rules.{rules}
-use Rattle.std.proofs.lemmas.Grind.{common_steps}
 use Rattle.preset.proofs.layout_with_cutouts.Goals as goal
 
 pub returns : goal.returns

@@ -4,7 +4,6 @@ use native.Mathlib.Omega.{arith}
 use Rattle.prelude.proofs.Loops.{sized}
 use Rattle.prelude.proofs.ListLaws.{none_counted}
 use mathlib.Core.Path.{◌≡◌}
-use Rattle.std.proofs.lemmas.Grind.{common_steps}
 use Rattle.preset.proofs.plain.Goals as goal
 
 pub returns : goal.returns

@@ -5,8 +5,6 @@ use native.Mathlib.Omega.{arith}
 use Rattle.prelude.proofs.Loops.{sized}
 use Rattle.prelude.proofs.ListLaws.{none_counted}
 use mathlib.Core.Path.{◌≡◌}
-use borrow.Author.Rules.{rules}
-use Rattle.std.proofs.lemmas.Grind.{common_steps}
 use Rattle.preset.proofs.row_allowed.Goals as goal
 
 pub returns : goal.returns

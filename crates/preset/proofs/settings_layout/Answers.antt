@@ -3,7 +3,6 @@ use lib.Ieee.{of_bits}
 use borrow.Author.Rules.{rules}
 use Rattle.preset.specs.Preset.{settings_layout_of}
 use Rattle.settings.proofs.Accepted.{few_settings, finite_screen}
-use Rattle.std.proofs.lemmas.Grind.{common_steps}
 use Rattle.preset.proofs.settings_layout.Goals as goal
 
 pub layout_in-requires : goal.layout_in-requires

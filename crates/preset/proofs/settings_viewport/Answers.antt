@@ -1,7 +1,6 @@
 -- Accepted settings have few rectangles and a finite screen; the reusable top is given.
 use Rattle.preset.specs.Preset.{settings_viewport_of}
 use Rattle.settings.proofs.Accepted.{few_settings, finite_screen}
-use Rattle.std.proofs.lemmas.Grind.{common_steps}
 use Rattle.preset.proofs.settings_viewport.Goals as goal
 
 pub viewport_layout-requires : goal.viewport_layout-requires

@@ -6,7 +6,6 @@ use Rattle.layout.proofs.LabelLaws.{few}
 use Rattle.toolbar.proofs.ToolbarLabels.{anchor_mode}
 use Rattle.preset.specs.Preset.{analog_of, viewport_layout_of}
 use Rattle.preset.proofs.PresetLabels.{layout_mode}
-use Rattle.std.proofs.lemmas.Grind.{common_steps}
 use Rattle.preset.proofs.viewport_layout.Goals as goal
 
 pub anchor_toolbar-anchored-requires : goal.anchor_toolbar-anchored-requires

@@ -1,10 +1,8 @@
 -- A refusal for each test that fails, else the settings with the array that was filled.
-use borrow.Author.Tests.{ne_eqb, eq-eqb, le-leb, lt-leb, not-true, not-false}
+use borrow.Author.Tests.{ne_eqb, eq-eqb, le-leb, lt-leb}
 use mathlib.Core.Path.{◌∙◌}
 use Rattle.prelude.specs.Answer.{must}
 use Rattle.reader.specs.Order.{read_cutouts_of}
-use borrow.Author.Rules.{rules}
-use Rattle.std.proofs.lemmas.Grind.{common_steps}
 use Rattle.reader.proofs.read_cutouts.Goals as goal
 
 pub returns-then-value-ne0 : goal.returns-then-value-ne0

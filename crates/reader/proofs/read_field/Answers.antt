@@ -1,7 +1,5 @@
 -- Tag by tag, what the field's own function gives.
 use Rattle.reader.specs.Order.{read_field_of}
-use borrow.Author.Rules.{rules}
-use Rattle.std.proofs.lemmas.Grind.{common_steps}
 use Rattle.reader.proofs.read_field.Goals as goal
 
 pub returns-in-Screen : goal.returns-in-Screen

@@ -3,8 +3,6 @@ use borrow.Author.Tests.{ne_eqb, eq-eqb, le-leb, lt-leb}
 use mathlib.Core.Path.{◌∙◌}
 use Rattle.prelude.specs.Answer.{must}
 use Rattle.reader.specs.Order.{read_fit_of}
-use borrow.Author.Rules.{rules}
-use Rattle.std.proofs.lemmas.Grind.{common_steps}
 use Rattle.reader.proofs.read_fit.Goals as goal
 
 pub returns-then-value-ne1 : goal.returns-then-value-ne1

@@ -1,13 +1,8 @@
 -- Turn by turn, the bytes that are left give the order's answer (`Left`): a turn ends in the refusal of its first fault, or reads a field and goes on.
 use mathlib.Core.Path.{◌∙◌}
-use borrow.Author.Tests.{not-true, not-false}
-use lib.ListN.{length}
 use Rattle.prelude.specs.Answer.{must}
-use Rattle.reader.proofs.Fields.{Left, at_start, at_end, cut_header, not_above, not_a_tag, cut_value, bad_value, next_field}
-use borrow.Author.Rules.{rules}
+use Rattle.reader.proofs.Fields.{at_start, at_end, cut_header, not_above, not_a_tag, cut_value, bad_value, next_field}
 use native.Mathlib.Omega.{arith}
-use Prim.Native.Nat.{◌-◌, ◌≤◌}
-use Rattle.std.proofs.lemmas.Grind.{common_steps}
 use Rattle.reader.proofs.read_order.Goals as goal
 
 pub loop-at-init : goal.loop-at-init

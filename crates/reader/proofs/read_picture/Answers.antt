@@ -1,10 +1,8 @@
 -- A refusal for each test that fails, else the settings with the rectangle that was read.
-use borrow.Author.Tests.{ne_eqb, eq-eqb, not-true, not-false}
+use borrow.Author.Tests.{ne_eqb, eq-eqb}
 use mathlib.Core.Path.{◌∙◌}
 use Rattle.prelude.specs.Answer.{must}
 use Rattle.reader.specs.Order.{read_picture_of}
-use borrow.Author.Rules.{rules}
-use Rattle.std.proofs.lemmas.Grind.{common_steps}
 use Rattle.reader.proofs.read_picture.Goals as goal
 
 pub returns-then-value-ne16 : goal.returns-then-value-ne16

@@ -1,10 +1,8 @@
 -- A refusal for each test that fails, else the preset with the three numbers that were read.
-use borrow.Author.Tests.{ne_eqb, eq-eqb, not-true, not-false}
+use borrow.Author.Tests.{ne_eqb, eq-eqb}
 use mathlib.Core.Path.{◌∙◌}
 use Rattle.prelude.specs.Answer.{must}
 use Rattle.reader.specs.Order.{read_place_of}
-use borrow.Author.Rules.{rules}
-use Rattle.std.proofs.lemmas.Grind.{common_steps}
 use Rattle.reader.proofs.read_place.Goals as goal
 
 pub returns-then-value-ne12 : goal.returns-then-value-ne12

@@ -1,10 +1,8 @@
 -- A refusal for each test that fails, else the settings with the screen: each number is what its call gave.
-use borrow.Author.Tests.{ne_eqb, eq-eqb, not-true, not-false}
+use borrow.Author.Tests.{ne_eqb, eq-eqb}
 use mathlib.Core.Path.{◌∙◌}
 use Rattle.prelude.specs.Answer.{must}
 use Rattle.reader.specs.Order.{read_screen_of}
-use borrow.Author.Rules.{rules}
-use Rattle.std.proofs.lemmas.Grind.{common_steps}
 use Rattle.reader.proofs.read_screen.Goals as goal
 
 pub returns-then-value-ne8 : goal.returns-then-value-ne8

@@ -2,7 +2,6 @@
 use borrow.Author.Tests.{ne_eqb}
 use native.Mathlib.Omega.{arith}
 use Rattle.reader.specs.Order.{reading_answer}
-use Rattle.std.proofs.lemmas.Grind.{common_steps}
 use Rattle.reader.proofs.refuse.Goals as goal
 
 pub returns : goal.returns

@@ -1,14 +1,11 @@
 -- After i turns the array has the value's first i rectangles in front, and zeros behind.
 use mathlib.Core.Path.{refl}
-use Rattle.prelude.proofs.Loops.{Done, does, all_done}
+use Rattle.prelude.proofs.Loops.{does, all_done}
 use Rattle.prelude.specs.Lists.{tabulate}
 use Rattle.prelude.proofs.Stores.{fills}
 use Rattle.geometry.specs.Rect.{empty_rect}
 use Rattle.wire.specs.Wire.{rect_at_of, filled}
-use borrow.Author.Rules.{rules}
 use native.Mathlib.Omega.{arith}
-use Prim.Native.Nat.{◌-◌}
-use Rattle.std.proofs.lemmas.Grind.{common_steps}
 use Rattle.reader.proofs.saved_rects.Goals as goal
 
 pub loop-i-init : goal.loop-i-init

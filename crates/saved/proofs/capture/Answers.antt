@@ -1,7 +1,5 @@
 -- The first rectangles are those that `captured` made, the other fields the preset's.
 use Rattle.saved.specs.Saved.{capture_of}
-use borrow.Author.Rules.{rules}
-use Rattle.std.proofs.lemmas.Grind.{common_steps}
 use Rattle.saved.proofs.capture.Goals as goal
 
 pub returns : goal.returns

@@ -2,16 +2,11 @@
 use Rattle.saved.proofs.Turns.{mapped_front}
 use Rattle.saved.specs.Saved.{part_of}
 use mathlib.Core.Path.{sym, ◌∙◌, ◌≡◌}
-use mathlib.Core.List.{map}
 use lib.ListN.{length, length-map, get_or-map}
-use Rattle.prelude.specs.Lists.{replace_first}
-use Rattle.prelude.proofs.Loops.{sized, Done, all_done}
+use Rattle.prelude.proofs.Loops.{sized, all_done}
 use Rattle.prelude.proofs.Stores.{replaces}
 use Rattle.layout.specs.Layout.{any_rect}
-use borrow.Author.Rules.{rules}
 use native.Mathlib.Omega.{arith}
-use Prim.Native.Nat.{◌-◌}
-use Rattle.std.proofs.lemmas.Grind.{common_steps}
 use Rattle.saved.proofs.captured.Goals as goal
 
 pub loop-i-init : goal.loop-i-init

@@ -1,9 +1,7 @@
 -- The ends of each clamp are in order, by `side-ends` and `corner-ends`; the four numbers are those of `onScreenOf`.
-use borrow.Author.Rules.{rules}
 use Rattle.saved.specs.Saved.{on_screen_of}
 use Rattle.saved.proofs.SavedLaws.{usable_finite}
 use Rattle.saved.proofs.Ends.{side_ends, corner_ends}
-use Rattle.std.proofs.lemmas.Grind.{common_steps}
 use Rattle.saved.proofs.on_screen.Goals as goal
 
 pub clamp-width-requires : goal.clamp-width-requires

@@ -1,7 +1,5 @@
 -- What is usable goes on the screen, and what is not stays.
-use borrow.Author.Rules.{rules}
 use Rattle.saved.specs.Saved.{restore_of}
-use Rattle.std.proofs.lemmas.Grind.{common_steps}
 use Rattle.saved.proofs.restore.Goals as goal
 
 pub on_screen-requires : goal.on_screen-requires

@@ -4,12 +4,9 @@ use lib.Seq.{get_or-take, length-take-le}
 use Rattle.saved.specs.Saved.{restored_of}
 use mathlib.Core.Path.{refl, ap, ◌∙◌, ◌≡◌}
 use Rattle.saved.proofs.Turns.{restored_turn, restored_past, restored_front}
-use Rattle.prelude.proofs.Loops.{sized, Done, does, all_done}
+use Rattle.prelude.proofs.Loops.{sized, does, all_done}
 use Rattle.layout.specs.Layout.{any_rect}
-use borrow.Author.Rules.{rules}
 use native.Mathlib.Omega.{arith}
-use Prim.Native.Nat.{◌-◌}
-use Rattle.std.proofs.lemmas.Grind.{common_steps}
 use Rattle.saved.proofs.restored.Goals as goal
 use Rattle.saved.proofs.restored.Goals.{then-i-n, else-i-n}
 

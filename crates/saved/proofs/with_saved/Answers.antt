@@ -6,8 +6,6 @@ use borrow.Author.Tests.{ne_eqb}
 use Rattle.prelude.proofs.Loops.{sized}
 use Rattle.prelude.proofs.ListLaws.{none_counted}
 use mathlib.Core.Path.{◌≡◌}
-use borrow.Author.Rules.{rules}
-use Rattle.std.proofs.lemmas.Grind.{common_steps}
 use Rattle.saved.proofs.with_saved.Goals as goal
 
 pub returns-then-n-eq0 : goal.returns-then-n-eq0

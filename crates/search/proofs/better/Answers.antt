@@ -1,9 +1,7 @@
 -- The definition's test: wider, or as wide and higher up.
-use borrow.Author.Rules.{rules}
 use mathlib.Core.Path.{sym, ◌∙◌}
 use mathlib.Core.Bool.{true≢false}
 use Rattle.search.specs.Search.{better_of}
-use Rattle.std.proofs.lemmas.Grind.{common_steps}
 use Rattle.search.proofs.better.Goals as goal
 use Rattle.search.proofs.better.Goals.{then-width-best-via-then-width-best, then-width-best-via-else-width-best+then-y-best, then-width-best-2, else-width-best-2}
 

@@ -1,20 +1,16 @@
 -- `centered` is the fold `centeredOf`: the outer loop has done the first part of it; what is left of the inner one gives the whole width, or is given up.
-use borrow.Author.Rules.{rules}
 use native.Mathlib.Omega.{arith}
 use mathlib.Core.Path.{◌≡◌, refl, ◌∙◌}
-use mathlib.Core.Logic.{◌⊎◌, inl, inr}
-use mathlib.Core.List.{foldl}
-use lib.ListN.{take, length, length-map}
+use mathlib.Core.Logic.{inl, inr}
+use lib.ListN.{length, length-map}
 use Rattle.prelude.proofs.Booleans.{cond_yes, cond_no}
-use Rattle.prelude.proofs.Loops.{sized, fold_next, take_first, in_array, Rest, goes_on}
+use Rattle.prelude.proofs.Loops.{sized, fold_next, take_first, in_array, goes_on}
 use Rattle.float.specs.Float.{◌⊖◌, ◌⊘◌, k2}
-use Rattle.geometry.specs.Rect.{empty_rect}
 use Rattle.layout.specs.Layout.{any_rect}
-use Rattle.search.specs.Search.{bottom_of, bottoms, narrow_of, width_at, try_at, centered_of}
+use Rattle.search.specs.Search.{bottom_of, bottoms, width_at, try_at, centered_of}
 use Rattle.search.proofs.Narrower.{narrow_below, turn_is_full}
 use Rattle.search.proofs.Steps.{first_start, later_start}
-use Prim.Native.Nat.{◌+◌, ◌-◌, ◌<◌, ◌≤◌, zero-le}
-use Rattle.std.proofs.lemmas.Grind.{common_steps}
+use Prim.Native.Nat.{◌+◌, ◌<◌, zero-le}
 use Rattle.search.proofs.centered.Goals as goal
 use Rattle.search.proofs.centered.Goals.{then-j-gt0, else-j-gt0, then-within, else-loop-k-test, then-loop-k-test+then-width-best, else-within}
 

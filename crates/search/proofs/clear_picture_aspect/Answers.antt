@@ -1,7 +1,5 @@
 -- The centred picture, or if that is empty the one at a side.
-use borrow.Author.Rules.{rules}
 use Rattle.search.specs.Search.{clear_picture_aspect_of}
-use Rattle.std.proofs.lemmas.Grind.{common_steps}
 use Rattle.search.proofs.clear_picture_aspect.Goals as goal
 
 pub returns-then-picture : goal.returns-then-picture

@@ -1,9 +1,7 @@
 -- The obstacles, the picture and the three clamped numbers by the calls' contracts.
 use mathlib.Core.Path.{◌∙◌}
 use Rattle.search.proofs.Steps.{game_returned}
-use borrow.Author.Rules.{rules}
 use lib.Ieee.{le, of_bits}
-use Rattle.std.proofs.lemmas.Grind.{common_steps}
 use Rattle.search.proofs.game.Goals as goal
 use Rattle.search.proofs.game.Goals.{then-aspect, else-aspect}
 

@@ -1,7 +1,5 @@
 -- An obstacle above the picture leaves it; else the numbers by the calls' contracts.
-use borrow.Author.Rules.{rules}
 use Rattle.search.specs.Search.{narrow_of}
-use Rattle.std.proofs.lemmas.Grind.{common_steps}
 use Rattle.search.proofs.narrow.Goals as goal
 
 pub returns-then-r-y : goal.returns-then-r-y

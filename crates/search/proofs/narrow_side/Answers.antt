@@ -1,7 +1,5 @@
 -- An obstacle before the picture or above it leaves it; else the numbers by the calls' contracts.
-use borrow.Author.Rules.{rules}
 use Rattle.search.specs.Search.{narrow_side_of}
-use Rattle.std.proofs.lemmas.Grind.{common_steps}
 use Rattle.search.proofs.narrow_side.Goals as goal
 use Rattle.search.proofs.narrow_side.Goals.{then-r-x-via-then-r-x, then-r-x-via-else-r-x+then-r-y}
 

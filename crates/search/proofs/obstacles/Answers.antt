@@ -1,15 +1,12 @@
 -- `obstacles` is `obstaclesOf`: what is stored, and behind it what the elements that are left give.
-use borrow.Author.Rules.{rules}
 use native.Mathlib.Omega.{arith}
-use mathlib.Core.Path.{◌≡◌, sym}
-use mathlib.Core.List.{◌++◌, append-nil}
-use lib.ListN.{take, length, length-set}
-use Rattle.prelude.proofs.Loops.{in_array, sized, Rest, goes_on, runs_out}
+use mathlib.Core.Path.{sym}
+use mathlib.Core.List.{append-nil}
+use lib.ListN.{length-set}
+use Rattle.prelude.proofs.Loops.{in_array, sized, goes_on, runs_out}
 use Rattle.prelude.proofs.Stores.{put_rest}
 use Rattle.layout.specs.Layout.{any_rect}
 use Rattle.search.specs.Search.{obstacles_of}
-use Prim.Native.Nat.{◌-◌, ◌≤◌}
-use Rattle.std.proofs.lemmas.Grind.{common_steps}
 use Rattle.search.proofs.obstacles.Goals as goal
 use Rattle.search.proofs.obstacles.Goals.{then-overlaps, else-overlaps}
 

@@ -1,6 +1,4 @@
 -- By the calls' contracts.
-use borrow.Author.Rules.{rules}
-use Rattle.std.proofs.lemmas.Grind.{common_steps}
 use Rattle.search.proofs.place_game.Goals as goal
 
 pub returns : goal.returns

@@ -1,7 +1,5 @@
 -- By the calls' contracts.
-use borrow.Author.Rules.{rules}
 use Rattle.search.specs.Search.{place_game_in_aspect_of}
-use Rattle.std.proofs.lemmas.Grind.{common_steps}
 use Rattle.search.proofs.place_game_in_aspect.Goals as goal
 
 pub returns : goal.returns

@@ -1,19 +1,15 @@
 -- `side` is the fold `side_of`: the loops over x and y have done the first part of their folds; what is left of the inner one gives the whole width, or is given up.
-use borrow.Author.Rules.{rules}
 use native.Mathlib.Omega.{arith}
 use mathlib.Core.Path.{◌≡◌, refl, ◌∙◌}
-use mathlib.Core.Logic.{◌⊎◌, inl, inr}
-use mathlib.Core.List.{foldl}
-use lib.ListN.{take, length, length-map}
+use mathlib.Core.Logic.{inl, inr}
+use lib.ListN.{length, length-map}
 use Rattle.prelude.proofs.Booleans.{cond_yes, cond_no}
-use Rattle.prelude.proofs.Loops.{sized, fold_next, take_first, in_array, Rest, goes_on}
-use Rattle.geometry.specs.Rect.{empty_rect}
+use Rattle.prelude.proofs.Loops.{sized, fold_next, take_first, in_array, goes_on}
 use Rattle.layout.specs.Layout.{any_rect}
-use Rattle.search.specs.Search.{bottom_of, right_of, bottoms, rights, narrow_side_of, side_width_at, try_side_at, try_column, side_of}
+use Rattle.search.specs.Search.{bottom_of, right_of, bottoms, rights, side_width_at, try_side_at, try_column, side_of}
 use Rattle.search.proofs.Narrower.{narrow_side_below, turn_is_full}
 use Rattle.search.proofs.Steps.{first_start, later_start}
-use Prim.Native.Nat.{◌+◌, ◌-◌, ◌<◌, ◌≤◌, zero-le}
-use Rattle.std.proofs.lemmas.Grind.{common_steps}
+use Prim.Native.Nat.{◌+◌, ◌<◌, zero-le}
 use Rattle.search.proofs.side.Goals as goal
 use Rattle.search.proofs.side.Goals.{then-i-gt0, else-i-gt0, then-j-gt0, else-j-gt0, then-within-2, else-loop-k-test, then-loop-k-test+then-width-best, else-within-2, then-within+else-loop-j-test, else-within}
 

@@ -1,17 +1,10 @@
-use borrow.Author.Rules.{rules}
-use native.Mathlib.Omega.{arith}
-use mathlib.Core.Path.{◌≡◌, refl, ◌∙◌}
-use mathlib.Core.Logic.{⊎_elim, ⊎_map}
+use mathlib.Core.Path.{◌≡◌}
 use mathlib.Core.List.{foldl}
-use lib.ListN.{take, length, length-map}
-use Rattle.prelude.proofs.Booleans.{cond_yes, cond_no}
-use Rattle.prelude.proofs.Loops.{sized, fold_next, take_first, in_array, Rest, goes_on}
+use lib.ListN.{take}
+use Rattle.prelude.proofs.Loops.{Rest}
 use Rattle.geometry.specs.Rect.{empty_rect}
-use Rattle.layout.specs.Layout.{any_rect}
-use Rattle.search.specs.Search.{bottom_of, right_of, bottoms, rights, narrow_side_of, side_width_at, try_side_at, try_column, side_of}
-use Rattle.search.proofs.Narrower.{narrow_side_below, turn_is_full}
-use Rattle.search.proofs.Steps.{first_start, later_start}
-use Prim.Native.Nat.{◌+◌, ◌-◌, ◌<◌, ◌≤◌, zero-le}
+use Rattle.search.specs.Search.{bottoms, rights, narrow_side_of, side_width_at, try_side_at, try_column}
+use Prim.Native.Nat.{◌+◌, ◌≤◌}
 use Rattle.search.proofs.side.Given as goal
 
 abbrev pub invariant-loop-k : goal.invariant-loop-k

@@ -1,7 +1,6 @@
 -- `uncovered` gives no element or all.
 use borrow.Author.Rules.{rules}
 use native.Mathlib.Omega.{arith}
-use Rattle.std.proofs.lemmas.Grind.{common_steps}
 use Rattle.search.proofs.uncovered.Goals as goal
 
 pub returns-then-overlap : goal.returns-then-overlap

@@ -1,6 +1,5 @@
 -- The two tests, in the definition's order.
 use Rattle.search.specs.Search.{within_of}
-use Rattle.std.proofs.lemmas.Grind.{common_steps}
 use Rattle.search.proofs.within.Goals as goal
 
 pub returns-then-y : goal.returns-then-y

@@ -1,11 +1,10 @@
 -- `layout_lines` stores the lines in their order, those of the controls by the loop; of the two sticks' the count leaves out what is not in use.
 use mathlib.Core.Path.{◌≡◌, refl, ap, ◌∙◌}
 use mathlib.Core.List.{List, [], ◌∷◌, map, map-append}
-use Prim.Native.Nat.{ℕ, suc, ◌+◌, ◌-◌, ◌<◌, ◌≤◌}
+use Prim.Native.Nat.{ℕ, suc, ◌+◌, ◌<◌, ◌≤◌}
 use native.Mathlib.Omega.{arith}
 use lib.Dec.{lit≤, lit<}
 use lib.ListN.{length, get_or, replicate, take}
-use borrow.Author.Rules.{rules}
 use Rattle.prelude.specs.Each.{Each, ◌&◌}
 use Rattle.prelude.proofs.EachLaws.{each_at, each_set}
 use Rattle.prelude.proofs.Stores.{take_store}
@@ -18,8 +17,7 @@ use Rattle.lines.specs.declared.SheetLine.{SheetLine}
 use Rattle.lines.specs.Line.{line_in, Printable, PrintableLine}
 use Rattle.sheet.specs.Sheet.{lines_of, toolbar_lines}
 use Rattle.sheet.proofs.SheetLaws.{element_printable, game_printable, line_count_lem}
-use Rattle.sheet.proofs.Lines.{all_printable, stored_printable, Lined, lined_next, stick_lines_lem}
-use Rattle.std.proofs.lemmas.Grind.{common_steps}
+use Rattle.sheet.proofs.Lines.{all_printable, stored_printable, lined_next, stick_lines_lem}
 use Rattle.sheet.proofs.layout_lines.Goals as goal
 
 stick_printable : (l : Layout) (i : ℕ) → length l.sticks ≡ 2 → Each Element l.sticks → i < 2 → Printable (get_or l.sticks i any_rect)

@@ -1,14 +1,8 @@
 -- `layout_sheet` puts the header and the lines of the layout, and the text that they make fits.
-use Prim.Native.Nat.{◌+◌, ◌≤◌}
 use native.Mathlib.Omega.{arith}
-use lib.ListN.{length}
-use borrow.Author.Rules.{rules}
 use Rattle.lines.proofs.Puts.{put_after, put_ends, put_length}
-use Rattle.lines.specs.Line.{head_text}
-use Rattle.sheet.specs.Sheet.{lines_of, lines_text, film}
 use Rattle.sheet.proofs.SheetLaws.{few_lines}
 use Rattle.sheet.proofs.Lines.{sheet_room, sheet_is}
-use Rattle.std.proofs.lemmas.Grind.{common_steps}
 use Rattle.sheet.proofs.layout_sheet.Goals as goal
 
 pub overflow_cast-lines : goal.overflow_cast-lines

@@ -1,8 +1,6 @@
 -- `line_count` is how many lines a layout has: no array is shorter than its count.
-use borrow.Author.Rules.{rules}
 use Rattle.layout.proofs.ArrayLaws.{array_lengths}
 use Rattle.sheet.proofs.SheetLaws.{line_count_lem}
-use Rattle.std.proofs.lemmas.Grind.{common_steps}
 use Rattle.sheet.proofs.line_count.Goals as goal
 
 pub returns : goal.returns

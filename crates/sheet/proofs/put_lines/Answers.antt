@@ -1,17 +1,14 @@
 -- `put_lines` puts one line after the other: at each turn the text of those left is still to be put.
 use mathlib.Core.Path.{◌≡◌, refl, ◌∙◌}
-use mathlib.Core.List.{map, flat_map}
-use Prim.Native.Nat.{◌-◌}
+use mathlib.Core.List.{flat_map}
 use native.Mathlib.Omega.{arith}
 use lib.ListN.{length, length-append}
 use Rattle.prelude.proofs.EachLaws.{each_at}
-use Rattle.prelude.proofs.Loops.{in_array, sized, Rest, stops, goes_on, runs_out}
+use Rattle.prelude.proofs.Loops.{sized, stops, goes_on, runs_out}
 use Rattle.prelude.proofs.Stores.{length_stored}
-use Rattle.lines.specs.Line.{line_in, PrintableLine, put_of}
+use Rattle.lines.specs.Line.{PrintableLine, put_of}
 use Rattle.lines.proofs.Puts.{none, onward, put_ends, put_length}
-use Rattle.sheet.specs.Sheet.{lines_in, lines_text}
 use Rattle.sheet.proofs.Lines.{any_line}
-use Rattle.std.proofs.lemmas.Grind.{common_steps}
 use Rattle.sheet.proofs.put_lines.Goals as goal
 
 pub put_line-next-requires : goal.put_line-next-requires

@@ -2,8 +2,6 @@
 use native.Mathlib.Omega.{arith}
 use Rattle.sheet.proofs.SheetLaws.{refused_fits}
 use Rattle.sheet.proofs.Lines.{refused_is}
-use borrow.Author.Rules.{rules}
-use Rattle.std.proofs.lemmas.Grind.{common_steps}
 use Rattle.sheet.proofs.refused_sheet.Goals as goal
 
 pub put_head-len-requires : goal.put_head-len-requires

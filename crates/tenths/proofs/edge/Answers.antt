@@ -7,7 +7,6 @@ use Rattle.tenths.proofs.Floors.{Small}
 use Rattle.tenths.proofs.TenthsLaws.{tenths_sum}
 use Rattle.tenths.proofs.Machine.{sum_fits, more_fits, whole_fits, narrowed}
 use Rattle.tenths.proofs.Patterns.{grain, few}
-use Rattle.std.proofs.lemmas.Grind.{common_steps}
 use Rattle.tenths.proofs.edge.Goals as goal
 
 pub overflow_add-result : goal.overflow_add-result

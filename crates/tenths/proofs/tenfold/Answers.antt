@@ -6,7 +6,6 @@ use borrow.Author.Rules.{rules}
 use Rattle.numerics.proofs.Operations.{whole_not_nan}
 use Rattle.tenths.proofs.Machine.{product_fits, minus_fits, plus_shifted, minus_shifted}
 use Rattle.tenths.proofs.Patterns.{exponent, low_minus, low_plus, high_minus, high_plus}
-use Rattle.std.proofs.lemmas.Grind.{common_steps}
 use Rattle.tenths.proofs.tenfold.Goals as goal
 
 pub float_to_bits-n : goal.float_to_bits-n

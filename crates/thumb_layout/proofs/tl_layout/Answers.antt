@@ -15,4 +15,8 @@ pub returns : goal.returns
 unfolding tl_layout_of
 returns c =
     let l = c.layout.ensures in
-    (read_back c.layout_number.type_inv (c.layout_number.ensures ∙ ap number_of l.0), (l.1.0, rw l.0 at l.1.1))
+    record {
+      answer = read_back c.layout_number.type_inv (c.layout_number.ensures ∙ ap number_of l.answer);
+      output = l.output;
+      widest = rw l.answer at l.widest;
+    }

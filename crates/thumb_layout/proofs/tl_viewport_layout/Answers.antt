@@ -16,6 +16,6 @@ unfolding tl_viewport_layout_of
 returns c =
     let l = c.viewport_layout.ensures in
     record {
-      answer = read_back c.layout_number.type_inv (c.layout_number.ensures ∙ ap number_of l.0);
-      output = l.1;
+      answer = read_back c.layout_number.type_inv (c.layout_number.ensures ∙ ap number_of l.answer);
+      output = l.output;
     }

@@ -34,38 +34,37 @@ returns-then-saved-ne0 c =
       output = rw (whole, odd);
     }
 
+-- ---- a call of `write_numbers`
 pub overflow_cast-result : goal.overflow_cast-result
 unfolding tested_from whole_rects must tl_write_order_of
 overflow_cast-result c =
-    let answered : let s = c.args in
-    let tested = tested_from s.numbers.now s.mode s.fit s.cutouts.now s.saved.now in
-    (order_answer c.write_numbers.result ≡ written_order_of tested s.out.now) × (c.write_numbers.new.1.1.1.1.1.0 ≡ written_order_output tested s.out.now) = rw (eq-eqb _ 0 c.if-cutouts-ne0.false, eq-eqb _ 0 c.if-saved-ne0.false) c.write_numbers.ensures in
-    let small : mag (number_of (order_answer c.write_numbers.result)) ≤ 827 = rw (answered).0 (write_order_small _ _ _ _ _ c.args.out.now) in
+    let s = c.args in
+    let answered : order_answer c.write_numbers.result ≡ written_order_of (tested_from s.numbers.now s.mode s.fit s.cutouts.now s.saved.now) s.out.now =
+    rw (eq-eqb _ 0 c.if-cutouts-ne0.false, eq-eqb _ 0 c.if-saved-ne0.false) c.write_numbers.ensures.answer in
+    let small : mag (number_of (order_answer c.write_numbers.result)) ≤ 827 = rw answered (write_order_small s.numbers.now s.mode s.fit s.cutouts.now s.saved.now s.out.now) in
     let bytes_fit : c.in-Bytes.n ≤ 827 = rw c.in-Bytes.is at small in
     sfits_of (omega (arith, bytes_fit))
 
 pub returns-in-Bytes : goal.returns-in-Bytes
 unfolding tl_write_order_of tl_write_order_output_of tested_from whole_rects must
 returns-in-Bytes c =
-    let answered : let s = c.args in
-    let tested = tested_from s.numbers.now s.mode s.fit s.cutouts.now s.saved.now in
-    (order_answer c.write_numbers.result ≡ written_order_of tested s.out.now) × (c.write_numbers.new.1.1.1.1.1.0 ≡ written_order_output tested s.out.now) = rw (eq-eqb _ 0 c.if-cutouts-ne0.false, eq-eqb _ 0 c.if-saved-ne0.false) c.write_numbers.ensures in
-    let small : mag (number_of (order_answer c.write_numbers.result)) ≤ 827 = rw (answered).0 (write_order_small _ _ _ _ _ c.args.out.now) in
+    let s = c.args in
+    let answered : order_answer c.write_numbers.result ≡ written_order_of (tested_from s.numbers.now s.mode s.fit s.cutouts.now s.saved.now) s.out.now =
+    rw (eq-eqb _ 0 c.if-cutouts-ne0.false, eq-eqb _ 0 c.if-saved-ne0.false) c.write_numbers.ensures.answer in
+    let small : mag (number_of (order_answer c.write_numbers.result)) ≤ 827 = rw answered (write_order_small s.numbers.now s.mode s.fit s.cutouts.now s.saved.now s.out.now) in
     let bytes_fit : c.in-Bytes.n ≤ 827 = rw c.in-Bytes.is at small in
-    let a = answered in
     record {
-      answer = to_z_pos w32 (omega (arith, bytes_fit)) ∙ ap number_of (rw c.in-Bytes.is at a.0);
-      output = a.1;
+      answer = to_z_pos w32 (omega (arith, bytes_fit)) ∙ ap number_of (rw c.in-Bytes.is at answered);
+      output = rw (eq-eqb _ 0 c.if-cutouts-ne0.false, eq-eqb _ 0 c.if-saved-ne0.false) c.write_numbers.ensures.output;
     }
 
 pub returns-in-Refused : goal.returns-in-Refused
 unfolding tl_write_order_of tl_write_order_output_of tested_from whole_rects must
 returns-in-Refused c =
-    let answered : let s = c.args in
-    let tested = tested_from s.numbers.now s.mode s.fit s.cutouts.now s.saved.now in
-    (order_answer c.write_numbers.result ≡ written_order_of tested s.out.now) × (c.write_numbers.new.1.1.1.1.1.0 ≡ written_order_output tested s.out.now) = rw (eq-eqb _ 0 c.if-cutouts-ne0.false, eq-eqb _ 0 c.if-saved-ne0.false) c.write_numbers.ensures in
-    let a = answered in
+    let s = c.args in
+    let answered : order_answer c.write_numbers.result ≡ written_order_of (tested_from s.numbers.now s.mode s.fit s.cutouts.now s.saved.now) s.out.now =
+    rw (eq-eqb _ 0 c.if-cutouts-ne0.false, eq-eqb _ 0 c.if-saved-ne0.false) c.write_numbers.ensures.answer in
     record {
-      answer = read_back c.minus.type_inv (c.minus.ensures ∙ ap number_of (rw c.in-Refused.is at a.0));
-      output = a.1;
+      answer = read_back c.minus.type_inv (c.minus.ensures ∙ ap number_of (rw c.in-Refused.is at answered));
+      output = rw (eq-eqb _ 0 c.if-cutouts-ne0.false, eq-eqb _ 0 c.if-saved-ne0.false) c.write_numbers.ensures.output;
     }

@@ -1,9 +1,7 @@
 -- The numbers by the calls' contracts, in the definition's order; the upper limit of the top is at least the lower one.
-use borrow.Author.Rules.{rules}
 use Rattle.float.specs.Float.{k0}
 use Rattle.float.proofs.Ends.{le_trans, zero_le_max, neg_le_zero}
 use Rattle.toolbar.specs.Toolbar.{anchor_toolbar_of}
-use Rattle.std.proofs.lemmas.Grind.{common_steps}
 use Rattle.toolbar.proofs.anchor_toolbar.Goals as goal
 
 pub clamp-top-requires : goal.clamp-top-requires

@@ -1,7 +1,5 @@
 -- By the calls' contracts.
-use borrow.Author.Rules.{rules}
 use Rattle.toolbar.specs.Toolbar.{below_of}
-use Rattle.std.proofs.lemmas.Grind.{common_steps}
 use Rattle.toolbar.proofs.below.Goals as goal
 
 pub returns : goal.returns

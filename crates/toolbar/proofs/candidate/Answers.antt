@@ -1,7 +1,5 @@
 -- By the calls' contracts.
-use borrow.Author.Rules.{rules}
 use Rattle.toolbar.specs.Toolbar.{candidate_of}
-use Rattle.std.proofs.lemmas.Grind.{common_steps}
 use Rattle.toolbar.proofs.candidate.Goals as goal
 
 pub returns : goal.returns

@@ -1,16 +1,15 @@
 -- The obstacles, and behind them the first i elements.
 use native.Mathlib.Omega.{arith}
 use mathlib.Core.Path.{◌≡◌}
-use mathlib.Core.List.{◌++◌, append_assoc, append-nil}
-use lib.ListN.{length, take, length-set}
+use mathlib.Core.List.{append_assoc, append-nil}
+use lib.ListN.{length, length-set}
 use lib.Seq.{take-suc}
 use native.Mathlib.Nat.{add-zero}
 use native.Mathlib.Numerals.{add-one}
 use Rattle.prelude.proofs.Loops.{sized}
 use Rattle.prelude.proofs.Stores.{put_more}
 use Rattle.layout.specs.Layout.{any_rect}
-use Prim.Native.Nat.{◌+◌, ◌-◌, ◌≤◌, zero-le}
-use Rattle.std.proofs.lemmas.Grind.{common_steps}
+use Prim.Native.Nat.{◌+◌, zero-le}
 use Rattle.toolbar.proofs.extended.Goals as goal
 
 pub loop-i-init : goal.loop-i-init

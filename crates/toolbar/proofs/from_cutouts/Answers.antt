@@ -2,13 +2,12 @@
 use native.Mathlib.Omega.{arith}
 use mathlib.Core.Path.{◌≡◌, refl}
 use native.Mathlib.Numerals.{add-one}
-use lib.ListN.{length, take, length-set}
+use lib.ListN.{length, length-set}
 use lib.Seq.{take-suc}
 use Rattle.prelude.proofs.Loops.{sized}
 use Rattle.prelude.proofs.Stores.{put_more}
 use Rattle.layout.specs.Layout.{any_rect}
-use Prim.Native.Nat.{◌-◌, ◌≤◌, zero-le}
-use Rattle.std.proofs.lemmas.Grind.{common_steps}
+use Prim.Native.Nat.{zero-le}
 use Rattle.toolbar.proofs.from_cutouts.Goals as goal
 
 pub loop-i-init : goal.loop-i-init

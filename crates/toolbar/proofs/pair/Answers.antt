@@ -1,17 +1,13 @@
 -- The pass: what is left of it gives the whole answer. Its two searches: what they have not yet looked at does.
-use borrow.Author.Rules.{rules}
 use native.Mathlib.Omega.{arith}
 use mathlib.Core.Path.{◌≡◌, refl, sym, ap, ◌∙◌}
-use mathlib.Core.List.{List}
 use native.Mathlib.Nat.{sub-zero}
 use lib.Seq.{length-take-le}
-use Rattle.toolbar.proofs.Scan.{Scanned, scan_open, scan_met, scan_next, scan_end, scan_first}
+use Rattle.toolbar.proofs.Scan.{scan_open, scan_met, scan_next, scan_end, scan_first}
 use lib.ListN.{take, length}
-use Rattle.geometry.specs.declared.Rect.{Rect}
 use Rattle.geometry.specs.Rect.{overlaps_of}
-use Rattle.toolbar.specs.Toolbar.{below_of, moved_bar, pass, pair_of}
-use Prim.Native.Nat.{suc, ◌+◌, ◌-◌, ◌≤◌, zero-le}
-use Rattle.std.proofs.lemmas.Grind.{common_steps}
+use Rattle.toolbar.specs.Toolbar.{moved_bar, pass, pair_of}
+use Prim.Native.Nat.{suc, ◌+◌, ◌-◌, zero-le}
 use Rattle.toolbar.proofs.pair.Goals as goal
 use Rattle.toolbar.proofs.pair.Goals.{then-blocked, else-blocked}
 

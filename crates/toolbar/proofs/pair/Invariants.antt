@@ -1,15 +1,11 @@
-use borrow.Author.Rules.{rules}
-use native.Mathlib.Omega.{arith}
-use mathlib.Core.Path.{◌≡◌, refl, sym, ap, ◌∙◌}
+use mathlib.Core.Path.{◌≡◌}
 use mathlib.Core.List.{List}
-use native.Mathlib.Nat.{sub-zero}
-use lib.Seq.{length-take-le}
-use Rattle.toolbar.proofs.Scan.{Scanned, scan_open, scan_met, scan_next, scan_end, scan_first}
+use Rattle.toolbar.proofs.Scan.{Scanned}
 use lib.ListN.{take, length}
 use Rattle.geometry.specs.declared.Rect.{Rect}
 use Rattle.geometry.specs.Rect.{overlaps_of}
 use Rattle.toolbar.specs.Toolbar.{below_of, moved_bar, pass, pair_of}
-use Prim.Native.Nat.{suc, ◌+◌, ◌-◌, ◌≤◌, zero-le}
+use Prim.Native.Nat.{◌+◌, ◌-◌, ◌≤◌}
 use Rattle.toolbar.proofs.pair.Given as goal
 
 abbrev pub invariant-loop-met : goal.invariant-loop-met

@@ -1,9 +1,7 @@
 -- The three cases: controls among the obstacles, no obstacle, cutouts alone.
 use native.Mathlib.Omega.{arith}
-use borrow.Author.Rules.{rules}
 use mathlib.Core.Path.{◌≡◌, refl}
 use Rattle.toolbar.specs.Toolbar.{avoided_of, pair_of, pass}
-use Rattle.std.proofs.lemmas.Grind.{common_steps}
 use Rattle.toolbar.proofs.place_bars.Goals as goal
 
 pub returns-then-covered_top : goal.returns-then-covered_top

@@ -1,6 +1,5 @@
 -- The tests, in the definition's order.
 use Rattle.toolbar.specs.Toolbar.{room_of}
-use Rattle.std.proofs.lemmas.Grind.{common_steps}
 use Rattle.toolbar.proofs.room.Goals as goal
 
 pub returns-then-left : goal.returns-then-left

@@ -1,7 +1,5 @@
 -- `add_other`: the definition, by whether the control holds the touch.
-use borrow.Author.Rules.{rules}
 use Rattle.touch.specs.Touch.{add_other_of}
-use Rattle.std.proofs.lemmas.Grind.{common_steps}
 use Rattle.touch.proofs.add_other.Goals as goal
 
 pub returns-then-other_holds : goal.returns-then-other_holds

@@ -1,12 +1,7 @@
 -- `any_other`: the controls passed leave the answer to the others.
-use borrow.Author.Rules.{rules}
-use native.Mathlib.Omega.{arith}
-use Prim.Native.Nat.{◌-◌}
 use Rattle.prelude.specs.Lists.{any_of}
-use Rattle.prelude.proofs.Loops.{in_array, Rest, stops, goes_on, runs_out}
-use Rattle.layout.specs.Layout.{any_control, control_list}
-use Rattle.touch.specs.Touch.{other_holds_of}
-use Rattle.std.proofs.lemmas.Grind.{common_steps}
+use Rattle.prelude.proofs.Loops.{stops, goes_on, runs_out}
+use Rattle.layout.specs.Layout.{any_control}
 use Rattle.touch.proofs.any_other.Goals as goal
 
 pub returns-then-other_holds : goal.returns-then-other_holds

@@ -1,9 +1,6 @@
-use borrow.Author.Rules.{rules}
-use native.Mathlib.Omega.{arith}
-use Prim.Native.Nat.{◌-◌}
 use Rattle.prelude.specs.Lists.{any_of}
-use Rattle.prelude.proofs.Loops.{in_array, Rest, stops, goes_on, runs_out}
-use Rattle.layout.specs.Layout.{any_control, control_list}
+use Rattle.prelude.proofs.Loops.{Rest}
+use Rattle.layout.specs.Layout.{control_list}
 use Rattle.touch.specs.Touch.{other_holds_of}
 use Rattle.touch.proofs.any_other.Given as goal
 

@@ -1,7 +1,5 @@
 -- `axis_bit`: the definition, by its two tests.
-use borrow.Author.Rules.{rules}
 use Rattle.touch.specs.Touch.{axis_bit_of}
-use Rattle.std.proofs.lemmas.Grind.{common_steps}
 use Rattle.touch.proofs.axis_bit.Goals as goal
 
 pub returns-then-along : goal.returns-then-along

@@ -1,6 +1,4 @@
 -- `beyond`: the two tests, with what `abs` gives.
-use borrow.Author.Rules.{rules}
-use Rattle.std.proofs.lemmas.Grind.{common_steps}
 use Rattle.touch.proofs.beyond.Goals as goal
 
 pub returns-then-abs-radius : goal.returns-then-abs-radius

@@ -1,5 +1,4 @@
 -- `closer`: the one test.
-use Rattle.std.proofs.lemmas.Grind.{common_steps}
 use Rattle.touch.proofs.closer.Goals as goal
 
 pub returns-then-face-best : goal.returns-then-face-best

@@ -1,7 +1,5 @@
 -- `distance`: the definition, with what `hypot` and `pick` give.
-use borrow.Author.Rules.{rules}
 use Rattle.touch.specs.Touch.{distance_of}
-use Rattle.std.proofs.lemmas.Grind.{common_steps}
 use Rattle.touch.proofs.distance.Goals as goal
 
 pub returns : goal.returns

@@ -1,7 +1,5 @@
 -- `dpad_mask`: the definition, by whether the d-pad holds the touch and whether it lies off the centre.
-use borrow.Author.Rules.{rules}
 use Rattle.touch.specs.Touch.{dpad_mask_of}
-use Rattle.std.proofs.lemmas.Grind.{common_steps}
 use Rattle.touch.proofs.dpad_mask.Goals as goal
 
 pub returns-then-off_centre : goal.returns-then-off_centre

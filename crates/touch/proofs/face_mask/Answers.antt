@@ -1,9 +1,7 @@
 -- `face_mask`: where both buttons are the same, it does not matter whether the space is free.
-use borrow.Author.Rules.{rules}
 use mathlib.Core.Path.{◌≡◌, refl, sym}
 use Rattle.prelude.proofs.Booleans.{either}
 use Rattle.touch.specs.Touch.{is_free_of}
-use Rattle.std.proofs.lemmas.Grind.{common_steps}
 use Rattle.touch.proofs.face_mask.Goals as goal
 
 pub returns-then-is_free : goal.returns-then-is_free

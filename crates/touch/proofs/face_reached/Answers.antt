@@ -1,6 +1,4 @@
 -- `face_reached`: the two tests in turn.
-use borrow.Author.Rules.{rules}
-use Rattle.std.proofs.lemmas.Grind.{common_steps}
 use Rattle.touch.proofs.face_reached.Goals as goal
 
 pub returns-then-is_face : goal.returns-then-is_face

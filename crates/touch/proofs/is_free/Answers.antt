@@ -1,5 +1,4 @@
 -- `is_free`: what may block the touch, in turn, up to the first that holds it.
-use borrow.Author.Rules.{rules}
 use mathlib.Core.Path.{◌≡◌, ap, sym, ◌∙◌}
 use mathlib.Core.Bool.{not}
 use Prim.Native.Nat.{ℕ}
@@ -9,7 +8,6 @@ use Rattle.layout.specs.declared.Layout.{Layout}
 use Rattle.layout.specs.Layout.{control_list}
 use Rattle.touch.specs.Touch.{blockers_of, is_free_of}
 use Rattle.touch.proofs.Blockers.{none_holds, past, blocked, no_other}
-use Rattle.std.proofs.lemmas.Grind.{common_steps}
 use Rattle.touch.proofs.is_free.Goals as goal
 
 -- the answer is left to those after the first k

@@ -1,19 +1,17 @@
 -- `mask_near`: `others` and `faces` are what the controls passed make of them.
-use borrow.Author.Rules.{rules}
 use native.Mathlib.Omega.{arith}
 use mathlib.Core.Path.{◌≡◌, refl, ap, ◌∙◌}
 use mathlib.Core.Bool.{Bool, true, false, cond}
-use Prim.Native.Nat.{◌-◌, ◌<◌, ◌≤◌}
+use Prim.Native.Nat.{◌<◌}
 use lib.Bits.{bit_or}
 use lib.Ieee.{nan_bits}
-use lib.ListN.{length, take}
+use lib.ListN.{length}
 use Rattle.prelude.proofs.Loops.{fold_next}
 use Rattle.layout.specs.Layout.{control_list}
 use Rattle.layout.proofs.ArrayLaws.{array_lengths}
 use Rattle.touch.specs.declared.Face.{Face}
 use Rattle.touch.specs.Touch.{others_mask_of, is_free_of, nearest, mask_near_of}
 use Rattle.touch.proofs.Blockers.{free_outside}
-use Rattle.std.proofs.lemmas.Grind.{common_steps}
 use Rattle.touch.proofs.mask_near.Goals as goal
 
 -- the nearest of each kind, for the kind of space that it is

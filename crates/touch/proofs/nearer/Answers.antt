@@ -1,5 +1,4 @@
 -- `nearer`: what a turn makes of the nearest button, with the margin and without.
-use borrow.Author.Rules.{rules}
 use mathlib.Core.Path.{◌≡◌, refl}
 use mathlib.Core.Bool.{Bool, true, false, cond, not, ◌&&◌, ◌||◌, and_assoc}
 use Prim.Native.Nat.{ℕ}
@@ -11,7 +10,6 @@ use Rattle.layout.specs.declared.Control.{Control}
 use Rattle.layout.specs.Label.{mask_of, is_face_of}
 use Rattle.touch.specs.declared.Face.{Face}
 use Rattle.touch.specs.Touch.{reached_of, distance_of, nearer_of}
-use Rattle.std.proofs.lemmas.Grind.{common_steps}
 use Rattle.touch.proofs.nearer.Goals as goal
 
 -- the button is reached, with its margin or without

@@ -1,5 +1,4 @@
 -- `off_centre`: a distance is at least each of its sides.
-use borrow.Author.Rules.{rules}
 use mathlib.Core.Path.{◌≡◌, sym, ap, ◌∙◌}
 use mathlib.Core.Bool.{Bool, true, ◌&&◌}
 use lib.Dec.{T}
@@ -10,7 +9,6 @@ use Rattle.float.specs.MinMax.{abs_of}
 use Rattle.hypot.specs.Hypot.{hypot_of}
 use Rattle.hypot.proofs.Cases.{hypot_comm}
 use Rattle.hypot.proofs.AtLeast.{hypot_at_least}
-use Rattle.std.proofs.lemmas.Grind.{common_steps}
 use Rattle.touch.proofs.off_centre.Goals as goal
 
 over : (t a b : Float) {r : Bool} → T (fits binary32 a) → T (fits binary32 b) → r ≡ (lt t (abs_of a) && eq b b) → r ≡ true → true ≡ lt t (hypot_of a b)

@@ -1,7 +1,5 @@
 -- `other_holds`: the two tests of the definition in turn.
-use borrow.Author.Rules.{rules}
 use Rattle.touch.specs.Touch.{other_holds_of}
-use Rattle.std.proofs.lemmas.Grind.{common_steps}
 use Rattle.touch.proofs.other_holds.Goals as goal
 
 pub returns-then-not-is_face : goal.returns-then-not-is_face

@@ -1,6 +1,4 @@
 -- `outside`: the picture, then the d-pad.
-use borrow.Author.Rules.{rules}
-use Rattle.std.proofs.lemmas.Grind.{common_steps}
 use Rattle.touch.proofs.outside.Goals as goal
 
 pub returns-then-not-contains : goal.returns-then-not-contains

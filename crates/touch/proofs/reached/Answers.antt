@@ -1,7 +1,5 @@
 -- `reached`: the tests of the definition in turn, with what `target` gives.
-use borrow.Author.Rules.{rules}
 use Rattle.touch.specs.Touch.{reached_of}
-use Rattle.std.proofs.lemmas.Grind.{common_steps}
 use Rattle.touch.proofs.reached.Goals as goal
 
 pub returns-then-contains : goal.returns-then-contains

@@ -1,7 +1,5 @@
 -- `sector`: the bits of both axes.
-use borrow.Author.Rules.{rules}
 use Rattle.touch.specs.Touch.{sector_of}
-use Rattle.std.proofs.lemmas.Grind.{common_steps}
 use Rattle.touch.proofs.sector.Goals as goal
 
 pub returns : goal.returns

@@ -1,7 +1,5 @@
 -- `target`: the definition, with what `min` and `new` give.
-use borrow.Author.Rules.{rules}
 use Rattle.touch.specs.Touch.{target_of}
-use Rattle.std.proofs.lemmas.Grind.{common_steps}
 use Rattle.touch.proofs.target.Goals as goal
 
 pub returns : goal.returns

@@ -2,8 +2,6 @@
 use mathlib.Core.Path.{ap, ◌∙◌}
 use lib.Ieee.{binary32, of_bits}
 use Rattle.wire.specs.Wire.{number_at_of}
-use borrow.Author.Rules.{rules}
-use Rattle.std.proofs.lemmas.Grind.{common_steps}
 use Rattle.wire.proofs.number_at.Goals as goal
 
 pub returns : goal.returns

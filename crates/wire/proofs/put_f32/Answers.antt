@@ -5,8 +5,6 @@ use lib.ListN.{length-set}
 use Rattle.prelude.proofs.Stores.{stored_run}
 use Rattle.wire.specs.Wire.{number_bytes}
 use native.Mathlib.Omega.{arith}
-use borrow.Author.Rules.{rules}
-use Rattle.std.proofs.lemmas.Grind.{common_steps}
 use Rattle.wire.proofs.put_f32.Goals as goal
 
 pub bounds-out-at-2 : goal.bounds-out-at-2

@@ -1,6 +1,5 @@
 -- The tag is stored, and the length put behind it.
 use native.Mathlib.Omega.{arith}
-use borrow.Author.Rules.{rules}
 use mathlib.Core.Path.{refl, ap, ◌∙◌}
 use mathlib.Core.List.{[], ◌∷◌}
 use Prim.Native.Nat.{◌+◌}
@@ -8,7 +7,6 @@ use lib.ListN.{length, length-set}
 use Rattle.prelude.specs.Lists.{stored}
 use Rattle.prelude.proofs.Stores.{then, length_stored}
 use Rattle.wire.specs.Wire.{short_bytes, head_bytes}
-use Rattle.std.proofs.lemmas.Grind.{common_steps}
 use Rattle.wire.proofs.put_field_head.Goals as goal
 
 pub put_short-requires : goal.put_short-requires

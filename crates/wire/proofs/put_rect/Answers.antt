@@ -2,8 +2,6 @@
 use native.Mathlib.Omega.{arith}
 use Rattle.prelude.proofs.Stores.{then}
 use Rattle.wire.specs.Wire.{number_bytes, rect_bytes}
-use borrow.Author.Rules.{rules}
-use Rattle.std.proofs.lemmas.Grind.{common_steps}
 use Rattle.wire.proofs.put_rect.Goals as goal
 
 pub returns : goal.returns

@@ -1,7 +1,5 @@
 -- The rectangle of the four numbers from 4 i on, by what each call of `number_at` gives.
-use borrow.Author.Rules.{rules}
 use Rattle.wire.specs.Wire.{rect_at_of}
-use Rattle.std.proofs.lemmas.Grind.{common_steps}
 use Rattle.wire.proofs.rect_at.Goals as goal
 
 pub returns : goal.returns

@@ -1,8 +1,6 @@
 -- The pattern of x, by the test for that of negative zero.
-use borrow.Author.Rules.{rules}
 use borrow.Author.Tests.{eq-eqb, ne_eqb}
 use Rattle.wire.specs.Wire.{written_bits_of}
-use Rattle.std.proofs.lemmas.Grind.{common_steps}
 use Rattle.wire.proofs.written_bits.Goals as goal
 
 pub returns-then-n : goal.returns-then-n

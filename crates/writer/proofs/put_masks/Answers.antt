@@ -4,14 +4,11 @@ use mathlib.Core.List.{flat_map}
 use Rattle.prelude.specs.Lists.{stored}
 use Rattle.prelude.proofs.Loops.{in_array, runs_out}
 use Rattle.layout.specs.Layout.{any_control}
-use Rattle.wire.proofs.Items.{Putting, puts}
+use Rattle.wire.proofs.Items.{puts}
 use Rattle.writer.specs.Bytes.{mask_bytes}
 use Rattle.writer.proofs.Length.{length_mask}
-use borrow.Author.Rules.{rules}
 use native.Mathlib.Nat.{add-zero}
 use native.Mathlib.Omega.{arith}
-use Prim.Native.Nat.{◌-◌}
-use Rattle.std.proofs.lemmas.Grind.{common_steps}
 use Rattle.writer.proofs.put_masks.Goals as goal
 
 pub loop-i-init : goal.loop-i-init

@@ -5,12 +5,9 @@ use Rattle.prelude.specs.Lists.{stored}
 use Rattle.prelude.proofs.Loops.{in_array, runs_out}
 use Rattle.layout.specs.Layout.{any_rect}
 use Rattle.wire.specs.Wire.{rect_bytes}
-use Rattle.wire.proofs.Items.{length_rect, Putting, puts}
-use borrow.Author.Rules.{rules}
+use Rattle.wire.proofs.Items.{length_rect, puts}
 use native.Mathlib.Nat.{add-zero}
 use native.Mathlib.Omega.{arith}
-use Prim.Native.Nat.{◌-◌}
-use Rattle.std.proofs.lemmas.Grind.{common_steps}
 use Rattle.writer.proofs.put_rects.Goals as goal
 
 pub loop-i-init : goal.loop-i-init

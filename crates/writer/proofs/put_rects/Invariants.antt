@@ -1,14 +1,5 @@
-use mathlib.Core.Path.{refl}
-use mathlib.Core.List.{flat_map}
-use Rattle.prelude.specs.Lists.{stored}
-use Rattle.prelude.proofs.Loops.{in_array, runs_out}
-use Rattle.layout.specs.Layout.{any_rect}
 use Rattle.wire.specs.Wire.{rect_bytes}
-use Rattle.wire.proofs.Items.{length_rect, Putting, puts}
-use borrow.Author.Rules.{rules}
-use native.Mathlib.Nat.{add-zero}
-use native.Mathlib.Omega.{arith}
-use Prim.Native.Nat.{◌-◌}
+use Rattle.wire.proofs.Items.{Putting}
 use Rattle.writer.proofs.put_rects.Given as goal
 
 abbrev pub invariant-loop-i : goal.invariant-loop-i

@@ -7,8 +7,6 @@ use Rattle.wire.proofs.Output.{too_small, has_room}
 use Rattle.writer.specs.Bytes.{layout_bytes, write_layout_of, output_of}
 use Rattle.writer.proofs.Length.{length_layout}
 use Rattle.writer.proofs.Stores.{layout_run}
-use borrow.Author.Rules.{rules}
-use Rattle.std.proofs.lemmas.Grind.{common_steps}
 use Rattle.writer.proofs.write_layout.Goals as goal
 
 pub returns-then-out-length : goal.returns-then-out-length

@@ -1,7 +1,5 @@
 -- Each arm gives the field of its label, by the equation that the match hands over.
-use borrow.Author.Rules.{rules}
 use Rattle.places.specs.Places.{at_of}
-use Rattle.std.proofs.lemmas.Grind.{common_steps}
 use Rattle.places.proofs.Places.at.Goals as goal
 
 pub returns-in-Tri : goal.returns-in-Tri

@@ -1,6 +1,4 @@
 -- One control for each label, in the order of `analogLabels`, each as `control_at` gives it.
-use borrow.Author.Rules.{rules}
-use Rattle.std.proofs.lemmas.Grind.{common_steps}
 use Rattle.places.proofs.Places.controls_at.Goals as goal
 
 pub returns : goal.returns

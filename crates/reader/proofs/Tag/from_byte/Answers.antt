@@ -1,7 +1,6 @@
 -- Arm by arm, by what the match tells of the byte.
 use borrow.Author.Tests.{ne_eqb}
 use Rattle.reader.specs.Order.{from_byte_of}
-use Rattle.std.proofs.lemmas.Grind.{common_steps}
 use Rattle.reader.proofs.Tag.from_byte.Goals as goal
 
 pub returns-in-1 : goal.returns-in-1
