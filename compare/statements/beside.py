@@ -60,9 +60,10 @@ class Beside:
                     bodies[n] = applied(text, [e])[start:end + sum(len(new) - (q - p) for p, q, new in e.parts)]
             out += text[last:u.head] + (beside(signature, bodies, u.method) if len(bodies) > 1 else f"{signature} {bodies[0]}")
             last = end
-        out = re.sub(r"^ghost use [^;]*;\n|^#\[no_mangle\]\n", "", out + text[last:], flags=re.M).replace('extern "C" fn', "fn")
+        dropped = r"^ghost use [^;]*;\n|^ *#!?\[(?:unsafe\(no_mangle\)|tactic\(.*\)|derive\(.*\))\]\n"
+        out = re.sub(dropped, "", out + text[last:], flags=re.M).replace('extern "C" fn', "fn")
         public = lambda m: re.sub(r"^    (?=\w+: )", "    pub ", m[0], flags=re.M)
-        out = re.sub(r"^struct \w+ \{.*?^\}", public, out, flags=re.M | re.S)
+        out = re.sub(r"^(?:pub )?struct \w+ \{.*?^\}", public, out, flags=re.M | re.S)
         out = re.sub(r"^( *)(?=fn |struct |enum )", r"\1pub ", out, flags=re.M)
         derived = lambda m: f"#[derive(Clone, Copy{'' if m[2] in SHOWN else ', Debug'})]\n{m[1]}"
         out = re.sub(r"^(pub (?:struct|enum) (\w+))", derived, out, flags=re.M)

@@ -151,7 +151,7 @@ fn write_order(r: &mut Random) {
     let saved = rects(r, 32, |r| if r.chance(90) { side(r) / 4.0 } else { r.one(&ODD) });
     let mode = if r.chance(96) { r.below(8) as u8 } else { r.next() as u8 };
     let fit = if r.chance(96) { r.below(3) as u8 } else { r.next() as u8 };
-    let write = |length| thumb_layout::tl_write_order(&numbers, mode, fit, &cutouts, &saved, &mut vec![7; length]);
+    let write = |length| thumb_layout_c::tl_write_order(&numbers, mode, fit, &cutouts, &saved, &mut vec![7; length]);
     let length = write(900);
     if length > 0 {
         write(length as usize);
@@ -181,9 +181,9 @@ fn fingers(r: &mut Random, order: &[u8], bytes: &[u8]) {
             };
         }
         match act {
-            0 => thumb_layout::tl_press(&mut t, order, finger, x, y),
-            1 => thumb_layout::tl_lift(&mut t, order, finger),
-            _ => thumb_layout::tl_move(&mut t, order, finger, x, y),
+            0 => thumb_layout_c::tl_press(&mut t, order, finger, x, y),
+            1 => thumb_layout_c::tl_lift(&mut t, order, finger),
+            _ => thumb_layout_c::tl_move(&mut t, order, finger, x, y),
         };
     }
 }
@@ -191,24 +191,24 @@ fn fingers(r: &mut Random, order: &[u8], bytes: &[u8]) {
 fn hosts(r: &mut Random) {
     let o = order(r);
     let mut out = vec![7u8; if r.chance(90) { 400 } else { r.one(&[0, 264, 265, 284, 285, 352, 353]) }];
-    thumb_layout::tl_layout(&o, &mut out);
+    thumb_layout_c::tl_layout(&o, &mut out);
     for _ in 0..4 {
         let (x, y) = touch(r, &out);
         let previous = if r.chance(50) { 0 } else { r.next() as u16 };
-        thumb_layout::tl_touch(&o, x, y, previous);
+        thumb_layout_c::tl_touch(&o, x, y, previous);
     }
     fingers(r, &o, &out);
     let top = if r.chance(90) { r.below(120) as f32 } else { r.one(&ODD) };
     let covered = if r.chance(90) { r.below(200) as f32 - 60.0 } else { r.one(&ODD) };
-    thumb_layout::tl_viewport_layout(&o, top, covered, &mut out);
-    thumb_layout::tl_film(&o, &mut [7; 1024]);
+    thumb_layout_c::tl_viewport_layout(&o, top, covered, &mut out);
+    thumb_layout_c::tl_film(&o, &mut [7; 1024]);
     let mut numbers = [(); 8].map(|_| whole(r));
     if r.chance(50) {
         numbers.copy_within(..2, 2);
     }
-    thumb_layout::tl_safe_content(&numbers, &mut [0.5; 4]);
+    thumb_layout_c::tl_safe_content(&numbers, &mut [0.5; 4]);
     let edges = [(); 12].map(|_| whole(r));
-    thumb_layout::tl_safe_edges(&edges, r.below(3) as u8, &mut [1; 4]);
+    thumb_layout_c::tl_safe_edges(&edges, r.below(3) as u8, &mut [1; 4]);
     write_order(r);
 }
 

@@ -78,22 +78,23 @@ class Names:
     """What the crates declare: the types by which an edit keeps to the types."""
     fields: dict  # field: the fields that have its type beside it in every struct that has it
     records: dict  # struct: {field: type}
-    arguments: dict  # function, variant or definition: the types of its arguments; None if there are several
+    arguments: dict  # function or variant: the types of its arguments; None if there are several
+    defined: dict  # definition: the same
     literals: list  # the names of the f32 literals in definitions
 
 
 def names_of(sources):
     """From the texts of all files, by suffix."""
-    fields, records, arguments, literals = {}, {}, {}, []
+    fields, records, arguments, defined, literals = {}, {}, {}, {}, []
 
-    def declare(name, types):
-        arguments[name] = types if arguments.get(name, types) == types else None
+    def declare(known, name, types):
+        known[name] = types if known.get(name, types) == types else None
 
     for suffix, text in sources:
         if suffix == ".antt":
-            literals += re.findall(r"^abbrev pub (k[0-9·]+) :", text, re.M)
+            literals += re.findall(r"^abbrev pub (k[0-9_]+) :", text, re.M)
             for name, signature in re.findall(r"^(?:abbrev |unfoldable )*pub (\S+) : ([^\n]*)$", text, re.M):
-                declare(name, [t.strip() for t in re.split(r"→(?![^(]*\))", signature)][:-1])
+                declare(defined, name, [t.strip() for t in re.split(r"→(?![^(]*\))", signature)][:-1])
             continue
         for name, body in re.findall(r"\bstruct (\w+) \{(.*?)\n\}", text, re.S):
             records[name] = types = dict(re.findall(r"(?:pub )?(\w+): ([^,\n]+),", body))
@@ -102,10 +103,10 @@ def names_of(sources):
                 fields[field] = fields.get(field, others) & others
         for body in re.findall(r"\benum \w+ \{(.*?)\n\}", text, re.S):
             for name, types in re.findall(r"(\w+)\((.*?)\)", body):
-                declare(name, types.split(", "))
+                declare(arguments, name, types.split(", "))
         for name, params in re.findall(r"\bfn (\w+)\(((?:.|\n)*?)\)\s*(?:->|requires|ensures|\{)", text):
-            declare(name, re.findall(r"\w+: (&?(?:mut )?(?:\[[^\]]*\]|\w+))", params))
-    return Names({f: sorted(o) for f, o in fields.items()}, records, arguments, literals)
+            declare(arguments, name, re.findall(r"\w+: (&?(?:mut )?(?:\[[^\]]*\]|\w+))", params))
+    return Names({f: sorted(o) for f, o in fields.items()}, records, arguments, defined, literals)
 
 
 def one_more(text):
@@ -300,8 +301,9 @@ class Code(Source):
 class Definitions(Source):
     """The definitions in a file of specs/."""
 
-    SIGNS = re.compile(r"--[^\n]*|0x[0-9a-fA-F_]+|[0-9]+(?![\w·])|[^\s(){};,]+|\S")
-    OTHER = {"⊕": "⊖", "⊖": "⊕", "⊗": "⊘", "⊘": "⊗", "bitOr": "bitAnd", "bitAnd": "bitOr", "+": "-", "-": "+"}
+    # a name by its path, `Tag.Screen`, is one token; a projection, `.w`, is one of its own
+    SIGNS = re.compile(r"--[^\n]*|0x[0-9a-fA-F_]+|[0-9]+(?!\w)|[A-Z]\w*(?:\.\w+)+|\.\w+|[^\s(){};,.]+|\S")
+    OTHER = {"⊕": "⊖", "⊖": "⊕", "⊗": "⊘", "⊘": "⊗", "bit_or": "bit_and", "bit_and": "bit_or", "+": "-", "-": "+"}
     COMPARED = {"lt": "le", "le": "lt", "ltb": "leb", "leb": "ltb"}
     PROSE = ("=", "in", "let", "→", "λ", "record", "with", "where", "|")
 
@@ -331,7 +333,7 @@ class Definitions(Source):
     def named(self, unit, kind, token, new):
         """A name for a name, brought in where the old one is."""
         e = self.replaced(unit, kind, token, new)
-        for shown_old, shown in ((token.text, new), (f"_{token.text}_", f"_{new}_")):
+        for shown_old, shown in ((token.text, new), (f"◌{token.text}◌", f"◌{new}◌")):
             line = re.search(r"^use [^\n]*[{ ]" + re.escape(shown_old) + r"[,}]", self.text, re.M)
             if line:
                 if not re.search(r"^use [^\n]*[{ ]" + re.escape(shown) + r"[,}]", self.text, re.M):
@@ -363,8 +365,8 @@ class Definitions(Source):
 
     def constants(self, u, ts):
         for t in ts:
-            if t.text in ("minOf", "maxOf"):
-                yield self.named(u, "min and max", t, "maxOf" if t.text == "minOf" else "minOf")
+            if t.text in ("min_of", "max_of"):
+                yield self.named(u, "min and max", t, "max_of" if t.text == "min_of" else "min_of")
             elif t.text in self.names.literals:
                 known = self.names.literals
                 yield self.named(u, "constant", t, known[(known.index(t.text) + 1) % len(known)])
@@ -386,10 +388,10 @@ class Definitions(Source):
                 k = j + 1
             else:
                 break
+            while k < len(ts) and ts[k].text[0] == "." and ts[k].start == ts[k - 1].end:
+                k += 1
             spans.append((j, k))
             j = k
-            if j < len(ts) and ts[j].text[0] == "." and len(ts[j].text) > 1:
-                break
         return spans
 
     def conds(self, u, ts):
@@ -401,7 +403,7 @@ class Definitions(Source):
 
     def applications(self, u, ts):
         for i, t in enumerate(ts):
-            types = self.names.arguments.get(t.text)
+            types = self.names.defined.get(t.text)
             if types and t.text != "cond":
                 args = self.atoms(ts, i)
                 for a, b, p, q in zip(args, args[1:], types, types[1:]):

@@ -1,5 +1,6 @@
 """What the outcomes come to."""
 import collections
+import re
 from pathlib import Path
 
 KNOWN = Path(__file__).resolve().parent / "equivalent.txt"
@@ -23,7 +24,7 @@ def part(row):
 
 def of_function(row):
     """Whether a fact that is refused is one of a function's proof, and not of a law."""
-    return any("/Proof.antt: " in fact for fact in row["goals"]) or any("::" in fact for fact in row["facts"])
+    return any(re.search(r"/(Answers|Invariants|Proof)\.antt: ", fact) for fact in row["goals"]) or any("::" in fact for fact in row["facts"])
 
 
 def verdict(row, reasons):

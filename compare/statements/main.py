@@ -14,13 +14,15 @@ from pathlib import Path
 from beside import Beside
 from edits import Code, Edit, edits_of
 from figures import figures
-from prover import FOLLOWS, FORM, Prover, function_of, opened, proof_file
+from prover import FOLLOWS, FORM, LEFT, WAITS, Prover, function_of, opened, proof_folder
 
 ROOT = Path(__file__).resolve().parents[2]
 
 
 def libraries():
-    return [name for name in stands_on() if (ROOT / "crates" / name / "src/lib.rt").exists()]
+    """Those that do no input and output."""
+    files = {name: ROOT / "crates" / name / "src/lib.rt" for name in stands_on()}
+    return [name for name, file in files.items() if file.exists() and "std::io" not in file.read_text()]
 
 
 @functools.cache
@@ -93,46 +95,51 @@ class Trial:
 
     def judge(self, crate, batch, v):
         """Which edits of code were refused, and at what."""
-        folder, own = self.prover.work / "crates" / crate, {}
+        own = {u: proof_folder(self.prover.root, e.unit) for u, e in batch.items()}
         for u, e in batch.items():
-            own[u] = next((f for f in proof_file(e.unit) if (folder / f).exists()), "")
-            refused = any(x.file == own[u] for x in v.errors if not FOLLOWS.search(x.text))
+            said = v.functions.get(e.unit, "")
+            refused = any(x.file.startswith(own[u]) for x in v.errors if not FOLLOWS.search(x.text))
             if v.late:
                 self.record(e, "late", v)
             elif e.unit in v.unanswered:
-                self.record(e, "fact", v, v.unanswered[e.unit], "`search` does not close it")
-            elif v.functions.get(e.unit, "").startswith("proved"):
+                self.record(e, "fact", v, v.unanswered[e.unit], f"{LEFT} it")
+            elif said.startswith("proved"):
                 self.record(e, "accepted", v)
-            elif not refused and len(batch) > 1:  # a function that it calls is not proved, so it was not tried
+            elif len(batch) > 1 and (not refused or WAITS.search(said)):  # a function that it calls is not proved, so not all of it was tried
                 self.prover.put(crate, [e])
                 self.judge(crate, {u: e}, self.prover.run(crate))
             elif not refused:
-                self.record(e, "form", v, [], v.functions.get(e.unit, ""))
+                self.record(e, "form", v, [], said)
             else:
                 continue
             del own[u]
         if own:
             w, errors, misfits = self.left_open(crate, {own[u]: batch[u] for u in own}, v)
-            for u, file in own.items():
-                fits = file not in misfits and "depends on a hole" in w.functions.get(u[2], "")
-                goals = {d: g for (f, d), g in w.goals.items() if f == file} if fits else {}
-                self.record(batch[u], "fact" if fits else "form", v, [x.declaration for x in errors[file]], errors[file][0].text, goals)
+            for u, folder in own.items():
+                mine = [x for file, xs in errors.items() if file.startswith(folder) for x in xs]
+                said = w.functions.get(u[2], "")
+                fits = not any(file.startswith(folder) for file in misfits) and ("depends on a hole" in said or LEFT in said)
+                goals = {d: g for (f, d), g in w.goals.items() if f.startswith(folder)} if fits else {}
+                self.record(batch[u], "fact" if fits else "form", v, [x.declaration for x in mine] + w.unanswered.get(u[2], []), mine[0].text, goals)
 
     def left_open(self, crate, edits, v):
-        """Leaves refused answers open until no other is refused, to see whether the rest of the proof fits. `edits` is by the file of the proof."""
+        """Leaves refused answers open until no other is refused, to see whether the rest of the proof fits. `edits` is by the folder of the proof."""
         folder, texts, errors, misfits = self.prover.work / "crates" / crate, {}, collections.defaultdict(list), set()
+        edit = lambda file: next((e for place, e in edits.items() if place is None or file.startswith(place)), None)
         for _ in range(12):
-            fresh = [x for x in v.errors if not FOLLOWS.search(x.text) and x.file not in misfits and (x.file in edits or None in edits)]
+            fresh = [x for x in v.errors if not FOLLOWS.search(x.text) and x.file not in misfits and edit(x.file)]
             if not fresh:
                 break
             for file in {x.file for x in fresh}:
                 refused = [x for x in fresh if x.file == file]
                 errors[file] += refused
                 text = texts.get(file) or (self.prover.root / "crates" / crate / file).read_text()
-                texts[file] = None if any(FORM.match(x.text) for x in refused) else opened(text, refused)
+                fits = not file.endswith("/Invariants.antt") and not any(FORM.match(x.text) for x in refused)
+                texts[file] = opened(text, refused) if fits else None
                 if texts[file] is None:
                     misfits.add(file)
-            self.prover.put(crate, [e for file, e in edits.items() if file not in misfits and e.crate == crate])
+            lost = [edit(file) for file in misfits]
+            self.prover.put(crate, [e for place, e in edits.items() if (place is None or e not in lost) and e.crate == crate])
             for file, text in texts.items():
                 if text:
                     (folder / file).write_text(text)
@@ -144,7 +151,7 @@ class Trial:
         if e in self.done:
             return
         self.prover.put(e.crate, [e])
-        for crate in [e.crate, *users(e)]:  # a crate that names it may be the first to say something of it
+        for crate in [e.crate, *users(e)]:  # a crate above may be the first to say something of it
             v = self.prover.run(crate)
             if not v.proved:
                 break
@@ -156,25 +163,32 @@ class Trial:
         else:
             w, errors, misfits = self.left_open(crate, {None: e}, v)
             still = misfits | {x.file for x in w.errors if not FOLLOWS.search(x.text)}
-            fits = lambda f: f not in still and "depends on a hole" in w.functions.get(function_of(crate, f), "depends on a hole")
+            said = lambda f: w.functions.get(function_of(crate, f), "depends on a hole")
+            fits = lambda f: f not in still and ("depends on a hole" in said(f) or LEFT in said(f))
             goals = {f"{crate}/{f}: {d}": g for (f, d), g in w.goals.items() if fits(f)}
             facts = [f"{crate}/{x.file}: {x.declaration}" for xs in errors.values() for x in xs]
             facts += [f"{f}: {n}" for f, needs in v.unanswered.items() for n in needs]
             self.record(e, "fact" if goals or v.unanswered else "form", v, facts, refused[0].text if refused else "", goals)
-        if crate != e.crate:
-            self.prover.restore_all()
+        self.prover.restore(crate)
+        self.prover.restore(e.crate)
 
 
 def users(e):
-    """The crates above that name a definition."""
-    texts = lambda c: (p.read_text() for p in (ROOT / "crates" / c).rglob("*") if p.suffix in (".rt", ".antt"))
-    named = re.compile(rf"(?<![\w·]){re.escape(e.unit)}(?![\w·])")
-    return [c for c in in_order(libraries()) if c != e.crate and e.crate in stands_on()[c] and any(named.search(t) for t in texts(c))]
+    """The crates above that name a definition, and those between."""
+    texts = lambda c: (p.read_text() for p in sources(ROOT / "crates" / c))
+    named = re.compile(rf"(?<![\w◌]){re.escape(e.unit)}(?![\w◌])")
+    naming = [c for c in libraries() if c != e.crate and e.crate in in_order([c]) and any(named.search(t) for t in texts(c))]
+    return [c for c in in_order(naming) if c != e.crate and e.crate in in_order([c])]
+
+
+def sources(folder):
+    return [p for part in ("src", "specs", "proofs") for p in sorted((folder / part).rglob("*")) if p.suffix in (".rt", ".antt")]
 
 
 def stands_on():
     lines = (ROOT / "crates.txt").read_text().splitlines()
-    return {name: rest.split() for name, rest in (line.split(":") for line in lines if ":" in line)}
+    pairs = (line.split("#")[0].split(":") for line in lines if ":" in line.split("#")[0])
+    return {name.split()[0]: rest.split() for name, rest in pairs}  # `NAME staticlib: ..` of a static library
 
 
 def in_order(crates):
@@ -237,6 +251,7 @@ def main():
 
 def try_edits(a, crates, work):
     prover = Prover(ROOT, work, a.limit)
+    Path(a.out).parent.mkdir(parents=True, exist_ok=True)
     out = open(a.out, "a")
     done = {edit_of(row): row["outcome"] for row in outcomes(a.out)}
 
@@ -251,6 +266,7 @@ def try_edits(a, crates, work):
     trial = Trial(prover, record, done)
     chooser, defined = Chooser(code, a.seed), Chooser(definitions, a.seed)
     for c in crates:
+        prover.ready(c)
         for _ in range(a.rounds):
             if chooser.units(c):
                 trial.code(c, chooser)
