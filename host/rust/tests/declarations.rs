@@ -81,7 +81,7 @@ fn behind<'a>(tokens_of_text: &'a [&'a str], words: &str) -> Vec<&'a [&'a str]> 
 
 fn rattle(text: &str) -> Read<Declared> {
     let tokens = tokens(text);
-    let declared = behind(&tokens, r#"#[no_mangle] pub extern "C" fn"#);
+    let declared = behind(&tokens, r#"#[unsafe(no_mangle)] pub extern "C" fn"#);
     let functions = declared.into_iter().map(|d| function(d, true));
     functions.chain(structs(&tokens)).collect()
 }
@@ -294,6 +294,19 @@ fn the_declarations_agree() {
     assert_eq!(faults(&texts()), [""; 0]);
 }
 
+/// The static library exports the functions of `thumb_layout`.
+#[test]
+fn the_static_library_exports_them() {
+    let of = |folder| {
+        let mut declared = rattle(&files(folder, "rt")).unwrap();
+        declared.retain(|_, typed| typed[0].0 != "struct");
+        declared
+    };
+    let exports = of("crates/thumb_layout_c/src");
+    assert!(!exports.is_empty());
+    assert_eq!(exports, of("crates/thumb_layout/src"));
+}
+
 /// One change each: the text, what is replaced, by what.
 #[rustfmt::skip]
 const CHANGES: &[(usize, &str, &str)] = &[
@@ -360,7 +373,7 @@ const CHANGES: &[(usize, &str, &str)] = &[
     (RATTLE, "pub extern \"C\" fn tl_touch(", "pub fn tl_touch("),
     (HEADER, "int32_t tl_touch(", "// int32_t tl_touch("),
     (WRAPPER, "    fn tl_touch(", "    // fn tl_touch("),
-    (RATTLE, "\nfn minus(", "\n#[no_mangle]\npub extern \"C\" fn minus("),
+    (RATTLE, "\nfn minus(", "\n#[unsafe(no_mangle)]\npub extern \"C\" fn minus("),
     (HEADER, "int32_t tl_touch(", "void tl_none(void);\nint32_t tl_touch("),
     (WRAPPER, "    fn tl_touch(", "    fn tl_none();\n    fn tl_touch("),
     // a tracker that could not be written to
@@ -377,7 +390,7 @@ const CHANGES: &[(usize, &str, &str)] = &[
     (RATTLE, "pub fingers: [Finger; 10]", "pub fingers: [Finger; 9]"),
     (HEADER, "tl_finger fingers[10];", "tl_finger fingers[9];"),
     (WRAPPER, "pub fingers: [Finger; 10]", "pub fingers: [Finger; 9]"),
-    (RATTLE, "#[repr(C)]\npub struct Masks", "pub struct Masks"),
+    (RATTLE, "#[repr(C)]\n#[derive(Clone, Copy)]\npub struct Masks", "pub struct Masks"),
     (HEADER, "} tl_masks;", "} tl_two_masks;"),
     (WRAPPER, "#[repr(C)]\nstruct Masks", "struct Masks"),
     // what cannot be read
@@ -408,7 +421,7 @@ fn names_that_are_left_out_are_no_fault() {
 #[test]
 fn functions_over_structs() {
     let texts = [
-        "#[no_mangle]\npub extern \"C\" fn tl_lift(t: &mut Tracker, by: &OneFinger) -> Masks {}",
+        "#[unsafe(no_mangle)]\npub extern \"C\" fn tl_lift(t: &mut Tracker, by: &OneFinger) -> Masks {}",
         "tl_masks tl_lift(tl_tracker *t, const tl_one_finger *by);",
         "unsafe extern \"C\" { safe fn tl_lift(t: &mut Tracker, by: &OneFinger) -> Masks; }",
     ];
