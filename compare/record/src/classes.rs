@@ -7,7 +7,6 @@ use player::{
     Rect,
     access::{self, LayoutData, picture},
     order::{Answer, SHEET_TOO_SMALL, Settings},
-    tracker::{Act, Call},
 };
 use std::{collections::BTreeMap, fmt};
 
@@ -55,15 +54,6 @@ impl Tally {
             Err(_) => "refused by the reader",
         };
         self.add("written orders", name);
-    }
-    pub fn finger(&mut self, (act, ..): Call, answer: Answer<[u16; 2]>) {
-        let name = match (act, answer) {
-            (_, Err(refusal)) => format!("refusal {refusal}:"),
-            (Act::Press, Ok(_)) => "press".into(),
-            (Act::Move, Ok(_)) => "move".into(),
-            (Act::Lift, Ok(_)) => "lift".into(),
-        };
-        self.add("finger calls", name);
     }
     pub fn touch(&mut self, answer: Answer<u16>) {
         self.add("touches", answer.map_or("refused", pressed));

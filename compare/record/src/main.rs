@@ -7,7 +7,6 @@ mod functions;
 mod steps;
 
 use check::{
-    fingers::{self, Film},
     generate::{any_number, touch},
     orders,
     random::Random,
@@ -26,16 +25,11 @@ const ORDERS: usize = 600;
 const LONGEST: usize = 800;
 /// The last of them have edges at and next to halves of tenths, for their sheets.
 const EDGES: usize = 40;
-/// The seed of the fingers.
-const FINGERS: u64 = 78;
 
 /// Generated orders, each with its layout, its sheet, three touches, of every
-/// tenth a viewport, its settings written, and a finger's call: all calls are one
-/// run, on one layout after the other.
+/// tenth a viewport, and its settings written.
 fn orders() -> (List, Tally) {
     let r = &mut Random::new(SEED);
-    let f = &mut Random::new(FINGERS);
-    let mut last = [[0.; 2]; 10];
     let (mut list, mut tally) = (List::default(), Tally::default());
     let mut count = 0;
     while count < ORDERS {
@@ -73,12 +67,6 @@ fn orders() -> (List, Tally) {
             tally.add("viewports", answer.map_or("refused", |_| "accepted"));
         }
         tally.written(&order, list.written_in_turn(fill));
-        let film = Film::of(order.bytes);
-        let call @ (_, finger, at) = fingers::call(f, &film, &list.fingers, &last);
-        tally.finger(call, list.finger(call));
-        if let Some(last) = last.get_mut(usize::from(finger)) {
-            *last = at;
-        }
         count += 1;
     }
     (list, tally)
