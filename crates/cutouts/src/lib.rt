@@ -56,6 +56,7 @@ fn in_group(group: Group, i: usize) -> bool
     false
 }
 
+#[tactic(auto, using(crate::proofs::Groups::below_index, prelude::proofs::Loops::in_array, prelude::proofs::Loops::goes_on, prelude::proofs::Stores::put_rest))]
 fn members(elements: Elements, group: Group) -> [Rect; 4]
     requires { ((elements.count ≤ 19) × (group.count ≤ 4)) × BelowAll elements.count (group_list group) }
     ensures { take group.count result ≡ members_of (element_list elements) (group_list group) }
@@ -101,6 +102,7 @@ fn hits(original: [Rect; 4], m: usize, holes: Cutouts) -> bool
     false
 }
 
+#[tactic(auto, using(crate::proofs::Groups::below_index, prelude::proofs::Loops::in_array, prelude::proofs::Loops::runs_out))]
 fn shift_by(elements: Elements, group: Group, dx: f32, dy: f32) -> Elements
     requires { ((elements.count ≤ 19) × (group.count ≤ 4)) × BelowAll elements.count (group_list group) }
     ensures { (element_list result ≡ shift_by_of (element_list elements) (group_list group) dx dy) × (result.count ≡ elements.count) }

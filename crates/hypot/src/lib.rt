@@ -162,6 +162,7 @@ fn rounded(w: u64, f: u32) -> f32
 
 // `hypot` of two finite sides by their patterns, the larger first. If its exponent is 13 or more above the other's, the root exceeds it by less
 // than half of its last place.
+#[tactic(auto, using(crate::proofs::Ways::times_power_lt, crate::proofs::Ways::root_small, crate::proofs::Ways::far, float::proofs::Nan::no_nan_bits))]
 fn finite(p: u32, q: u32) -> f32
     requires q_le_p { q ≤ p }
     requires p_bound { p < 0x7f80_0000 }
@@ -178,6 +179,7 @@ fn finite(p: u32, q: u32) -> f32
 }
 
 // `hypot` in whole numbers: infinite if either side is, else NaN with NaN.
+#[tactic(auto, using(float::proofs::Nan::no_nan_bits, crate::proofs::Floats::inf_bits, crate::proofs::Cases::first_inf, crate::proofs::Cases::first_nan, crate::proofs::Cases::hypot_comm))]
 fn exact(a: f32, b: f32) -> f32
     ensures { result ≡ hypot_of a b }
 {
@@ -259,6 +261,7 @@ fn surely_nearest(t: f64, p: u64) -> bool
     }
 }
 
+#[tactic(auto, using(float::proofs::Nan::no_nan, float::proofs::Nan::no_nan_bits, crate::proofs::Midpoints::sure_is_nearest))]
 pub fn hypot(a: f32, b: f32) -> f32
     ensures { result ≡ hypot_of a b }
 {

@@ -220,6 +220,7 @@ pub fn cutouts_in_limits(c: Cutouts) -> bool
 }
 
 // The first fault of settings, in tag order, with mode and fit as the bytes that they came from; 0 for none.
+#[tactic(auto, unfolding(crate::specs::Settings::first_fault_of, crate::specs::Settings::tested_of, prelude::specs::Answer::must))]
 pub fn first_fault(mode: u8, fit: u8, s: Settings) -> u8
     ensures { result ≡ first_fault_of mode fit s }
 {

@@ -30,6 +30,7 @@ fn tenfold(x: f32) -> i64
 // The nearest whole number to ten times the exact x + w, halves upward: with a half, 2^34, it is rounded down.
 // Nothing is lost by adding tenfolds. A mantissa has 24 bits, so that a tenfold is rounded only below 2^-13: if one of the two is, rounding it down
 // and then the sum is rounding the sum down once; if both are, the sum is nearest to 0. Of numbers to 2^17 a tenfold is below 2^56.
+#[tactic(auto, using(crate::proofs::Machine::sum_fits, crate::proofs::Machine::more_fits, crate::proofs::Machine::whole_fits, crate::proofs::Patterns::few))]
 pub fn edge(x: f32, w: f32) -> i32
     requires { AtMost x limit × AtMost w limit }
     ensures { result ≡ tenths_of (value x +ℤ value w) }

@@ -115,6 +115,7 @@ fn outside(l: Layout, x: f32, y: f32) -> bool
 }
 
 // The touch lies in unused control space: none of the blockers holds it, asked in their order.
+#[tactic(auto, unfolding(crate::specs::Touch::is_free_of, prelude::specs::Lists::any_of), using(crate::proofs::Blockers::no_other))]
 fn is_free(l: Layout, x: f32, y: f32) -> bool
     requires { l.count ≤ 12 }
     ensures { result ≡ is_free_of l x y }

@@ -1,34 +1,12 @@
 -- What is stored, and behind it the rectangles at the indices that are left; each index is below the count of the elements.
-use Prim.Native.Nat.{◌<◌}
 use mathlib.Core.List.{append-nil}
-use mathlib.Core.Path.{refl, ap, sym, ◌∙◌, ◌≡◌}
-use lib.ListN.{take, get_or, length-set}
-use Rattle.prelude.proofs.Loops.{in_array, goes_on, runs_out}
-use Rattle.prelude.proofs.Stores.{put_rest}
+use mathlib.Core.Path.{ap, ◌∙◌, ◌≡◌}
+use lib.ListN.{take}
+use Rattle.prelude.proofs.Loops.{runs_out}
 use Rattle.cutouts.specs.Cutouts.{group_list}
-use Rattle.cutouts.proofs.Groups.{members_first, below_index}
+use Rattle.cutouts.proofs.Groups.{members_first}
 use native.Mathlib.Omega.{arith}
 use Rattle.cutouts.proofs.members.Goals as goal
-
-pub loop-k-init : goal.loop-k-init
-loop-k-init c = (refl, search (in_array, arith))
-
-pub offset_bounds-el-i : goal.offset_bounds-el-i
-offset_bounds-el-i c =
-    let index_below : get_or c.args.group.at c.loop-k.k 0 < c.args.elements.count = let l = c.loop-k in
-    below_index _ _ _ l.k c.requires.1 l.invariant.1.size c.loop-k-test.true in
-    omega (arith, index_below)
-
-pub bounds-el-i : goal.bounds-el-i
-bounds-el-i c =
-    let index_below : get_or c.args.group.at c.loop-k.k 0 < c.args.elements.count = let l = c.loop-k in
-    below_index _ _ _ l.k c.requires.1 l.invariant.1.size c.loop-k-test.true in
-    omega (arith, index_below)
-
-pub loop-k-preserved : goal.loop-k-preserved
-loop-k-preserved c =
-    let l = c.loop-k in
-    (rw length-set l.invariant.0, goes_on 0 l.invariant.1 c.loop-k-test.true (sym (put_rest l.out l.k _ _ (omega arith))))
 
 pub returns : goal.returns
 returns c =

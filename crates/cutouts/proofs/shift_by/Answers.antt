@@ -1,49 +1,16 @@
 -- The elements so far, and then the group's indices that are left; each index is below the count of the elements.
 use Prim.Native.Nat.{◌<◌}
 use mathlib.Core.List.{foldl}
-use mathlib.Core.Path.{refl}
 use lib.ListN.{get_or, length-set}
-use Rattle.prelude.proofs.Loops.{in_array, sized, goes_on, runs_out}
+use Rattle.prelude.proofs.Loops.{goes_on}
 use Rattle.geometry.specs.Rect.{shifted_of}
 use Rattle.cutouts.proofs.Groups.{below_index, put_first}
-use native.Mathlib.Omega.{arith}
 use Rattle.cutouts.proofs.shift_by.Goals as goal
-
-pub loop-k-init : goal.loop-k-init
-loop-k-init c = (search sized, search (in_array, arith))
-
-pub offset_bounds-old-i : goal.offset_bounds-old-i
-offset_bounds-old-i c =
-    let index_below : get_or c.args.group.at c.loop-k.k 0 < c.args.elements.count = let l = c.loop-k in
-    below_index _ _ _ l.k c.requires.1 l.invariant.1.size c.loop-k-test.true in
-    omega (arith, index_below)
-
-pub bounds-old-i : goal.bounds-old-i
-bounds-old-i c =
-    let index_below : get_or c.args.group.at c.loop-k.k 0 < c.args.elements.count = let l = c.loop-k in
-    below_index _ _ _ l.k c.requires.1 l.invariant.1.size c.loop-k-test.true in
-    omega (arith, index_below)
-
-pub offset_bounds-el-i : goal.offset_bounds-el-i
-offset_bounds-el-i c =
-    let index_below : get_or c.args.group.at c.loop-k.k 0 < c.args.elements.count = let l = c.loop-k in
-    below_index _ _ _ l.k c.requires.1 l.invariant.1.size c.loop-k-test.true in
-    omega (arith, index_below)
-
-pub bounds-el-i : goal.bounds-el-i
-bounds-el-i c =
-    let index_below : get_or c.args.group.at c.loop-k.k 0 < c.args.elements.count = let l = c.loop-k in
-    below_index _ _ _ l.k c.requires.1 l.invariant.1.size c.loop-k-test.true in
-    omega (arith, index_below, c.loop-k.invariant.0)
 
 pub loop-k-preserved : goal.loop-k-preserved
 loop-k-preserved c =
-    let index_below : get_or c.args.group.at c.loop-k.k 0 < c.args.elements.count = let l = c.loop-k in
-    below_index _ _ _ l.k c.requires.1 l.invariant.1.size c.loop-k-test.true in
     let a = c.args in
     let l = c.loop-k in
+    let index_below : get_or a.group.at l.k 0 < a.elements.count = below_index _ _ _ l.k c.requires.1 l.invariant.1.size c.loop-k-test.true in
     let put = put_first (λ r. shifted_of r a.dx a.dy) a.elements.at l.el a.elements.count _ c.shifted.result index_below c.shifted.ensures in
     (rw length-set l.invariant.0, goes_on 0 l.invariant.1 c.loop-k-test.true (rw (put, foldl)))
-
-pub returns : goal.returns
-returns c = (runs_out c.loop-k.invariant.1 c.loop-k-test.false, refl)

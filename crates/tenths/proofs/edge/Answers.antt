@@ -5,27 +5,9 @@ use borrow.Author.Rules.{rules}
 use lib.Dec.{lit≤}
 use Rattle.tenths.proofs.Floors.{Small}
 use Rattle.tenths.proofs.TenthsLaws.{tenths_sum}
-use Rattle.tenths.proofs.Machine.{sum_fits, more_fits, whole_fits, narrowed}
+use Rattle.tenths.proofs.Machine.{narrowed}
 use Rattle.tenths.proofs.Patterns.{grain, few}
 use Rattle.tenths.proofs.edge.Goals as goal
-
-pub overflow_add-result : goal.overflow_add-result
-overflow_add-result c =
-    let left : Small (2 ^ 56) c.tenfold.result = rw c.tenfold.ensures (few _ (search rules) c.requires.0) in
-    let right : Small (2 ^ 56) c.tenfold-2.result = rw c.tenfold-2.ensures (few _ (search rules) c.requires.1) in
-    sum_fits _ _ left right
-
-pub overflow_add-result-2 : goal.overflow_add-result-2
-overflow_add-result-2 c =
-    let left : Small (2 ^ 56) c.tenfold.result = rw c.tenfold.ensures (few _ (search rules) c.requires.0) in
-    let right : Small (2 ^ 56) c.tenfold-2.result = rw c.tenfold-2.ensures (few _ (search rules) c.requires.1) in
-    more_fits _ _ left right _ (lit≤ tt)
-
-pub overflow_cast-result : goal.overflow_cast-result
-overflow_cast-result c =
-    let left : Small (2 ^ 56) c.tenfold.result = rw c.tenfold.ensures (few _ (search rules) c.requires.0) in
-    let right : Small (2 ^ 56) c.tenfold-2.result = rw c.tenfold-2.ensures (few _ (search rules) c.requires.1) in
-    whole_fits _ _ left right _ (lit≤ tt)
 
 pub returns : goal.returns
 returns c =
