@@ -1,6 +1,5 @@
 -- Each step's layout has the labels of its mode, and so few counts; with every call replaced by its definition this is `laid_out_of`.
 use mathlib.Core.Path.{◌≡◌}
-use mathlib.Core.Bool.{cond}
 use Prim.Native.Nat.{◌≤◌}
 use lib.Dec.{T}
 use lib.Ieee.{le}
@@ -16,14 +15,14 @@ use Rattle.search.specs.Search.{place_game_in_aspect_of}
 use Rattle.settings.specs.declared.Preset.{Preset}
 use Rattle.toolbar.specs.Toolbar.{anchor_toolbar_of}
 use Rattle.cutouts.proofs.CutoutLabels.{avoid_mode}
-use Rattle.landscape.specs.Landscape.{fit_landscape_controls_of}
+use Rattle.arrangement_choice.specs.Choice.{first_of, area_of}
 use Rattle.arrangement_choice.proofs.Keys.{first_area}
 use Rattle.arrangement_choice.proofs.ChoiceLabels.{arrangement_mode}
 use Rattle.preset.proofs.PresetLabels.{saved_mode}
-use Rattle.preset.specs.Preset.{settled_of, analog_of, row_allowed_of, laid_out_of}
+use Rattle.preset.specs.Preset.{settled_of, analog_of, laid_out_of}
 use borrow.Author.Rules.{rules}
 use Rattle.preset.proofs.laid_out.Goals as goal
-use Rattle.preset.proofs.laid_out.Goals.{After-with_saved-restored, After-avoid_cutouts-clear, After-anchor_toolbar-elements, After-place_game_in_aspect-placed}
+use Rattle.preset.proofs.laid_out.Goals.{After-with_saved-restored, After-avoid_cutouts-clear, After-anchor_toolbar-elements, After-area-area}
 
 -- ---- each layout has the labels of its mode
 abbrev Mode : Preset → Layout → Type 0
@@ -80,34 +79,14 @@ fit_landscape_controls-requires c =
     let p = c.args.p in
     few (analog_of p) p.psp c.place_game_in_aspect-placed.result mode
 
--- ---- the game placed, and where the row is allowed its controls fitted
-game_placed :
-    (c : After-place_game_in_aspect-placed) →
-    let a = c.args in
-    let l = c.place_game_in_aspect-placed.result in
-    laid_out_of a.p a.w a.h (cutout_list a.cutouts) a.picture
-    ≡ cond (row_allowed_of a.p (cutout_list a.cutouts)) (fit_landscape_controls_of l a.w a.h c.area-area.result c.aspect-shape.result) l
-unfolding laid_out_of settled_of
-game_placed c =
-    let a = c.args in
-    let area = first_area a.w a.h (cutout_list a.cutouts) a.picture a.p.analog a.p.psp c.is_maximum-maximum.result c.area-area.ensures in
-    rw (
-      ← c.picture_fit.ensures,
-      ← c.is_maximum-maximum.ensures,
-      ← c.plain-plain.ensures,
-      ← area,
-      ← c.arrangement-layout.ensures,
-      ← c.with_saved-restored.ensures,
-      ← c.avoid_cutouts-clear.ensures,
-      ← c.reusable_top.ensures,
-      ← c.anchor_toolbar-elements.ensures,
-      ← c.aspect-shape.ensures,
-      ← c.place_game_in_aspect-placed.ensures,
-    )
+-- ---- the area over every layout is that over the layout at first
+area : (c : After-area-area) → let a = c.args in c.area-area.result ≡ area_of (first_of a.p.analog a.p.psp c.is_maximum-maximum.result a.w a.h (cutout_list a.cutouts) a.picture) c.is_maximum-maximum.result a.picture
+area c = let a = c.args in first_area a.w a.h (cutout_list a.cutouts) a.picture a.p.analog a.p.psp c.is_maximum-maximum.result c.area-area.ensures
 
 pub returns-then-row_allowed : goal.returns-then-row_allowed
-returns-then-row_allowed c =
-    rw (game_placed (goal.at.returns-then-row_allowed c).After-place_game_in_aspect-placed, ← c.row_allowed.ensures, c.if-row_allowed.true) c.fit_landscape_controls.ensures
+unfolding laid_out_of settled_of
+returns-then-row_allowed c = let e = area (goal.at.returns-then-row_allowed c).After-area-area in search rules
 
 pub returns : goal.returns
-returns c = rw (game_placed (goal.at.returns c).After-place_game_in_aspect-placed, ← c.row_allowed.ensures, c.if-row_allowed.false)
+unfolding laid_out_of settled_of
+returns c = let e = area (goal.at.returns c).After-area-area in search rules
