@@ -76,6 +76,7 @@ fn rails_win(candidate: Layout, layout: Layout) -> bool
 }
 
 // The rails, or the layout as it was compared with them.
+#[tactic(auto, unfolding(crate::specs::Choice::try_rails_of))]
 fn try_rails(layout: Layout, psp: bool, w: f32, h: f32, cutouts: Cutouts, area: Rect) -> Layout
     requires { (cutouts.count ≤ 16) × OfMode true psp layout }
     ensures { result ≡ try_rails_of layout psp w h (cutout_list cutouts) area }

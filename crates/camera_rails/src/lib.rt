@@ -133,6 +133,7 @@ fn anchored_rails(
 }
 
 // The layout beside `some: false` is left open, but for its counts.
+#[tactic(auto, unfolding(crate::specs::CameraRails::analog_camera_rails_of))]
 pub fn analog_camera_rails(
     w: f32,
     h: f32,

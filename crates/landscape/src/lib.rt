@@ -124,6 +124,7 @@ fn with_key_row(l: Layout, row: KeyRow) -> Layout
 }
 
 // The row is kept only if it makes the game wider.
+#[tactic(auto, unfolding(crate::specs::Landscape::fit_landscape_controls_of))]
 pub fn fit_landscape_controls(l: Layout, w: f32, h: f32, picture: Rect, aspect: f32) -> Layout
     requires { Few l }
     ensures { result ≡ fit_landscape_controls_of l w h picture aspect }

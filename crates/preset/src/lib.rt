@@ -87,6 +87,7 @@ pub fn layout_with_cutouts(p: Preset, w: f32, h: f32, cutouts: Cutouts) -> Layou
 }
 
 // `PlayerViewport::layout`.
+#[tactic(auto, unfolding(crate::specs::Preset::viewport_layout_of))]
 pub fn viewport_layout(
     p: Preset,
     w: f32,

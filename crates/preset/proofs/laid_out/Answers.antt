@@ -1,6 +1,5 @@
 -- Each step's layout has the labels of its mode, and so few counts; with every call replaced by its definition this is `laid_out_of`.
 use mathlib.Core.Path.{◌≡◌}
-use mathlib.Core.Bool.{cond}
 use Prim.Native.Nat.{◌≤◌}
 use lib.Dec.{T}
 use lib.Ieee.{le}
@@ -16,112 +15,78 @@ use Rattle.search.specs.Search.{place_game_in_aspect_of}
 use Rattle.settings.specs.declared.Preset.{Preset}
 use Rattle.toolbar.specs.Toolbar.{anchor_toolbar_of}
 use Rattle.cutouts.proofs.CutoutLabels.{avoid_mode}
-use Rattle.landscape.specs.Landscape.{fit_landscape_controls_of}
+use Rattle.arrangement_choice.specs.Choice.{first_of, area_of}
 use Rattle.arrangement_choice.proofs.Keys.{first_area}
 use Rattle.arrangement_choice.proofs.ChoiceLabels.{arrangement_mode}
 use Rattle.preset.proofs.PresetLabels.{saved_mode}
-use Rattle.preset.specs.Preset.{settled_of, analog_of, row_allowed_of, laid_out_of}
+use Rattle.preset.specs.Preset.{settled_of, analog_of, laid_out_of}
 use borrow.Author.Rules.{rules}
 use Rattle.preset.proofs.laid_out.Goals as goal
+use Rattle.preset.proofs.laid_out.Goals.{After-with_saved-restored, After-avoid_cutouts-clear, After-anchor_toolbar-elements, After-area-area}
 
 -- ---- each layout has the labels of its mode
 abbrev Mode : Preset → Layout → Type 0
 Mode p l = OfMode (analog_of p) p.psp l
 
+restored : (c : After-with_saved-restored) → Mode c.args.p c.with_saved-restored.result
+restored c =
+    let p = c.args.p in
+    let arranged : Mode p c.arrangement-layout.result = rw c.arrangement-layout.ensures (arrangement_mode _ _ _ _ _ _ _ _ _) in
+    rw c.with_saved-restored.ensures (saved_mode (analog_of p) p.psp _ arranged _ _ _)
+
+cleared : (c : After-avoid_cutouts-clear) → Mode c.args.p c.avoid_cutouts-clear.result
+cleared c = let p = c.args.p in rw c.avoid_cutouts-clear.ensures (avoid_mode (analog_of p) p.psp _ (restored c.before) _ _ _)
+
+anchored : (c : After-anchor_toolbar-elements) → Mode c.args.p c.anchor_toolbar-elements.result
+unfolding anchor_toolbar_of
+anchored c = rw c.anchor_toolbar-elements.ensures (cleared c.before.before)
+
 -- ---- what the calls require
 pub with_saved-restored-requires : goal.with_saved-restored-requires
 with_saved-restored-requires c =
-    let arranged : Mode c.args.p c.arrangement-layout.result = rw c.arrangement-layout.ensures (arrangement_mode _ _ _ _ _ _ _ _ _) in
     let p = c.args.p in
+    let arranged : Mode p c.arrangement-layout.result = rw c.arrangement-layout.ensures (arrangement_mode _ _ _ _ _ _ _ _ _) in
     (c.requires.0, few (analog_of p) p.psp c.arrangement-layout.result arranged, c.requires.2, c.requires.3)
 
 pub avoid_cutouts-clear-requires : goal.avoid_cutouts-clear-requires
 avoid_cutouts-clear-requires c =
-    let arranged : Mode c.args.p c.arrangement-layout.result = rw c.arrangement-layout.ensures (arrangement_mode _ _ _ _ _ _ _ _ _) in
-    let restored : Mode c.args.p c.with_saved-restored.result = let p = c.args.p in rw c.with_saved-restored.ensures (saved_mode (analog_of p) p.psp _ arranged _ _ _) in
+    let mode = restored (goal.at.avoid_cutouts-clear-requires c).After-with_saved-restored in
     let p = c.args.p in
     let l = c.with_saved-restored.result in
-    let counts : Few l = few (analog_of p) p.psp l restored in
-    let faces : length (action_elements_of l) ≤ 4 = few_faces (analog_of p) p.psp l restored in
+    let counts : Few l = few (analog_of p) p.psp l mode in
+    let faces : length (action_elements_of l) ≤ 4 = few_faces (analog_of p) p.psp l mode in
     let holes = c.requires.1 in
     search rules
 
 pub anchor_toolbar-elements-requires : goal.anchor_toolbar-elements-requires
 anchor_toolbar-elements-requires c =
-    let arranged : Mode c.args.p c.arrangement-layout.result = rw c.arrangement-layout.ensures (arrangement_mode _ _ _ _ _ _ _ _ _) in
-    let restored : Mode c.args.p c.with_saved-restored.result = let p = c.args.p in rw c.with_saved-restored.ensures (saved_mode (analog_of p) p.psp _ arranged _ _ _) in
-    let cleared : Mode c.args.p c.avoid_cutouts-clear.result = let p = c.args.p in rw c.avoid_cutouts-clear.ensures (avoid_mode (analog_of p) p.psp _ restored _ _ _) in
     let p = c.args.p in
     let l = c.avoid_cutouts-clear.result in
-    let counts : Few l = few (analog_of p) p.psp l cleared in
+    let counts : Few l = few (analog_of p) p.psp l (cleared (goal.at.anchor_toolbar-elements-requires c).After-avoid_cutouts-clear) in
     let top : T (le k0 c.reusable_top.result) = rw c.reusable_top.ensures (zero_le_max _) in
     let holes = c.requires.1 in
     search rules
 
 pub place_game_in_aspect-placed-requires : goal.place_game_in_aspect-placed-requires
-unfolding anchor_toolbar_of
 place_game_in_aspect-placed-requires c =
-    let arranged : Mode c.args.p c.arrangement-layout.result = rw c.arrangement-layout.ensures (arrangement_mode _ _ _ _ _ _ _ _ _) in
-    let restored : Mode c.args.p c.with_saved-restored.result = let p = c.args.p in rw c.with_saved-restored.ensures (saved_mode (analog_of p) p.psp _ arranged _ _ _) in
-    let cleared : Mode c.args.p c.avoid_cutouts-clear.result = let p = c.args.p in rw c.avoid_cutouts-clear.ensures (avoid_mode (analog_of p) p.psp _ restored _ _ _) in
-    let anchored : Mode c.args.p c.anchor_toolbar-elements.result = rw c.anchor_toolbar-elements.ensures cleared in
     let p = c.args.p in
-    few (analog_of p) p.psp c.anchor_toolbar-elements.result anchored
-
-pub row_allowed-requires : goal.row_allowed-requires
-row_allowed-requires c = let p = c.requires in (p.0, p.1)
+    few (analog_of p) p.psp c.anchor_toolbar-elements.result (anchored (goal.at.place_game_in_aspect-placed-requires c).After-anchor_toolbar-elements)
 
 pub fit_landscape_controls-requires : goal.fit_landscape_controls-requires
-unfolding anchor_toolbar_of place_game_in_aspect_of
+unfolding place_game_in_aspect_of
 fit_landscape_controls-requires c =
-    let arranged : Mode c.args.p c.arrangement-layout.result = rw c.arrangement-layout.ensures (arrangement_mode _ _ _ _ _ _ _ _ _) in
-    let restored : Mode c.args.p c.with_saved-restored.result = let p = c.args.p in rw c.with_saved-restored.ensures (saved_mode (analog_of p) p.psp _ arranged _ _ _) in
-    let cleared : Mode c.args.p c.avoid_cutouts-clear.result = let p = c.args.p in rw c.avoid_cutouts-clear.ensures (avoid_mode (analog_of p) p.psp _ restored _ _ _) in
-    let anchored : Mode c.args.p c.anchor_toolbar-elements.result = rw c.anchor_toolbar-elements.ensures cleared in
-    let placed : Mode c.args.p c.place_game_in_aspect-placed.result = rw c.place_game_in_aspect-placed.ensures anchored in
+    let mode : Mode c.args.p c.place_game_in_aspect-placed.result = rw c.place_game_in_aspect-placed.ensures (anchored (goal.at.fit_landscape_controls-requires c).After-anchor_toolbar-elements) in
     let p = c.args.p in
-    few (analog_of p) p.psp c.place_game_in_aspect-placed.result placed
+    few (analog_of p) p.psp c.place_game_in_aspect-placed.result mode
+
+-- ---- the area over every layout is that over the layout at first
+area : (c : After-area-area) → let a = c.args in c.area-area.result ≡ area_of (first_of a.p.analog a.p.psp c.is_maximum-maximum.result a.w a.h (cutout_list a.cutouts) a.picture) c.is_maximum-maximum.result a.picture
+area c = let a = c.args in first_area a.w a.h (cutout_list a.cutouts) a.picture a.p.analog a.p.psp c.is_maximum-maximum.result c.area-area.ensures
 
 pub returns-then-row_allowed : goal.returns-then-row_allowed
 unfolding laid_out_of settled_of
-returns-then-row_allowed c =
-    let game_placed : let a = c.args in let l = c.place_game_in_aspect-placed.result in
-    laid_out_of a.p a.w a.h (cutout_list a.cutouts) a.picture
-    ≡ cond (row_allowed_of a.p (cutout_list a.cutouts)) (fit_landscape_controls_of l a.w a.h c.area-area.result c.aspect-shape.result) l = let a = c.args in
-    let area = first_area a.w a.h (cutout_list a.cutouts) a.picture a.p.analog a.p.psp c.is_maximum-maximum.result c.area-area.ensures in
-    rw (
-      ← c.picture_fit.ensures,
-      ← c.is_maximum-maximum.ensures,
-      ← c.plain-plain.ensures,
-      ← area,
-      ← c.arrangement-layout.ensures,
-      ← c.with_saved-restored.ensures,
-      ← c.avoid_cutouts-clear.ensures,
-      ← c.reusable_top.ensures,
-      ← c.anchor_toolbar-elements.ensures,
-      ← c.aspect-shape.ensures,
-      ← c.place_game_in_aspect-placed.ensures,
-    ) in
-    rw (game_placed, ← c.row_allowed.ensures, c.if-row_allowed.true) c.fit_landscape_controls.ensures
+returns-then-row_allowed c = let e = area (goal.at.returns-then-row_allowed c).After-area-area in search rules
 
 pub returns : goal.returns
 unfolding laid_out_of settled_of
-returns c =
-    let game_placed : let a = c.args in let l = c.place_game_in_aspect-placed.result in
-    laid_out_of a.p a.w a.h (cutout_list a.cutouts) a.picture
-    ≡ cond (row_allowed_of a.p (cutout_list a.cutouts)) (fit_landscape_controls_of l a.w a.h c.area-area.result c.aspect-shape.result) l = let a = c.args in
-    let area = first_area a.w a.h (cutout_list a.cutouts) a.picture a.p.analog a.p.psp c.is_maximum-maximum.result c.area-area.ensures in
-    rw (
-      ← c.picture_fit.ensures,
-      ← c.is_maximum-maximum.ensures,
-      ← c.plain-plain.ensures,
-      ← area,
-      ← c.arrangement-layout.ensures,
-      ← c.with_saved-restored.ensures,
-      ← c.avoid_cutouts-clear.ensures,
-      ← c.reusable_top.ensures,
-      ← c.anchor_toolbar-elements.ensures,
-      ← c.aspect-shape.ensures,
-      ← c.place_game_in_aspect-placed.ensures,
-    ) in
-    rw (game_placed, ← c.row_allowed.ensures, c.if-row_allowed.false)
+returns c = let e = area (goal.at.returns c).After-area-area in search rules
