@@ -7,7 +7,6 @@ use Prim.Native.Nat.{◌+◌}
 use lib.ListN.{length}
 use lib.Seq.{length-take-le}
 use Rattle.prelude.proofs.Loops.{in_array}
-use Rattle.prelude.proofs.Stores.{length_stored}
 use Rattle.layout.specs.Layout.{cutout_list}
 use Rattle.settings.specs.Settings.{saved_list}
 use Rattle.order_writer.specs.OrderBytes.{writable_of, rects_length, last_fields}
@@ -31,12 +30,12 @@ put_place-place_end-requires c =
 pub put_cutouts-cutouts_end-requires : goal.put_cutouts-cutouts_end-requires
 put_cutouts-cutouts_end-requires c =
     let lengths = long (goal.at.put_cutouts-cutouts_end-requires c).After-untouched in
-    (c.requires.1, grind (arith, length_stored))
+    (c.requires.1, grind arith)
 
 pub put_saved-requires : goal.put_saved-requires
 put_saved-requires c =
     let lengths = long (goal.at.put_saved-requires c).After-untouched in
-    (c.requires.0, grind (arith, length_stored))
+    (c.requires.0, grind arith)
 
 pub returns : goal.returns
 returns c =

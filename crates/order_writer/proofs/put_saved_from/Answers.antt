@@ -15,11 +15,8 @@ use Rattle.wire.proofs.Items.{length_rect, length_items, puts}
 use Rattle.order_writer.specs.Numbers.{rects_in}
 use Rattle.order_writer.specs.OrderBytes.{writable_of}
 use Rattle.order_writer.proofs.Fields.{put_in, flat_map_map}
-use Rattle.order_writer.proofs.NumbersLaws.{length_written, length_rects, rects_at, begun}
+use Rattle.order_writer.proofs.NumbersLaws.{length_written, length_rects, rects_at}
 use Rattle.order_writer.proofs.put_saved_from.Goals as goal
-
-pub loop-i-init : goal.loop-i-init
-loop-i-init c = begun (λ r. rect_bytes (writable_of r)) _ _ _
 
 pub loop-i-preserved : goal.loop-i-preserved
 loop-i-preserved c =
