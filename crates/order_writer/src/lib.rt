@@ -260,6 +260,7 @@ fn put_first(out: &mut [u8], s: Settings) -> usize
 }
 
 // Tags 5 to 7.
+#[tactic(auto, using(crate::proofs::Runs::last_length, crate::proofs::Runs::last_run, crate::proofs::Replaced::counted, crate::proofs::Replaced::cutouts_counted))]
 fn put_last(out: &mut [u8], at: usize, preset: Preset, cutouts: Cutouts)
     requires { (preset.count ≤ 32) × (cutouts.count ≤ 16) × (at + length (last_fields preset (cutout_list cutouts) (map writable_of (saved_list preset))) ≤ length out.old) }
     ensures { out.new ≡ stored out.old at (last_fields preset (cutout_list cutouts) (map writable_of (saved_list preset))) }
