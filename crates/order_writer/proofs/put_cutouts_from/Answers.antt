@@ -1,19 +1,16 @@
 -- Left out, or a head and behind it one rectangle a turn, each where the one before it ended.
-use borrow.Author.Tests.{ne_eqb}
 use native.Mathlib.Omega.{arith}
-use mathlib.Core.Bool.{false}
-use mathlib.Core.Path.{◌≡◌}
 use mathlib.Core.List.{flat_map}
 use Prim.Native.Nat.{◌/◌}
 use lib.ListN.{length}
 use lib.Seq.{take_all}
-use Rattle.prelude.specs.Lists.{is_empty, stored}
+use Rattle.prelude.specs.Lists.{stored}
 use Rattle.prelude.proofs.Loops.{runs_out}
 use Rattle.layout.specs.Layout.{any_rect}
 use Rattle.wire.specs.Wire.{rect_bytes}
-use Rattle.wire.proofs.Items.{length_rect, length_items, puts}
+use Rattle.wire.proofs.Items.{length_rect, puts}
 use Rattle.order_writer.specs.Numbers.{rects_in}
-use Rattle.order_writer.proofs.Fields.{put_in}
+use Rattle.order_writer.proofs.Fields.{put_rects}
 use Rattle.order_writer.proofs.NumbersLaws.{length_rects, rects_at}
 use Rattle.order_writer.proofs.put_cutouts_from.Goals as goal
 
@@ -25,12 +22,8 @@ loop-i-preserved c =
 pub returns-clause-output : goal.returns-clause-output
 unfolding flat_map stored
 returns-clause-output c =
-    let ended = c.loop-i in
     let a = c.args in
     let list = rects_in a.numbers.now in
-    let n = length a.numbers.now / 4 in
     let long = length_rects a.numbers.now in
-    let absent : is_empty list ≡ false = rw long (ne_eqb n 0 c.if-n-eq0.false) in
-    let items = rw (take_all n list (omega arith)) at (runs_out ended.invariant.rest c.loop-i-test.false) in
-    put_in (is_empty list) 6 (flat_map rect_bytes list) a.out.now a.at absent
-    (rw (length_items rect_bytes 16 length_rect list, long) c.put_field_head.ensures) items
+    let items = rw (take_all (length a.numbers.now / 4) list (omega arith)) at (runs_out c.loop-i.invariant.rest c.loop-i-test.false) in
+    put_rects 6 list a.out.now a.at long c.if-n-eq0.false c.put_field_head.ensures items
