@@ -60,6 +60,7 @@ fn put_digits(out: &mut [u8], at: usize, n: u32) -> usize
     last + 1
 }
 
+#[tactic(auto, using(crate::proofs::Numbers::below_zero, crate::proofs::Numbers::not_below_zero, crate::proofs::Puts::put_length))]
 fn put_number(out: &mut [u8], at: usize, n: i32) -> usize
     requires { SixDigits n × (at + length (number_text n) ≤ length out.old) }
     ensures { (out.new, result) ≡ put_of out.old at (number_text n) }

@@ -40,9 +40,12 @@ all_writable [] e = refl
 all_writable (r ∷ l) e = let b = both _ _ e in rw (writable_f32 r b.0, all_writable l b.1)
 
 module _ (c : Cutouts) (h : c.count ≤ length c.at) where
+  pub cutouts_counted : length (cutout_list c) ≡ c.count
+  cutouts_counted = length-take-le c.count c.at h
+
   pub cutouts_listed : cutout_list (replaced_cutouts c) ≡ map plus_zero_rect (cutout_list c)
   unfolding replaced_cutouts
-  cutouts_listed = take_at (map plus_zero_rect (cutout_list c)) (replicate (16 - c.count) empty_rect) c.count (length-map (cutout_list c) plus_zero_rect ∙ length-take-le c.count c.at h)
+  cutouts_listed = take_at (map plus_zero_rect (cutout_list c)) (replicate (16 - c.count) empty_rect) c.count (length-map (cutout_list c) plus_zero_rect ∙ cutouts_counted)
 
 -- the saved rectangles as they are written, but for negative zeros
 abbrev pub listed : Preset → List Rect
@@ -117,5 +120,5 @@ module _ (s : Settings) where
         + (cond place 0 15 + (rects_length s.cutouts.count + rects_length s.preset.count))
     written_length a m f u =
         let p = s.preset in
-        let last = last_length p (cutout_list s.cutouts) (listed p) u (length-take-le s.cutouts.count s.cutouts.at fit-arrays.0) (counted p fit-arrays.1) in
+        let last = last_length p (cutout_list s.cutouts) (listed p) u (cutouts_counted s.cutouts fit-arrays.0) (counted p fit-arrays.1) in
         rw as_written (joined (first_fields s) (last_fields p (cutout_list s.cutouts) (listed p)) (first_length s a m f) last)

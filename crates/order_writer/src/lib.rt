@@ -78,6 +78,7 @@ fn put_byte(out: &mut [u8], at: usize, absent: u8, tag: u8, b: u8) -> usize
     at + 4
 }
 
+#[tactic(auto, using(crate::proofs::Fields::left_out))]
 fn put_place(out: &mut [u8], at: usize, absent: bool, scale: f32, offset: Offset) -> usize
     requires { at + cond absent 0 15 ≤ length out.old }
     ensures next { result ≡ at + cond absent 0 15 }
@@ -93,6 +94,7 @@ fn put_place(out: &mut [u8], at: usize, absent: bool, scale: f32, offset: Offset
     at + 15
 }
 
+#[tactic(auto, unfolding(prelude::specs::Lists::stored), using(wire::proofs::Items::puts, wire::proofs::Items::length_rect))]
 fn put_cutouts(out: &mut [u8], at: usize, c: Cutouts) -> usize
     requires { (c.count ≤ 16) × (at + rects_length c.count ≤ length out.old) }
     ensures next { result ≡ at + rects_length c.count }
@@ -111,6 +113,7 @@ fn put_cutouts(out: &mut [u8], at: usize, c: Cutouts) -> usize
     start + 16 * n
 }
 
+#[tactic(auto, unfolding(prelude::specs::Lists::stored))]
 fn put_saved(out: &mut [u8], at: usize, elements: [Rect; 32], n: usize)
     requires { (n ≤ 32) × (at + rects_length n ≤ length out.old) }
     ensures { out.new ≡ stored out.old at (rects_field 7 (map writable_of (take n elements))) }
@@ -171,6 +174,7 @@ fn put_writable_from(out: &mut [u8], at: usize, numbers: &[f32], i: usize)
 }
 
 // As `put_cutouts`.
+#[tactic(auto, unfolding(prelude::specs::Lists::stored), using(crate::proofs::NumbersLaws::length_rects))]
 fn put_cutouts_from(out: &mut [u8], at: usize, numbers: &[f32]) -> usize
     requires { (length numbers.now / 4 ≤ 16) × (at + rects_length (length numbers.now / 4) ≤ length out.old) }
     ensures next { result ≡ at + rects_length (length numbers.now / 4) }
@@ -189,6 +193,7 @@ fn put_cutouts_from(out: &mut [u8], at: usize, numbers: &[f32]) -> usize
 }
 
 // As `put_saved`.
+#[tactic(auto, unfolding(prelude::specs::Lists::stored), using(crate::proofs::NumbersLaws::length_rects, crate::proofs::NumbersLaws::length_written))]
 fn put_saved_from(out: &mut [u8], at: usize, numbers: &[f32])
     requires { (length numbers.now / 4 ≤ 32) × (at + rects_length (length numbers.now / 4) ≤ length out.old) }
     ensures { out.new ≡ stored out.old at (rects_field 7 (map writable_of (rects_in numbers.now))) }
@@ -237,6 +242,7 @@ fn order_length(s: Settings) -> usize
 }
 
 // Tags 1 to 4; gives where the next field goes.
+#[tactic(auto, using(crate::proofs::Runs::first_length, crate::proofs::Runs::first_run))]
 fn put_first(out: &mut [u8], s: Settings) -> usize
     requires { length (first_fields s) ≤ length out.old }
     ensures next { result ≡ length (first_fields s) }
@@ -254,6 +260,7 @@ fn put_first(out: &mut [u8], s: Settings) -> usize
 }
 
 // Tags 5 to 7.
+#[tactic(auto, using(crate::proofs::Runs::last_length, crate::proofs::Runs::last_run, crate::proofs::Replaced::counted, crate::proofs::Replaced::cutouts_counted))]
 fn put_last(out: &mut [u8], at: usize, preset: Preset, cutouts: Cutouts)
     requires { (preset.count ≤ 32) × (cutouts.count ≤ 16) × (at + length (last_fields preset (cutout_list cutouts) (map writable_of (saved_list preset))) ≤ length out.old) }
     ensures { out.new ≡ stored out.old at (last_fields preset (cutout_list cutouts) (map writable_of (saved_list preset))) }
@@ -314,6 +321,7 @@ fn settings_from(numbers: &[f32; 9], mode: u8, fit: u8) -> Settings
     }
 }
 
+#[tactic(auto, unfolding(crate::specs::Numbers::lists_fault_of, prelude::specs::Answer::must))]
 fn lists_fault(cutouts: &[f32], saved: &[f32]) -> u8
     ensures { result ≡ lists_fault_of cutouts.now saved.now }
 {
@@ -330,6 +338,7 @@ fn lists_fault(cutouts: &[f32], saved: &[f32]) -> u8
 }
 
 // Tags 5 to 7.
+#[tactic(auto, using(crate::proofs::Runs::last_length, crate::proofs::Runs::last_run, crate::proofs::NumbersLaws::length_rects, crate::proofs::NumbersLaws::length_written))]
 fn put_last_from(out: &mut [u8], at: usize, preset: Preset, cutouts: &[f32], saved: &[f32])
     requires { (length cutouts.now / 4 ≤ 16) × (length saved.now / 4 ≤ 32) × (at + length (last_fields preset (rects_in cutouts.now) (map writable_of (rects_in saved.now))) ≤ length out.old) }
     ensures { out.new ≡ stored out.old at (last_fields preset (rects_in cutouts.now) (map writable_of (rects_in saved.now))) }
@@ -342,6 +351,7 @@ fn put_last_from(out: &mut [u8], at: usize, preset: Preset, cutouts: &[f32], sav
 
 // As `write_order`. The numbers are the screen's w and h, the picture, scale and offset; mode and fit are the bytes of tags 3 and 4;
 // cutouts and saved are four numbers a rectangle, and what is no whole one at their end is passed over.
+#[tactic(auto, using(crate::proofs::FromNumbers::field_fault, crate::proofs::FromNumbers::list_fault, crate::proofs::FromNumbers::few_lists, crate::proofs::FromNumbers::no_list_fault, crate::proofs::FromNumbers::sum_of, crate::proofs::FromNumbers::parts_of, wire::proofs::Output::too_small, wire::proofs::Output::has_room))]
 pub fn write_numbers(
     numbers: &[f32; 9],
     mode: u8,

@@ -1,62 +1,29 @@
 -- Left out, or a head and behind it one rectangle a turn, each where the one before it ended.
-use borrow.Author.Tests.{ne_eqb}
 use native.Mathlib.Omega.{arith}
-use mathlib.Core.Bool.{false}
-use mathlib.Core.Path.{◌≡◌, refl, ap, ◌∙◌}
 use mathlib.Core.List.{flat_map}
-use Prim.Native.Nat.{◌+◌, ◌*◌, ◌/◌, ◌≤◌}
+use Prim.Native.Nat.{◌/◌}
 use lib.ListN.{length}
 use lib.Seq.{take_all}
-use Rattle.prelude.specs.Lists.{is_empty, stored}
+use Rattle.prelude.specs.Lists.{stored}
 use Rattle.prelude.proofs.Loops.{runs_out}
-use Rattle.prelude.proofs.Stores.{length_stored}
 use Rattle.layout.specs.Layout.{any_rect}
 use Rattle.wire.specs.Wire.{rect_bytes}
-use Rattle.wire.proofs.Items.{length_rect, length_items, puts}
+use Rattle.wire.proofs.Items.{length_rect, puts}
 use Rattle.order_writer.specs.Numbers.{rects_in}
-use Rattle.order_writer.proofs.Fields.{put_in}
-use Rattle.order_writer.proofs.NumbersLaws.{length_rects, rects_at, begun}
+use Rattle.order_writer.proofs.Fields.{put_rects}
+use Rattle.order_writer.proofs.NumbersLaws.{length_rects, rects_at}
 use Rattle.order_writer.proofs.put_cutouts_from.Goals as goal
 
-pub returns-then-n-eq0 : goal.returns-then-n-eq0
-unfolding flat_map stored
-returns-then-n-eq0 c = rw (length_rects _, c.if-n-eq0.true) (record { next = omega arith; output = refl })
-
-pub put_field_head-requires : goal.put_field_head-requires
-unfolding flat_map stored
-put_field_head-requires c =
-    let room : let a = c.args in a.at + (3 + 16 * (length a.numbers.now / 4)) ≤ length a.out.now = rw (ne_eqb _ 0 c.if-n-eq0.false) at c.requires.1 in
-    (omega arith, omega (arith, room))
-
-pub loop-i-init : goal.loop-i-init
-unfolding flat_map stored
-loop-i-init c = begun rect_bytes _ _ _
-
-pub put_rect_from-requires : goal.put_rect_from-requires
-put_rect_from-requires c =
-    let room : let a = c.args in a.at + (3 + 16 * (length a.numbers.now / 4)) ≤ length a.out.now = rw (ne_eqb _ 0 c.if-n-eq0.false) at c.requires.1 in
-    let longest : length c.put_field_head.new.out ≡ length c.args.out.now = ap length c.put_field_head.ensures ∙ length_stored _ _ _ in
-    let inside = c.loop-i-test.true in
-    (omega arith, omega (arith, c.loop-i.invariant.same, longest, room, inside))
-
 pub loop-i-preserved : goal.loop-i-preserved
-unfolding flat_map stored
 loop-i-preserved c =
     let inside = c.loop-i-test.true in
     puts rect_bytes 16 length_rect any_rect c.loop-i.invariant inside (rw (← rects_at _ _ inside) at c.put_rect_from.ensures)
 
-pub returns : goal.returns
+pub returns-clause-output : goal.returns-clause-output
 unfolding flat_map stored
-returns c =
-    let ended = c.loop-i in
+returns-clause-output c =
     let a = c.args in
     let list = rects_in a.numbers.now in
-    let n = length a.numbers.now / 4 in
-    let some = c.if-n-eq0.false in
     let long = length_rects a.numbers.now in
-    let absent : is_empty list ≡ false = rw long (ne_eqb n 0 some) in
-    let items = rw (take_all n list (omega arith)) at (runs_out ended.invariant.rest c.loop-i-test.false) in record {
-      next = rw (ne_eqb n 0 some) (omega arith);
-      output = put_in (is_empty list) 6 (flat_map rect_bytes list) a.out.now a.at absent
-          (rw (length_items rect_bytes 16 length_rect list, long) c.put_field_head.ensures) items;
-    }
+    let items = rw (take_all (length a.numbers.now / 4) list (omega arith)) at (runs_out c.loop-i.invariant.rest c.loop-i-test.false) in
+    put_rects 6 list a.out.now a.at long c.if-n-eq0.false c.put_field_head.ensures items

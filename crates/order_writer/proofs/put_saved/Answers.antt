@@ -1,45 +1,18 @@
 -- Left out, or a head and behind it one rectangle a turn, each where the one before it ended.
-use borrow.Author.Tests.{ne_eqb}
-use native.Mathlib.Nat.{add-zero}
-use native.Mathlib.Omega.{arith}
-use mathlib.Core.Bool.{false}
-use mathlib.Core.Path.{◌≡◌, refl, ap, ◌∙◌}
+use mathlib.Core.Path.{◌∙◌}
 use mathlib.Core.List.{flat_map, map}
-use Prim.Native.Nat.{◌+◌, ◌*◌, ◌≤◌}
-use lib.ListN.{length, take, length-map}
+use lib.ListN.{take, length-map}
 use lib.Seq.{length-take-le}
-use Rattle.prelude.specs.Lists.{is_empty, stored}
-use Rattle.prelude.proofs.Loops.{in_array, runs_out}
-use Rattle.prelude.proofs.Stores.{length_stored}
+use Rattle.prelude.specs.Lists.{stored}
+use Rattle.prelude.proofs.Loops.{runs_out}
 use Rattle.layout.specs.Layout.{any_rect}
 use Rattle.wire.specs.Wire.{rect_bytes}
-use Rattle.wire.proofs.Items.{length_rect, length_items, puts}
+use Rattle.wire.proofs.Items.{length_rect, puts}
 use Rattle.order_writer.specs.OrderBytes.{writable_of}
-use Rattle.order_writer.proofs.Fields.{put_in, flat_map_map}
+use Rattle.order_writer.proofs.Fields.{put_rects, flat_map_map}
 use Rattle.order_writer.proofs.put_saved.Goals as goal
 
-pub returns-then-n-eq0 : goal.returns-then-n-eq0
-unfolding flat_map stored
-returns-then-n-eq0 c = rw c.if-n-eq0.true
-
-pub put_field_head-requires : goal.put_field_head-requires
-unfolding flat_map stored
-put_field_head-requires c =
-    let room : let a = c.args in a.at + (3 + 16 * a.n) ≤ length a.out.now = rw (ne_eqb _ 0 c.if-n-eq0.false) at c.requires.1 in
-    (omega arith, omega (arith, room))
-
-pub loop-i-init : goal.loop-i-init
-unfolding flat_map stored
-loop-i-init c = record { same = refl; rest = rw add-zero (search (in_array, arith)) }
-
-pub put_rect-requires : goal.put_rect-requires
-put_rect-requires c =
-    let room : let a = c.args in a.at + (3 + 16 * a.n) ≤ length a.out.now = rw (ne_eqb _ 0 c.if-n-eq0.false) at c.requires.1 in
-    let longest : length c.put_field_head.new.out ≡ length c.args.out.now = ap length c.put_field_head.ensures ∙ length_stored _ _ _ in
-    omega (arith, c.loop-i.invariant.same, longest, room, c.loop-i-test.true)
-
 pub loop-i-preserved : goal.loop-i-preserved
-unfolding flat_map stored
 loop-i-preserved c =
     puts (λ r. rect_bytes (writable_of r)) 16 (λ r. length_rect (writable_of r)) any_rect c.loop-i.invariant c.loop-i-test.true
     (rw c.writable.ensures at c.put_rect.ensures)
@@ -47,12 +20,8 @@ loop-i-preserved c =
 pub returns : goal.returns
 unfolding flat_map stored
 returns c =
-    let ended = c.loop-i in
     let a = c.args in
-    let n = a.n in
-    let list = map writable_of (take n a.elements) in
-    let long : length list ≡ n = length-map (take n a.elements) writable_of ∙ length-take-le n a.elements ended.invariant.rest.size in
-    let absent : is_empty list ≡ false = rw long (ne_eqb n 0 c.if-n-eq0.false) in
-    let items = rw (flat_map_map writable_of rect_bytes (take n a.elements)) at (runs_out ended.invariant.rest c.loop-i-test.false) in
-    put_in (is_empty list) 7 (flat_map rect_bytes list) a.out.now a.at absent
-    (rw (length_items rect_bytes 16 length_rect list, long) c.put_field_head.ensures) items
+    let list = take a.n a.elements in
+    let rest = c.loop-i.invariant.rest in
+    let long = length-map list writable_of ∙ length-take-le a.n a.elements rest.size in
+    put_rects 7 (map writable_of list) a.out.now a.at long c.if-n-eq0.false c.put_field_head.ensures (rw (flat_map_map writable_of rect_bytes list) at (runs_out rest c.loop-i-test.false))

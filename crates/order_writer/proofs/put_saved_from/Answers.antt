@@ -1,47 +1,21 @@
 -- Left out, or a head and behind it one rectangle a turn, each where the one before it ended.
-use borrow.Author.Tests.{ne_eqb}
 use native.Mathlib.Omega.{arith}
-use mathlib.Core.Bool.{false}
-use mathlib.Core.Path.{◌≡◌, ap, ◌∙◌}
 use mathlib.Core.List.{flat_map, map}
-use Prim.Native.Nat.{◌+◌, ◌*◌, ◌/◌, ◌≤◌}
-use lib.ListN.{length, length-map}
+use Prim.Native.Nat.{◌/◌}
+use lib.ListN.{length}
 use lib.Seq.{take_all}
-use Rattle.prelude.specs.Lists.{is_empty, stored}
+use Rattle.prelude.specs.Lists.{stored}
 use Rattle.prelude.proofs.Loops.{runs_out}
-use Rattle.prelude.proofs.Stores.{length_stored}
 use Rattle.layout.specs.Layout.{any_rect}
 use Rattle.wire.specs.Wire.{rect_bytes}
-use Rattle.wire.proofs.Items.{length_rect, length_items, puts}
+use Rattle.wire.proofs.Items.{length_rect, puts}
 use Rattle.order_writer.specs.Numbers.{rects_in}
 use Rattle.order_writer.specs.OrderBytes.{writable_of}
-use Rattle.order_writer.proofs.Fields.{put_in, flat_map_map}
-use Rattle.order_writer.proofs.NumbersLaws.{length_rects, rects_at, begun}
+use Rattle.order_writer.proofs.Fields.{put_rects, flat_map_map}
+use Rattle.order_writer.proofs.NumbersLaws.{length_written, length_rects, rects_at}
 use Rattle.order_writer.proofs.put_saved_from.Goals as goal
 
-pub returns-then-n-eq0 : goal.returns-then-n-eq0
-unfolding flat_map stored
-returns-then-n-eq0 c = rw (length-map, length_rects _, c.if-n-eq0.true)
-
-pub put_field_head-requires : goal.put_field_head-requires
-unfolding flat_map stored
-put_field_head-requires c =
-    let room : let a = c.args in a.at + (3 + 16 * (length a.numbers.now / 4)) ≤ length a.out.now = rw (ne_eqb _ 0 c.if-n-eq0.false) at c.requires.1 in
-    (omega arith, omega (arith, room))
-
-pub loop-i-init : goal.loop-i-init
-unfolding flat_map stored
-loop-i-init c = begun (λ r. rect_bytes (writable_of r)) _ _ _
-
-pub put_writable_from-requires : goal.put_writable_from-requires
-put_writable_from-requires c =
-    let room : let a = c.args in a.at + (3 + 16 * (length a.numbers.now / 4)) ≤ length a.out.now = rw (ne_eqb _ 0 c.if-n-eq0.false) at c.requires.1 in
-    let longest : length c.put_field_head.new.out ≡ length c.args.out.now = ap length c.put_field_head.ensures ∙ length_stored _ _ _ in
-    let inside = c.loop-i-test.true in
-    (omega arith, omega (arith, c.loop-i.invariant.same, longest, room, inside))
-
 pub loop-i-preserved : goal.loop-i-preserved
-unfolding flat_map stored
 loop-i-preserved c =
     let inside = c.loop-i-test.true in
     let numbers = c.args.numbers.now in
@@ -51,14 +25,7 @@ loop-i-preserved c =
 pub returns : goal.returns
 unfolding flat_map stored
 returns c =
-    let ended = c.loop-i in
     let a = c.args in
-    let read = rects_in a.numbers.now in
-    let n = length a.numbers.now / 4 in
-    let size = length_rects a.numbers.now in
-    let list = map writable_of read in
-    let long : length list ≡ n = length-map read writable_of ∙ size in
-    let absent : is_empty list ≡ false = rw long (ne_eqb n 0 c.if-n-eq0.false) in
-    let items = rw (take_all n read (omega arith), flat_map_map writable_of rect_bytes read) at (runs_out ended.invariant.rest c.loop-i-test.false) in
-    put_in (is_empty list) 7 (flat_map rect_bytes list) a.out.now a.at absent
-    (rw (length_items rect_bytes 16 length_rect list, long) c.put_field_head.ensures) items
+    let list = rects_in a.numbers.now in
+    let items = rw (take_all (length a.numbers.now / 4) list (omega (arith, length_rects a.numbers.now)), flat_map_map writable_of rect_bytes list) at (runs_out c.loop-i.invariant.rest c.loop-i-test.false) in
+    put_rects 7 (map writable_of list) a.out.now a.at (length_written a.numbers.now) c.if-n-eq0.false c.put_field_head.ensures items
