@@ -1,28 +1,30 @@
 // The arrangements `arranged` and `side_rails` of input.rs.
 #![tactic(auto)]
 
-ghost use Rattle.std.specs.Prelude.{◌≡◌, ◌≤◌};
-ghost use Rattle.layout.specs.Layout.{cutout_list, Few};
+ghost use Rattle.std.specs.Prelude.{◌≡◌};
+ghost use Rattle.layout.specs.Layout.{Few};
 ghost use Rattle.arranged.specs.Arranged.{anchored_of, finished_of, dock_places_of, docked_of, arranged_of, rail_places_of, requested_of, give_way_of, cluster_of, side_rails_of};
 ghost use Rattle.arranged.specs.Controls.{rail_controls_of, side_controls_of};
 
 use float::{clamp, max, min, pick};
 use geometry::{CENTRED, EMPTY, Rect};
-use layout::{Cutouts, Layout, NO_CUTOUTS};
-use places::{Faces, Places, controller, place_faces, well_faces};
+use layout::Layout;
+use places::{Faces, Places, place_faces, standard_controller, well_faces};
 
 // What lies below the controls of rails and bands.
 pub const BOTTOM: f32 = 4.0;
 
 // The layout with the toolbar at its place.
+#[tactic(auto, unfolding(toolbar::specs::Toolbar::anchor_toolbar_of))]
 pub fn anchored(l: Layout, w: f32, h: f32) -> Layout
     requires { Few l }
     ensures { (result ≡ anchored_of l w h) × (result.count ≡ l.count) × (result.stickcount ≡ l.stickcount) }
 {
-    toolbar::anchor_toolbar(l, w, h, 0.0, 0.0, NO_CUTOUTS)
+    toolbar::anchor_toolbar(l, w, h, 0.0, 0.0, &[])
 }
 
 // And with the largest game that is clear of all elements.
+#[tactic(auto, unfolding(crate::specs::Arranged::finished_of, toolbar::specs::Toolbar::anchor_toolbar_of, search::specs::Search::place_game_in_aspect_of))]
 pub fn finished(l: Layout, w: f32, h: f32) -> Layout
     requires { Few l }
     ensures { (result ≡ finished_of l w h) × (result.count ≡ l.count) × (result.stickcount ≡ l.stickcount) }
@@ -32,6 +34,7 @@ pub fn finished(l: Layout, w: f32, h: f32) -> Layout
 
 // The faces, the shoulders and the system keys: the two loops of the Rust, a function of their own since `docked` would be
 // long with them.
+#[tactic(auto, unfolding(crate::specs::Arranged::dock_places_of))]
 fn dock_places(w: f32, h: f32, compact: bool, cluster: f32, dpad: Rect, faces: Faces) -> Places
     ensures { result ≡ dock_places_of w h compact cluster dpad faces }
 {
@@ -61,6 +64,7 @@ fn dock_places(w: f32, h: f32, compact: bool, cluster: f32, dpad: Rect, faces: F
 }
 
 // The controls of `arranged`. The toolbar and the game are left to whoever puts them in place.
+#[tactic(auto, unfolding(crate::specs::Arranged::docked_of))]
 pub fn docked(w: f32, h: f32, compact: bool) -> Layout
     ensures { (result ≡ docked_of w h compact) × (result.count ≡ 10) × (result.stickcount ≡ 0) }
 {
@@ -78,15 +82,17 @@ pub fn docked(w: f32, h: f32, compact: bool) -> Layout
     let vertical = (well_height - size) / 2.0;
     let faces = place_faces(fx, fy, offset, vertical, size);
     let places = dock_places(w, h, compact, cluster, dpad, faces);
-    controller(places, dpad, 10, [EMPTY; 2], 0)
+    standard_controller(places, dpad)
 }
 
+#[tactic(auto, using(crate::proofs::ControlLaws::arranged_finished))]
 pub fn arranged(w: f32, h: f32, compact: bool) -> Layout
     ensures { (result ≡ arranged_of w h compact) × (result.count ≡ 10) × (result.stickcount ≡ 0) }
 {
     finished(docked(w, h, compact), w, h)
 }
 
+#[tactic(auto, unfolding(crate::specs::Arranged::rail_places_of))]
 fn rail_places(w: f32, main_y: f32, cluster: f32) -> Places
     ensures { result ≡ rail_places_of w main_y cluster }
 {
@@ -116,14 +122,16 @@ fn rail_places(w: f32, main_y: f32, cluster: f32) -> Places
 }
 
 // The rails around wells of a width.
+#[tactic(auto, unfolding(crate::specs::Controls::rail_controls_of))]
 fn rail_controls(w: f32, h: f32, cluster: f32) -> Layout
     ensures { (result ≡ rail_controls_of w h cluster) × (result.count ≡ 10) × (result.stickcount ≡ 0) }
 {
     let main_y = h - BOTTOM - cluster;
     let dpad = Rect::new(16.0, main_y, cluster, cluster);
-    controller(rail_places(w, main_y, cluster), dpad, 10, [EMPTY; 2], 0)
+    standard_controller(rail_places(w, main_y, cluster), dpad)
 }
 
+#[tactic(auto, unfolding(crate::specs::Arranged::requested_of))]
 fn requested(w: f32, h: f32, picture_height: f32) -> f32
     ensures { result ≡ requested_of w h picture_height }
 {
@@ -132,38 +140,35 @@ fn requested(w: f32, h: f32, picture_height: f32) -> f32
 }
 
 // What one cutout leaves of the wells' width.
+#[tactic(auto, unfolding(crate::specs::Arranged::give_way_of))]
 fn give_way(w: f32, h: f32, requested: f32, cluster: f32, c: Rect) -> f32
     ensures { result ≡ give_way_of w h requested cluster c }
 {
     let y = h - BOTTOM - requested;
     let left = Rect::new(16.0, y, requested, requested);
     let right = Rect::new(w - 16.0 - requested, y, requested, requested);
-    if left.overlaps(c) | right.overlaps(c) {
-        return min(cluster, h - BOTTOM - c.y - c.h - 8.0);
+    if left.overlaps(c) || right.overlaps(c) {
+        min(cluster, h - BOTTOM - c.y - c.h - 8.0)
+    } else {
+        cluster
     }
-    cluster
 }
 
 // What all cutouts leave of it.
-fn cluster(w: f32, h: f32, picture_height: f32, cutouts: Cutouts) -> f32
-    requires { cutouts.count ≤ 16 }
-    ensures { result ≡ cluster_of w h picture_height (cutout_list cutouts) }
+#[tactic(auto, unfolding(crate::specs::Arranged::cluster_of))]
+fn cluster(w: f32, h: f32, picture_height: f32, cutouts: &[Rect]) -> f32
+    ensures { result ≡ cluster_of w h picture_height cutouts.now }
 {
-    let at = cutouts.at;
-    let count = cutouts.count;
     let requested = requested(w, h, picture_height);
-    let mut cluster = requested;
-    for i in 0..count {
-        let c = at[i];
-        cluster = give_way(w, h, requested, cluster, c);
-    }
-    cluster
+    cutouts.iter().fold(requested, |cluster, c| {
+        give_way(w, h, requested, cluster, *c)
+    })
 }
 
 // The controls of `side_rails`, without toolbar and game as in `docked`.
-pub fn side_controls(w: f32, h: f32, picture_height: f32, cutouts: Cutouts) -> Layout
-    requires { cutouts.count ≤ 16 }
-    ensures { (result ≡ side_controls_of w h picture_height (cutout_list cutouts)) × (result.count ≡ 10) × (result.stickcount ≡ 0) }
+#[tactic(auto, unfolding(crate::specs::Controls::side_controls_of))]
+pub fn side_controls(w: f32, h: f32, picture_height: f32, cutouts: &[Rect]) -> Layout
+    ensures { (result ≡ side_controls_of w h picture_height cutouts.now) × (result.count ≡ 10) × (result.stickcount ≡ 0) }
 {
     let cluster = cluster(w, h, picture_height, cutouts);
     if cluster < 122.0 {
@@ -172,9 +177,9 @@ pub fn side_controls(w: f32, h: f32, picture_height: f32, cutouts: Cutouts) -> L
     rail_controls(w, h, cluster)
 }
 
-pub fn side_rails(w: f32, h: f32, picture_height: f32, cutouts: Cutouts) -> Layout
-    requires { cutouts.count ≤ 16 }
-    ensures { (result ≡ side_rails_of w h picture_height (cutout_list cutouts)) × (result.count ≡ 10) × (result.stickcount ≡ 0) }
+#[tactic(auto, using(crate::proofs::ControlLaws::side_finished))]
+pub fn side_rails(w: f32, h: f32, picture_height: f32, cutouts: &[Rect]) -> Layout
+    ensures { (result ≡ side_rails_of w h picture_height cutouts.now) × (result.count ≡ 10) × (result.stickcount ≡ 0) }
 {
     finished(side_controls(w, h, picture_height, cutouts), w, h)
 }

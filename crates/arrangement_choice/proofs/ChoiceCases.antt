@@ -2,7 +2,7 @@
 use mathlib.Core.Path.{◌≡◌, refl}
 use mathlib.Core.Bool.{Bool, true, false, not}
 use mathlib.Core.List.{List}
-use mathlib.Core.Option.{Option, get_or}
+use Rattle.std.specs.Prelude.{Option, unwrap_or}
 use lib.Dec.{T}
 use lib.Ieee.{Float}
 use Rattle.prelude.proofs.Booleans.{either}
@@ -14,8 +14,8 @@ use Rattle.camera_rails.specs.CameraRails.{cleared_of, analog_camera_rails_of}
 use Rattle.arrangement_choice.specs.Choice.{rails_win_of, compared_of, try_rails_of, band_or_rails_of, area_of}
 
 module _ (C : Layout → Type 0) where
-  pub found_case : {l : Layout} (o : Option Layout) → C l → Given C o → C (get_or o l)
-  found_case {l} o p q = maybe_case (λ o. C (get_or o l)) o p q
+  pub found_case : {l : Layout} (o : Option Layout) → C l → Given C o → C (unwrap_or o l)
+  found_case {l} o p q = maybe_case (λ o. C (unwrap_or o l)) o p q
 
 module _ (psp : Bool) (w h : Float) (cutouts : List Rect) (area : Rect) where
   rails_case : (C : Layout → Type 0) (l : Layout) → C l → C (cleared_of l w h area cutouts psp) → Given C (analog_camera_rails_of w h area cutouts psp) → C (try_rails_of l psp w h cutouts area)

@@ -1,8 +1,6 @@
 -- The first steps of `Preset::layout_in` of input.rs: the layout at first, the area that the game gets and the arrangement for it.
-use Rattle.std.specs.Prelude.{Bool, cond, ◌&&◌, ◌||◌, Float, get_or}
+use Rattle.std.specs.Prelude.{Bool, cond, ◌&&◌, ◌||◌, Float, get_or, Option, Some, None, unwrap_or}
 use mathlib.Core.List.{List, [], ◌∷◌, map, foldl}
-use Rattle.std.proofs.Math.Option
-use Rattle.std.proofs.Math.Option.{Option, some, none}
 use Rattle.std.specs.Float.Ieee.{lt, le}
 use Rattle.float.specs.Float.{◌⊕◌, ◌⊖◌, k0, k0_01, k1}
 use Rattle.float.specs.MinMax.{min_of, max_of, abs_of}
@@ -45,7 +43,7 @@ largest_of area aspect =
 unfoldable pub around_of : Layout → Bool → Bool → Float → Float → List Rect → Rect → Layout
 around_of layout analog psp w h cutouts area =
     let game = largest_of area (aspect_of psp) in
-    Option.get_or (controls_of w h game analog psp cutouts) layout
+    unwrap_or (controls_of w h game analog psp cutouts) layout
 
 -- ---- KeepClear: a band below the picture, or rails beside it
 
@@ -60,8 +58,8 @@ rails_win_of candidate layout =
 
 -- the rails, or the layout as it was compared with them: clear of cutouts, its game placed
 abbrev pub compared_of : Layout → Layout → Option Layout → Layout
-compared_of layout clear none = layout
-compared_of layout clear (some candidate) = cond (rails_win_of candidate clear) candidate clear
+compared_of layout clear None = layout
+compared_of layout clear (Some candidate) = cond (rails_win_of candidate clear) candidate clear
 
 unfoldable pub try_rails_of : Layout → Bool → Float → Float → List Rect → Rect → Layout
 try_rails_of layout psp w h cutouts area =
@@ -70,7 +68,7 @@ try_rails_of layout psp w h cutouts area =
 -- The band, too, replaces the layout with no comparison.
 unfoldable pub band_or_rails_of : Layout → Bool → Bool → Float → Float → List Rect → Rect → Layout
 band_or_rails_of layout analog psp w h cutouts area =
-    let banded = Option.get_or (controller_band_of w h analog psp area) layout in
+    let banded = unwrap_or (controller_band_of w h analog psp area) layout in
     cond analog (try_rails_of banded psp w h cutouts area) banded
 
 -- ---- the steps

@@ -54,8 +54,8 @@ record BandIn (b : Band) : Type 0 where
   pub outer : In b.outer (at 8) (at 28)
   pub face : In b.face (at 122) (at 184)
   pub stick : In b.stick (at 122) (at 184)
-  pub digitalx : In b.digitalx (at 0) (at 256)
-  pub mainy : Coordinate b.mainy
+  pub digital_x : In b.digital_x (at 0) (at 256)
+  pub main_y : Coordinate b.main_y
   pub faces : FacesIn b.faces
 
 measured_in : {w h : Float} (analog : Bool) {room : Room} → In w (at 0) (at 8192) → In h (at 0) (at 8192) → RoomIn room → In room.face (at 122) (at 184) → BandIn (measure_band_of w h analog room)
@@ -73,8 +73,8 @@ measured_in analog {room} W H R face =
       outer = R.outer;
       face = face;
       stick = stick;
-      digitalx = x;
-      mainy = coordinate y tt;
+      digital_x = x;
+      main_y = coordinate y tt;
       faces = well_faces_in (coordinate (sub_in (sub_in W x tt) half tt) tt) (coordinate (add_in y half tt) tt) (in_more (at 122) (at 200) face tt tt);
     }
 
@@ -89,10 +89,10 @@ module _ {b : Band} (B : BandIn b) where
       let low = sub_in (sub_in B.h (lit 4) tt) (lit 80) tt in
       record {
         faces = B.faces;
-        l1 = placed_in x B.mainy (lit 64) (lit 64) tt;
-        l2 = placed_in (add_in x (lit 72) tt) B.mainy (lit 64) (lit 64) tt;
-        r1 = placed_in (sub_in right (lit 64) tt) B.mainy (lit 64) (lit 64) tt;
-        r2 = placed_in (sub_in right (lit 136) tt) B.mainy (lit 64) (lit 64) tt;
+        l1 = placed_in x B.main_y (lit 64) (lit 64) tt;
+        l2 = placed_in (add_in x (lit 72) tt) B.main_y (lit 64) (lit 64) tt;
+        r1 = placed_in (sub_in right (lit 64) tt) B.main_y (lit 64) (lit 64) tt;
+        r2 = placed_in (sub_in right (lit 136) tt) B.main_y (lit 64) (lit 64) tt;
         select = placed_in (sub_in half (lit 104) tt) low (lit 80) (lit 80) tt;
         start = placed_in (add_in half (lit 24) tt) low (lit 80) (lit 80) tt;
         l3 = empty_in;
@@ -102,15 +102,15 @@ module _ {b : Band} (B : BandIn b) where
   deep_in : PlacesIn (deep_places_of b)
   unfolding deep_places_of
   deep_in =
-      let right = sub_in B.w B.digitalx tt in
+      let right = sub_in B.w B.digital_x tt in
       let half = div_in B.w f2 tt in
       let low = sub_in (sub_in B.h (lit 4) tt) (lit 48) tt in
       let upper = sub_in low (lit 48) tt in
       record {
         faces = B.faces;
-        l1 = placed_in B.digitalx low (lit 48) (lit 48) tt;
-        l2 = placed_in (add_in B.digitalx (lit 56) tt) low (lit 48) (lit 48) tt;
-        l3 = placed_in (add_in B.digitalx (lit 112) tt) low (lit 48) (lit 48) tt;
+        l1 = placed_in B.digital_x low (lit 48) (lit 48) tt;
+        l2 = placed_in (add_in B.digital_x (lit 56) tt) low (lit 48) (lit 48) tt;
+        l3 = placed_in (add_in B.digital_x (lit 112) tt) low (lit 48) (lit 48) tt;
         r1 = placed_in (sub_in right (lit 48) tt) low (lit 48) (lit 48) tt;
         r2 = placed_in (sub_in right (lit 104) tt) low (lit 48) (lit 48) tt;
         r3 = placed_in (sub_in right (lit 160) tt) low (lit 48) (lit 48) tt;
@@ -166,7 +166,7 @@ banded_in : {w h : Float} (analog deep : Bool) {b : Band} → In w (at 0) (at 81
 unfolding banded_of
 banded_in {w} {h} analog deep {b} W H B =
     let places = band_places_in B analog deep in
-    let placed = dpad_in (controls_placed (λ r P. P) (arranged_in false W H) places) (placed_in B.digitalx B.mainy B.face B.face tt) in
+    let placed = dpad_in (controls_placed (λ r P. P) (arranged_in false W H) places) (placed_in B.digital_x B.main_y B.face B.face tt) in
     let y = sub_in (sub_in B.h (lit 4) tt) B.stick tt in
     let left = placed_in B.outer y B.stick B.stick tt in
     let right = placed_in (sub_in (sub_in B.w B.outer tt) B.stick tt) y B.stick B.stick tt in

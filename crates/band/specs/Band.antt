@@ -1,6 +1,5 @@
 -- `Layout::controller_band` of input.rs: mirrored controls in the room that a picture of full width leaves.
-use Rattle.std.specs.Prelude.{Bool, false, cond, ◌&&◌, ◌||◌, ◌∷◌, [], ◌+◌, Float, set}
-use Rattle.std.proofs.Math.Option.{Option, some, none}
+use Rattle.std.specs.Prelude.{Bool, false, cond, ◌&&◌, ◌||◌, ◌∷◌, [], ◌+◌, Float, set, Option, Some, None}
 use Rattle.std.specs.Float.Ieee.{lt, le}
 use Rattle.float.specs.Float.{◌⊕◌, ◌⊖◌, ◌⊗◌, ◌⊘◌, k0, k0_75, k1, k1_35, k2, k3, k4, k8, k16, k24, k28, k48, k52, k56, k64, k72, k80, k100, k104, k112, k122, k128, k136, k160, k176, k184, k192, k204, k272, k288, k480, k600, k800}
 use Rattle.float.specs.MinMax.{min_of, clamp_of}
@@ -43,8 +42,8 @@ measure_band_of w h analog room =
       outer = room.outer;
       face = face;
       stick = stick;
-      digitalx = digitalX;
-      mainy = mainY;
+      digital_x = digitalX;
+      main_y = mainY;
       faces = well_faces_of (w ⊖ digitalX ⊖ face ⊘ k2) (mainY ⊕ face ⊘ k2) face;
     }
 
@@ -54,10 +53,10 @@ plain_places_of b =
     let shoulderX = b.outer ⊕ b.face ⊕ k8 in
     record {
       faces = b.faces;
-      l1 = new_of shoulderX b.mainy k64 k64;
-      l2 = new_of (shoulderX ⊕ k72) b.mainy k64 k64;
-      r1 = new_of (b.w ⊖ shoulderX ⊖ k64) b.mainy k64 k64;
-      r2 = new_of (b.w ⊖ shoulderX ⊖ k136) b.mainy k64 k64;
+      l1 = new_of shoulderX b.main_y k64 k64;
+      l2 = new_of (shoulderX ⊕ k72) b.main_y k64 k64;
+      r1 = new_of (b.w ⊖ shoulderX ⊖ k64) b.main_y k64 k64;
+      r2 = new_of (b.w ⊖ shoulderX ⊖ k136) b.main_y k64 k64;
       select = new_of (b.w ⊘ k2 ⊖ k104) (b.h ⊖ bottom ⊖ k80) k80 k80;
       start = new_of (b.w ⊘ k2 ⊕ k24) (b.h ⊖ bottom ⊖ k80) k80 k80;
       l3 = empty_rect;
@@ -70,12 +69,12 @@ deep_places_of b =
     let rowY = b.h ⊖ bottom ⊖ k48 in
     record {
       faces = b.faces;
-      l1 = new_of b.digitalx rowY k48 k48;
-      l2 = new_of (b.digitalx ⊕ k56) rowY k48 k48;
-      l3 = new_of (b.digitalx ⊕ k112) rowY k48 k48;
-      r1 = new_of (b.w ⊖ b.digitalx ⊖ k48) rowY k48 k48;
-      r2 = new_of (b.w ⊖ b.digitalx ⊖ k104) rowY k48 k48;
-      r3 = new_of (b.w ⊖ b.digitalx ⊖ k160) rowY k48 k48;
+      l1 = new_of b.digital_x rowY k48 k48;
+      l2 = new_of (b.digital_x ⊕ k56) rowY k48 k48;
+      l3 = new_of (b.digital_x ⊕ k112) rowY k48 k48;
+      r1 = new_of (b.w ⊖ b.digital_x ⊖ k48) rowY k48 k48;
+      r2 = new_of (b.w ⊖ b.digital_x ⊖ k104) rowY k48 k48;
+      r3 = new_of (b.w ⊖ b.digital_x ⊖ k160) rowY k48 k48;
       select = new_of (b.w ⊘ k2 ⊖ k52) (rowY ⊖ k48) k48 k48;
       start = new_of (b.w ⊘ k2 ⊕ k4) (rowY ⊖ k48) k48 k48;
     }
@@ -109,7 +108,7 @@ with_analog_of l l3 r3 left right =
     with_controller l l.dpad controls (l.count + 2) (left ∷ right ∷ []) 2
 
 abbrev pub band_dpad : Band → Rect
-band_dpad b = new_of b.digitalx b.mainy b.face b.face
+band_dpad b = new_of b.digital_x b.main_y b.face b.face
 
 abbrev pub band_left_stick : Band → Rect
 band_left_stick b = new_of b.outer (b.h ⊖ bottom ⊖ b.stick) b.stick b.stick
@@ -128,6 +127,6 @@ unfoldable pub controller_band_of : Float → Float → Bool → Bool → Rect �
 controller_band_of w h analog psp picture =
     let room = find_room_of w h analog psp picture in
     let anchored = anchor_toolbar_of (banded_of w h analog room.deep (measure_band_of w h analog room)) w h (reusable_top_of picture) k0 [] in
-    cond (lt w k800 || (lt h k600 || lt (h ⊗ k1_35) w)) none
-    (cond (lt room.face k122) none
-    (some (place_game_in_aspect_of (with_inputs_of anchored psp) picture false k1 centred (aspect_of psp))))
+    cond (lt w k800 || (lt h k600 || lt (h ⊗ k1_35) w)) None
+    (cond (lt room.face k122) None
+    (Some (place_game_in_aspect_of (with_inputs_of anchored psp) picture false k1 centred (aspect_of psp))))

@@ -1,7 +1,6 @@
 -- `Layout::analog_camera_rails` of input.rs: rails beside a picture of full height, with a camera between the digital well and the stick.
-use Rattle.std.specs.Prelude.{Bool, false, cond, ◌&&◌, ◌||◌, Float}
+use Rattle.std.specs.Prelude.{Bool, false, cond, ◌&&◌, ◌||◌, Float, Option, Some, None}
 use mathlib.Core.List.{List, [], ◌∷◌, foldl}
-use Rattle.std.proofs.Math.Option.{Option, some, none}
 use Rattle.std.specs.Float.Ieee.{lt, le}
 use Rattle.prelude.specs.Lists.{filter_map}
 use Rattle.float.specs.Float.{◌⊕◌, ◌⊖◌, ◌⊗◌, ◌⊘◌, k0, k1, k1_35, k2, k3, k4, k8, k24, k32, k48, k52, k104, k122, k128, k156, k184, k224, k272, k360, k480}
@@ -88,8 +87,8 @@ analog_camera_rails_of w h picture cutouts psp =
     let rail = measure_rail_of w picture psp in
     let face = size_face_of w h rail cutouts in
     let layout = anchored_rails_of w h picture cutouts psp rail face in
-    cond (le w (h ⊗ k1_35) || lt h k360) none
-    (cond (lt rail k184) none
-    (cond (lt face k122) none
-    (cond (hits_of (elements_of layout) cutouts) none
-    (some (cleared_of layout w h picture cutouts psp)))))
+    cond (le w (h ⊗ k1_35) || lt h k360) None
+    (cond (lt rail k184) None
+    (cond (lt face k122) None
+    (cond (hits_of (elements_of layout) cutouts) None
+    (Some (cleared_of layout w h picture cutouts psp)))))

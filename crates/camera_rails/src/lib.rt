@@ -2,17 +2,15 @@
 // the stick.
 #![tactic(auto)]
 
-ghost use Rattle.std.specs.Prelude.{◌≡◌, ◌≤◌};
-ghost use Rattle.layout.specs.Layout.{cutout_list, element_list};
-ghost use Rattle.layout.specs.Maybe.{maybe};
-ghost use Rattle.cutouts.specs.Cutouts.{hits_of};
+ghost use Rattle.std.specs.Prelude.{◌≡◌, ◌≤◌, length, IfSome};
+ghost use Rattle.layout.specs.Layout.{Few};
 ghost use Rattle.camera_rails.specs.CameraRails.{measure_rail_of, in_rail_of, camera_top_of, size_face_of, camera_places_of, camera_railed_of, anchored_rails_of, analog_camera_rails_of};
 
-use cutouts::avoid_cutouts;
+use cutouts::{avoid_cutouts, hits};
 use defaults::analog_default;
 use float::{min, pick};
 use geometry::{CENTRED, Rect};
-use layout::{Cutouts, Elements, Layout, MaybeLayout, no_layout, with_inputs};
+use layout::{Layout, with_inputs};
 use places::{Places, placed, well_faces};
 use search::{aspect, place_game_in_aspect};
 use toolbar::{anchor_toolbar, reusable_top};
@@ -24,6 +22,7 @@ const STICK: f32 = 128.0;
 const OUTER: f32 = 4.0;
 
 // What the picture of full height leaves at each side.
+#[tactic(auto, unfolding(crate::specs::CameraRails::measure_rail_of))]
 fn measure_rail(w: f32, picture: Rect, psp: bool) -> f32
     ensures { result ≡ measure_rail_of w picture psp }
 {
@@ -32,6 +31,7 @@ fn measure_rail(w: f32, picture: Rect, psp: bool) -> f32
 }
 
 // A cutout reaches below the top of a rail.
+#[tactic(auto, unfolding(crate::specs::CameraRails::in_rail_of))]
 fn in_rail(w: f32, rail: f32, c: Rect) -> bool
     ensures { result ≡ in_rail_of w rail c }
 {
@@ -39,16 +39,12 @@ fn in_rail(w: f32, rail: f32, c: Rect) -> bool
 }
 
 // Where the highest of these cutouts begins, else the screen's end.
-fn camera_top(w: f32, h: f32, rail: f32, cutouts: Cutouts) -> f32
-    requires { cutouts.count ≤ 16 }
-    ensures { result ≡ camera_top_of w h rail (cutout_list cutouts) }
+fn camera_top(w: f32, h: f32, rail: f32, cutouts: &[Rect]) -> f32
+    ensures { result ≡ camera_top_of w h rail cutouts.now }
 {
-    let at = cutouts.at;
-    let count = cutouts.count;
     let mut top = h;
-    for i in 0..count {
-        let c = at[i];
-        if in_rail(w, rail, c) {
+    for c in cutouts {
+        if in_rail(w, rail, *c) {
             top = min(top, c.y);
         }
     }
@@ -56,9 +52,9 @@ fn camera_top(w: f32, h: f32, rail: f32, cutouts: Cutouts) -> f32
 }
 
 // The digital well, above the camera and above the four keys.
-fn size_face(w: f32, h: f32, rail: f32, cutouts: Cutouts) -> f32
-    requires { cutouts.count ≤ 16 }
-    ensures { result ≡ size_face_of w h rail (cutout_list cutouts) }
+#[tactic(auto, unfolding(crate::specs::CameraRails::size_face_of))]
+fn size_face(w: f32, h: f32, rail: f32, cutouts: &[Rect]) -> f32
+    ensures { result ≡ size_face_of w h rail cutouts.now }
 {
     let camera_top = camera_top(w, h, rail, cutouts);
     min(
@@ -67,6 +63,7 @@ fn size_face(w: f32, h: f32, rail: f32, cutouts: Cutouts) -> f32
     )
 }
 
+#[tactic(auto, unfolding(crate::specs::CameraRails::camera_places_of))]
 fn camera_places(w: f32, rail: f32, face: f32) -> Places
     ensures { result ≡ camera_places_of w rail face }
 {
@@ -87,79 +84,65 @@ fn camera_places(w: f32, rail: f32, face: f32) -> Places
     }
 }
 
-// Some element overlaps a cutout.
-fn element_hits(elements: Elements, cutouts: Cutouts) -> bool
-    requires { (elements.count ≤ 19) × (cutouts.count ≤ 16) }
-    ensures { result ≡ hits_of (element_list elements) (cutout_list cutouts) }
-{
-    let n = elements.count;
-    for i in 0..n {
-        if cutouts.overlap(elements.at[i]) {
-            return true;
-        }
-    }
-    false
-}
-
+#[tactic(auto, unfolding(crate::specs::CameraRails::camera_railed_of))]
 fn camera_railed(w: f32, h: f32, rail: f32, face: f32) -> Layout
     ensures { (result ≡ camera_railed_of w h rail face) × (result.count ≡ 12) × (result.stickcount ≡ 2) }
 {
     let main_y = h - 24.0 - STICK;
-    let dpad = Rect::new(OUTER, RAIL_TOP, face, face);
-    let left = Rect::new(OUTER, main_y, STICK, STICK);
-    let right = Rect::new(w - OUTER - STICK, main_y, STICK, STICK);
-    let sticks = [left, right];
-    let mut layout = placed(analog_default(w, h), camera_places(w, rail, face));
-    layout.dpad = dpad;
-    layout.sticks = sticks;
-    layout
+    Layout {
+        dpad: Rect::new(OUTER, RAIL_TOP, face, face),
+        sticks: [
+            Rect::new(OUTER, main_y, STICK, STICK),
+            Rect::new(w - OUTER - STICK, main_y, STICK, STICK),
+        ],
+        ..placed(analog_default(w, h), camera_places(w, rail, face))
+    }
 }
 
 // With the inputs of a psp, and the toolbar in its place.
+#[tactic(auto, unfolding(crate::specs::CameraRails::anchored_rails_of))]
 fn anchored_rails(
     w: f32,
     h: f32,
     picture: Rect,
-    cutouts: Cutouts,
+    cutouts: &[Rect],
     psp: bool,
     rail: f32,
     face: f32,
 ) -> Layout
-    requires { cutouts.count ≤ 16 }
-    ensures { (result ≡ anchored_rails_of w h picture (cutout_list cutouts) psp rail face) × (result.count ≤ 12) × (result.stickcount ≤ 2) }
+    requires { length cutouts.now ≤ 16 }
+    ensures { (result ≡ anchored_rails_of w h picture cutouts.now psp rail face) × Few result }
 {
     let layout = with_inputs(camera_railed(w, h, rail, face), psp);
     anchor_toolbar(layout, w, h, reusable_top(picture), 0.0, cutouts)
 }
 
-// The layout beside `some: false` is left open, but for its counts.
 #[tactic(auto, unfolding(crate::specs::CameraRails::analog_camera_rails_of))]
 pub fn analog_camera_rails(
     w: f32,
     h: f32,
     picture: Rect,
-    cutouts: Cutouts,
+    cutouts: &[Rect],
     psp: bool,
-) -> MaybeLayout
-    requires { cutouts.count ≤ 16 }
-    ensures { (maybe result ≡ analog_camera_rails_of w h picture (cutout_list cutouts) psp) × (result.layout.count ≤ 12) × (result.layout.stickcount ≤ 2) }
+) -> Option<Layout>
+    requires { length cutouts.now ≤ 16 }
+    ensures { (result ≡ analog_camera_rails_of w h picture cutouts.now psp) × IfSome result Few }
 {
     if (w <= h * 1.35) | (h < 360.0) {
-        return no_layout();
+        return None;
     }
     let rail = measure_rail(w, picture, psp);
     if rail < 184.0 {
-        return no_layout();
+        return None;
     }
     let face = size_face(w, h, rail, cutouts);
     if face < 122.0 {
-        return no_layout();
+        return None;
     }
     let anchored = anchored_rails(w, h, picture, cutouts, psp, rail, face);
-    if element_hits(anchored.elements(), cutouts) {
-        return no_layout();
+    if hits(&anchored.elements(), cutouts) {
+        return None;
     }
     let clear = avoid_cutouts(anchored, w, h, cutouts);
-    let layout = place_game_in_aspect(clear, picture, false, 1.0, CENTRED, aspect(psp));
-    MaybeLayout { some: true, layout }
+    Some(place_game_in_aspect(clear, picture, false, 1.0, CENTRED, aspect(psp)))
 }

@@ -1,7 +1,8 @@
 -- Laws of the cutout pass: each element stays, or lies on the screen in its old size; labels, counts and arrays stay.
 use mathlib.Core.Path.{◌≡◌, refl, ap, ◌∙◌}
 use mathlib.Core.Bool.{true}
-use mathlib.Core.List.{List, [], ◌∷◌, foldl}
+use mathlib.Core.List.{List, [], ◌∷◌}
+use Rattle.std.specs.List.{fold}
 use mathlib.Core.Logic.{inl, inr}
 use Prim.Native.Nat.{ℕ, zero, suc, ◌≤◌}
 use lib.Dec.{eqb}
@@ -9,7 +10,6 @@ use lib.Ieee.{Float, binary32}
 use lib.Ieee.Fits.{add-fits}
 use lib.ListN.{length, get_or, set}
 use Rattle.prelude.proofs.Booleans.{either, both}
-use Rattle.prelude.specs.Lists.{all_of}
 use Rattle.prelude.proofs.ListLaws.{find_passes}
 use Rattle.prelude.proofs.EachLaws.{fold_keeps}
 use Rattle.geometry.specs.declared.Rect.{Rect}
@@ -53,8 +53,8 @@ module _ (w h : Float) where
   module _ (holes others elements : List Rect) where
     -- a move that leaves the group clear
     all_move : (dx dy : Float) (group : List ℕ) (es : List Rect) → AllSettled w h elements es → all_clear_of w h holes others (members_of elements group) (dx, dy) ≡ true
-        → AllSettled w h elements (foldl (λ es i. set es i (shifted_of (get_or elements i any_rect) dx dy)) es group)
-    unfolding all_of clear_of
+        → AllSettled w h elements (fold (λ es i. set es i (shifted_of (get_or elements i any_rect) dx dy)) es group)
+    unfolding clear_of
     all_move dx dy [] es e a = e
     all_move dx dy (i ∷ group) es e a =
         let r = get_or elements i any_rect in

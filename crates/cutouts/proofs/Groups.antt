@@ -1,16 +1,17 @@
 -- Groups by index: the indices are within the elements, those outside a group, the faces, and a group that moves.
-use mathlib.Core.Path.{◌≡◌, refl, ◌∙◌}
-use mathlib.Core.Bool.{Bool, false, not}
-use mathlib.Core.List.{List, [], ◌∷◌, map}
-use Prim.Native.Nat.{ℕ, suc, ◌+◌, ◌<◌, ◌≤◌}
+use mathlib.Core.Path.{◌≡◌, ap}
+use mathlib.Core.Bool.{Bool, true, false, not, cond}
+use mathlib.Core.List.{List, [], ◌∷◌, ◌++◌}
+use Prim.Native.Nat.{ℕ, zero, suc, ◌+◌, ◌<◌, ◌≤◌, zero-le}
 use native.Mathlib.Omega.{arith}
 use lib.Ieee.{Float}
-use lib.ListN.{length, take, get_or, set}
-use lib.Seq.{get_or-take, length-take-le, take-set-lt}
+use lib.ListN.{length, take, get_or}
+use lib.Seq.{length-take-le, take_all}
 use Rattle.prelude.proofs.Booleans.{either}
-use Rattle.prelude.specs.Lists.{any_of, filter_map, enumerate_from}
-use Rattle.prelude.proofs.ListLaws.{length_enumerate, enumerate_at}
-use Rattle.prelude.proofs.EachLaws.{each_at}
+use Rattle.std.specs.List.{list_any}
+use Rattle.prelude.specs.Lists.{filter_map, enumerate_from, range}
+use Rattle.prelude.proofs.ListLaws.{length_enumerate, enumerate_at, length_range, range_at}
+use Rattle.prelude.proofs.Loops.{one_more, no_more}
 use Rattle.geometry.specs.declared.Rect.{Rect}
 use Rattle.geometry.specs.Rect.{overlaps_of}
 use Rattle.layout.specs.declared.Control.{Control}
@@ -21,42 +22,53 @@ use Rattle.layout.specs.Layout.{any_rect, any_control, control_list}
 use Rattle.cutouts.specs.Cutouts.{in_group_of, settle_of, BelowAll}
 
 -- an element on no cutout stays
-pub missed : (w h : Float) (holes at : List Rect) (n i : ℕ) → i < n → any_of (overlaps_of (get_or at i any_rect)) holes ≡ false → settle_of w h holes (take n at) (i ∷ []) ≡ take n at
-unfolding settle_of any_of
-missed w h holes at n i k e = rw (get_or-take n at i any_rect k, e)
-
--- ---- indices below n
--- an index of a group that is held in an array
-pub below_index : (n : ℕ) (at : List ℕ) (m k : ℕ) → BelowAll n (take m at) → m ≤ length at → k < m → get_or at k 0 < n
-below_index n at m k e h j =
-    let l : length (take m at) ≡ m = length-take-le m at h in
-    rw (get_or-take m at k 0 j) at (each_at (λ i. i < n) k (take m at) 0 (omega arith) e)
-
-pub below_one : (n i : ℕ) (g : List ℕ) → i < n → g ≡ i ∷ [] → BelowAll n g
-below_one n i g h e = rw e (h, tt)
-
--- rectangles at such indices are among the first n
-pub members_first : (n : ℕ) (el : List Rect) (g : List ℕ) → BelowAll n g → map (λ i. get_or el i any_rect) g ≡ map (λ i. get_or (take n el) i any_rect) g
-members_first n el [] e = refl
-members_first n el (x ∷ g) e = rw (get_or-take n el x any_rect e.0, members_first n el g e.1)
+pub missed : (w h : Float) (holes elements : List Rect) (i : ℕ) → list_any (overlaps_of (get_or elements i any_rect)) holes ≡ false → settle_of w h holes elements (i ∷ []) ≡ elements
+unfolding settle_of
+missed w h holes elements i e = rw e
 
 -- what f makes of the indices outside a group
 abbrev pub outside : {B : Type 0} → List ℕ → (ℕ → B) → List ℕ → List B
 outside group f is = filter_map (λ i. not (in_group_of group i)) f is
 
+-- one index more
+module _ {B : Type 0} (group : List ℕ) (f : ℕ → B) (n i : ℕ) (h : i < n) {flag : Bool} (e : flag ≡ in_group_of group i) where
+  pub outside_one : flag ≡ false → outside group f (take (i + 1) (range 0 n)) ≡ outside group f (take i (range 0 n)) ++ (f i ∷ [])
+  outside_one t =
+      let at = range_at n i h in
+      rw (one_more (λ j. not (in_group_of group j)) f (range 0 n) i 0 (rw length_range h) (rw at (ap not e)) (ap not t), at)
+
+  pub outside_none : flag ≡ true → outside group f (take (i + 1) (range 0 n)) ≡ outside group f (take i (range 0 n))
+  outside_none t = let at = range_at n i h in no_more (λ j. not (in_group_of group j)) f (range 0 n) i 0 (rw length_range h) (rw at (ap not e)) (ap not t)
+
+pub outside_all : {B : Type 0} (group : List ℕ) (f : ℕ → B) (n i : ℕ) → n ≤ i → outside group f (take i (range 0 n)) ≡ outside group f (range 0 n)
+outside_all group f n i h = ap (outside group f) (take_all i (range 0 n) (rw length_range h))
+
+-- no more pass among the first than among all
+pub fewer_passed : {A B : Type 0} (p : A → Bool) (f : A → B) (k : ℕ) (l : List A) → length (filter_map p f (take k l)) ≤ length (filter_map p f l)
+fewer_passed p f zero l = zero-le
+fewer_passed p f (suc k) [] = zero-le
+fewer_passed {A} {B} p f (suc k) (x ∷ l) = go (p x) (fewer_passed p f k l)
+  where
+    go : (b : Bool) → length (filter_map p f (take k l)) ≤ length (filter_map p f l)
+        → length (cond b (f x ∷ filter_map p f (take k l)) (filter_map p f (take k l))) ≤ length (cond b (f x ∷ filter_map p f l) (filter_map p f l))
+    go true h = omega arith
+    go false h = h
+
 -- ---- the elements' indices of the face controls
 abbrev pub faces_of : List (ℕ × Control) → List ℕ
 faces_of l = filter_map (λ e. is_face_of e.1.label) (λ e. e.0) l
 
-module _ (l : Layout) (h : l.count ≤ length l.controls) where
-  pub length_numbered : length (enumerate_from 1 (control_list l)) ≡ l.count
-  length_numbered = length_enumerate 1 (control_list l) ∙ length-take-le l.count l.controls h
+module _ (cs : List Control) (i : ℕ) (h : i < length cs) {flag : Bool} (e : flag ≡ is_face_of (get_or cs i any_control).label) where
+  pub face_one : flag ≡ true → faces_of (take (i + 1) (enumerate_from 1 cs)) ≡ faces_of (take i (enumerate_from 1 cs)) ++ ((i + 1) ∷ [])
+  face_one t =
+      let q : 1 + i ≡ i + 1 = omega arith in
+      let at = enumerate_at 1 cs i any_control h in
+      rw (one_more (λ (c : ℕ × Control). is_face_of c.1.label) (λ (c : ℕ × Control). c.0) (enumerate_from 1 cs) i (0, any_control) (rw length_enumerate h) (rw at e) t, at, q)
 
-  pub face_at : (i : ℕ) → i < l.count → get_or (enumerate_from 1 (control_list l)) i (0, any_control) ≡ (i + 1, get_or l.controls i any_control)
-  face_at i j =
-      let k : length (control_list l) ≡ l.count = length-take-le l.count l.controls h in
-      let e : 1 + i ≡ i + 1 = omega arith in
-      enumerate_at 1 (control_list l) i any_control (omega arith) ∙ rw (e, get_or-take l.count l.controls i any_control j)
+  pub face_none : flag ≡ false → faces_of (take (i + 1) (enumerate_from 1 cs)) ≡ faces_of (take i (enumerate_from 1 cs))
+  face_none t =
+      let at = enumerate_at 1 cs i any_control h in
+      no_more (λ (c : ℕ × Control). is_face_of c.1.label) (λ (c : ℕ × Control). c.0) (enumerate_from 1 cs) i (0, any_control) (rw length_enumerate h) (rw at e) t
 
 enumerate_below : {A : Type 0} (p : ℕ × A → Bool) (n j : ℕ) (l : List A) → j + length l ≤ n → BelowAll n (filter_map p (λ e. e.0) (enumerate_from j l))
 enumerate_below p n j [] h = tt
@@ -67,7 +79,3 @@ unfolding action_elements_of
 faces_below l n h k =
     let e : length (control_list l) ≡ l.count = length-take-le l.count l.controls k in
     enumerate_below (λ e. is_face_of e.1.label) n 1 (control_list l) (omega arith)
-
--- ---- one rectangle of the first n put anew
-pub put_first : (f : Rect → Rect) (old l : List Rect) (n i : ℕ) (v : Rect) → i < n → v ≡ f (get_or old i any_rect) → take n (set l i v) ≡ set (take n l) i (f (get_or (take n old) i any_rect))
-put_first f old l n i v h e = rw (e, take-set-lt n l i (f (get_or old i any_rect)) h, get_or-take n old i any_rect h)

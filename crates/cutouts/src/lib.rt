@@ -1,214 +1,136 @@
 // `avoid_cutouts` of input.rs: a camera hole is a local obstruction, not an unusable strip, and elements that lie on one move off it.
 #![tactic(auto)]
 
-ghost use Rattle.std.specs.Prelude.{◌≡◌, [], ◌∷◌, ◌≤◌, length, take};
+ghost use Rattle.std.specs.Prelude.{◌≡◌, ◌≤◌, length};
 ghost use Rattle.layout.specs.Actions.{action_elements_of};
-ghost use Rattle.layout.specs.Layout.{cutout_list, element_count_of, element_list, Few};
-ghost use Rattle.cutouts.specs.Cutouts.{has_area_of, with_area_of, in_group_of, members_of, others_of, hits_of, shift_by_of, shift_of, settle_of, avoid_of, avoid_cutouts_of, group_list, BelowAll};
+ghost use Rattle.layout.specs.Layout.{element_count_of, Few};
+ghost use Rattle.cutouts.specs.Cutouts.{has_area_of, with_area_of, members_of, others_of, hits_of, shift_of, settle_of, avoid_of, avoid_cutouts_of, BelowAll};
 
+use arrayvec::ArrayVec;
 use geometry::Rect;
-use layout::{Cutouts, Elements, Layout};
+use layout::{Elements, Layout};
 use moves::Move;
 
-// Elements that move together, by index.
-#[derive(Clone, Copy)]
-struct Group {
-    at: [usize; 4],
-    count: usize,
-}
-
+#[tactic(auto, unfolding(crate::specs::Cutouts::has_area_of))]
 fn has_area(r: Rect) -> bool
     ensures { result ≡ has_area_of r }
 {
     r.w > 0.0 && r.h > 0.0
 }
 
-fn with_area(cutouts: Cutouts) -> Cutouts
-    requires { cutouts.count ≤ 16 }
-    ensures { (cutout_list result ≡ with_area_of (cutout_list cutouts)) × (result.count ≤ 16) }
+fn with_area(cutouts: &[Rect]) -> ArrayVec<Rect, 16>
+    requires { length cutouts.now ≤ 16 }
+    ensures { result.items ≡ with_area_of cutouts.now }
 {
-    let at = cutouts.at;
-    let n = cutouts.count;
-    let mut out = at;
-    let mut count = 0;
-    for i in 0..n {
-        let c = at[i];
-        if !has_area(c) {
-            continue;
+    let mut out = ArrayVec::new();
+    for c in cutouts {
+        if has_area(*c) {
+            out.push(*c);
         }
-        out[count] = c;
-        count = count + 1;
-    }
-    Cutouts { at: out, count }
-}
-
-fn in_group(group: Group, i: usize) -> bool
-    requires { group.count ≤ 4 }
-    ensures { result ≡ in_group_of (group_list group) i }
-{
-    let at = group.at;
-    let n = group.count;
-    for k in 0..n {
-        if at[k] == i {
-            return true;
-        }
-    }
-    false
-}
-
-#[tactic(auto, using(crate::proofs::Groups::below_index, prelude::proofs::Loops::in_array, prelude::proofs::Loops::goes_on, prelude::proofs::Stores::put_rest))]
-fn members(elements: Elements, group: Group) -> [Rect; 4]
-    requires { ((elements.count ≤ 19) × (group.count ≤ 4)) × BelowAll elements.count (group_list group) }
-    ensures { take group.count result ≡ members_of (element_list elements) (group_list group) }
-{
-    let el = elements.at;
-    let at = group.at;
-    let n = group.count;
-    let mut out = [el[0]; 4];
-    for k in 0..n {
-        let i = at[k];
-        out[k] = el[i];
     }
     out
 }
 
-fn others(elements: Elements, group: Group) -> Elements
-    requires { (elements.count ≤ 19) × (group.count ≤ 4) }
-    ensures { (element_list result ≡ others_of (element_list elements) (group_list group)) × (result.count ≤ 19) }
+// A group's indices lie below the number of elements: a fact about two slices, and so no type's own.
+fn members(elements: &[Rect], group: &[usize]) -> ArrayVec<Rect, 4>
+    requires { (length group.now ≤ 4) × BelowAll (length elements.now) group.now }
+    ensures { result.items ≡ members_of elements.now group.now }
 {
-    let el = elements.at;
-    let n = elements.count;
-    let mut out = el;
-    let mut count = 0;
-    for i in 0..n {
-        if in_group(group, i) {
-            continue;
-        }
-        out[count] = el[i];
-        count = count + 1;
+    let mut out = ArrayVec::new();
+    for i in group {
+        out.push(elements[*i]);
     }
-    Elements { at: out, count }
+    out
 }
 
-fn hits(original: [Rect; 4], m: usize, holes: Cutouts) -> bool
-    requires { (m ≤ 4) × (holes.count ≤ 16) }
-    ensures { result ≡ hits_of (take m original) (cutout_list holes) }
+fn others(elements: &[Rect], group: &[usize]) -> Elements
+    requires { length elements.now ≤ 19 }
+    ensures { result.items ≡ others_of elements.now group.now }
 {
-    for i in 0..m {
-        if holes.overlap(original[i]) {
-            return true;
+    let mut out = ArrayVec::new();
+    for (i, r) in elements.iter().enumerate() {
+        if !group.contains(&i) {
+            out.push(*r);
         }
     }
-    false
+    out
 }
 
-#[tactic(auto, using(crate::proofs::Groups::below_index, prelude::proofs::Loops::in_array, prelude::proofs::Loops::runs_out))]
-fn shift_by(elements: Elements, group: Group, dx: f32, dy: f32) -> Elements
-    requires { ((elements.count ≤ 19) × (group.count ≤ 4)) × BelowAll elements.count (group_list group) }
-    ensures { (element_list result ≡ shift_by_of (element_list elements) (group_list group) dx dy) × (result.count ≡ elements.count) }
+// Some rectangle overlaps a cutout.
+pub fn hits(original: &[Rect], holes: &[Rect]) -> bool
+    ensures { result ≡ hits_of original.now holes.now }
 {
-    let old = elements.at;
-    let at = group.at;
-    let n = group.count;
-    let mut el = old;
-    for k in 0..n {
-        let i = at[k];
-        el[i] = old[i].shifted(dx, dy);
-    }
-    Elements {
-        at: el,
-        count: elements.count,
-    }
+    original.iter().any(|r| r.overlaps_any(holes))
 }
 
-fn shift(elements: Elements, group: Group, to: Move) -> Elements
-    requires { ((elements.count ≤ 19) × (group.count ≤ 4)) × BelowAll elements.count (group_list group) }
-    ensures { (element_list result ≡ shift_of (element_list elements) (group_list group) to) × (result.count ≡ elements.count) }
+// The group moved from where it was.
+fn shift(elements: &mut [Rect], group: &[usize], original: &[Rect], to: Move)
+    requires { BelowAll (length elements.old) group.now × (original.now ≡ members_of elements.old group.now) }
+    ensures { elements.new ≡ shift_of elements.old group.now to }
 {
-    match to {
-        Move::Stay => elements,
-        Move::Go(dx, dy) => shift_by(elements, group, dx, dy),
+    if let Move::Go(dx, dy) = to {
+        for (i, r) in group.iter().zip(original) {
+            elements[*i] = r.shifted(dx, dy);
+        }
     }
 }
 
 // One group off the cutouts.
-fn settle(w: f32, h: f32, holes: Cutouts, elements: Elements, group: Group) -> Elements
-    requires { ((elements.count ≤ 19) × ((group.count ≤ 4) × (holes.count ≤ 16))) × BelowAll elements.count (group_list group) }
-    ensures { (element_list result ≡ settle_of w h (cutout_list holes) (element_list elements) (group_list group)) × (result.count ≡ elements.count) }
+#[tactic(auto, unfolding(crate::specs::Cutouts::settle_of))]
+fn settle(w: f32, h: f32, holes: &[Rect], elements: &mut [Rect], group: &[usize])
+    requires { (length elements.old ≤ 19) × (length group.now ≤ 4) × (length holes.now ≤ 16) × BelowAll (length elements.old) group.now }
+    ensures { elements.new ≡ settle_of w h holes.now elements.old group.now }
 {
     let original = members(elements, group);
-    let m = group.count;
-    if !hits(original, m, holes) {
-        return elements;
-    }
-    let rest = others(elements, group);
-    let to = moves::search(w, h, holes, rest, original, m);
-    shift(elements, group, to)
-}
-
-fn single(i: usize) -> Group
-    ensures { (group_list result ≡ i ∷ []) × (result.count ≡ 1) }
-{
-    Group {
-        at: [i; 4],
-        count: 1,
+    if hits(&original, holes) {
+        let rest = others(elements, group);
+        let to = moves::search(w, h, holes, &rest, &original);
+        shift(elements, group, &original, to);
     }
 }
 
 // The faces as one group, then every other element: later groups see the earlier ones moved. Most elements lie on no cutout
-// and are left before the arrays are handed on.
-fn avoid(w: f32, h: f32, holes: Cutouts, faces: Group, elements: Elements) -> Elements
-    requires { ((elements.count ≤ 19) × ((faces.count ≤ 4) × (holes.count ≤ 16))) × BelowAll elements.count (group_list faces) }
-    ensures { (element_list result ≡ avoid_of w h (cutout_list holes) (group_list faces) (element_list elements)) × (result.count ≡ elements.count) }
+// and are left before their group is made.
+fn avoid(w: f32, h: f32, holes: &[Rect], faces: &[usize], elements: &mut [Rect])
+    requires { (length elements.old ≤ 19) × (length faces.now ≤ 4) × (length holes.now ≤ 16) × BelowAll (length elements.old) faces.now }
+    ensures { elements.new ≡ avoid_of w h holes.now faces.now elements.old }
 {
-    let count = elements.count;
-    let mut out = settle(w, h, holes, elements, faces);
-    for i in 0..count {
-        if in_group(faces, i) {
-            continue;
+    settle(w, h, holes, elements, faces);
+    // By index, since a turn may change the elements.
+    for i in 0..elements.len() {
+        if !faces.contains(&i) && elements[i].overlaps_any(holes) {
+            settle(w, h, holes, elements, &[i]);
         }
-        if !holes.overlap(out.at[i]) {
-            continue;
+    }
+}
+
+fn faces(l: Layout) -> ArrayVec<usize, 4>
+    requires { (l.count ≤ 12) × (length (action_elements_of l) ≤ 4) }
+    ensures { (result.items ≡ action_elements_of l) × BelowAll (element_count_of l) result.items }
+{
+    let mut out = ArrayVec::new();
+    for (i, c) in l.control_list().iter().enumerate() {
+        if c.label.is_face() {
+            out.push(i + 1);
         }
-        out = settle(w, h, holes, out, single(i));
     }
     out
 }
 
-fn faces(l: Layout) -> Group
-    requires { (l.count ≤ 12) × (length (action_elements_of l) ≤ 4) }
-    ensures { (group_list result ≡ action_elements_of l) × ((result.count ≤ 4) × BelowAll (element_count_of l) (group_list result)) }
+#[tactic(auto, unfolding(crate::specs::Cutouts::avoid_cutouts_of))]
+pub fn avoid_cutouts(l: Layout, w: f32, h: f32, cutouts: &[Rect]) -> Layout
+    requires { Few l × ((length cutouts.now ≤ 16) × (length (action_elements_of l) ≤ 4)) }
+    ensures { result ≡ avoid_cutouts_of l w h cutouts.now }
 {
-    let controls = l.controls;
-    let n = l.count;
-    let mut at = [0; 4];
-    let mut count = 0;
-    for i in 0..n {
-        let c = controls[i];
-        let label = c.label;
-        if !label.is_face() {
-            continue;
-        }
-        at[count] = i + 1;
-        count = count + 1;
-    }
-    Group { at, count }
-}
-
-pub fn avoid_cutouts(l: Layout, w: f32, h: f32, cutouts: Cutouts) -> Layout
-    requires { Few l × ((cutouts.count ≤ 16) × (length (action_elements_of l) ≤ 4)) }
-    ensures { result ≡ avoid_cutouts_of l w h (cutout_list cutouts) }
-{
-    // Most screens have none: no array is filled for them.
-    if cutouts.count == 0 {
+    // Most screens have none: nothing is filled for them.
+    if cutouts.is_empty() {
         return l;
     }
     let holes = with_area(cutouts);
-    if holes.count == 0 {
+    if holes.is_empty() {
         return l;
     }
-    let group = faces(l);
-    let elements = l.elements();
-    let moved = avoid(w, h, holes, group, elements);
-    l.set_elements(moved)
+    let mut elements = l.elements();
+    avoid(w, h, &holes, &faces(l), &mut elements);
+    l.set_elements(&elements)
 }

@@ -73,9 +73,9 @@ record HalvesIn (b : Halves) : Type 0 where
   pub stick : In b.stick (at 104) (at 128)
   pub face : In b.face (at 122) (at 184)
   pub shoulder : In b.shoulder (at 48) (at 96)
-  pub digitalx : Coordinate b.digitalx
-  pub mainy : Coordinate b.mainy
-  pub facey : Coordinate b.facey
+  pub digital_x : Coordinate b.digital_x
+  pub main_y : Coordinate b.main_y
+  pub face_y : Coordinate b.face_y
   pub faces : FacesIn b.faces
   pub x1 : In b.x1 (at 0) (at 256)
   pub x2 : In b.x2 (at 0) (at 256)
@@ -96,9 +96,9 @@ halves_in {s = s} W H S =
       stick = S.stick;
       face = S.face;
       shoulder = S.shoulder;
-      digitalx = coordinate (add_in (lit 16) (div_in (sub_in S.column S.face tt) f2 tt) tt) tt;
-      mainy = coordinate mainY tt;
-      facey = coordinate faceY tt;
+      digital_x = coordinate (add_in (lit 16) (div_in (sub_in S.column S.face tt) f2 tt) tt) tt;
+      main_y = coordinate mainY tt;
+      face_y = coordinate faceY tt;
       faces = well_faces_in fx fy (in_more (at 122) (at 200) S.face tt tt);
       x1 = in_more (at 0) (at 256) (cond_in s.middle inner (add_in (lit 16) (lit 0) tt)) tt tt;
       x2 = in_more (at 0) (at 256) (cond_in s.middle inner (add_in (lit 16) (add_in S.shoulder (lit 8) tt) tt)) tt tt;
@@ -111,15 +111,15 @@ unfolding half_places_of
 half_places_in B =
     let left = add_in (add_in (lit 16) B.stick tt) (lit 8) tt in
     let right = sub_in (sub_in (sub_in B.w (lit 16) tt) B.stick tt) (lit 56) tt in
-    let lower = sub_in (add_in B.mainy B.stick tt) (lit 48) tt in
+    let lower = sub_in (add_in B.main_y B.stick tt) (lit 48) tt in
     record {
       faces = B.faces;
       l1 = placed_in B.x1 B.y1 B.shoulder (lit 48) tt;
       l2 = placed_in B.x2 B.y2 B.shoulder (lit 48) tt;
       r2 = placed_in (sub_in (sub_in B.w B.x2 tt) B.shoulder tt) B.y2 B.shoulder (lit 48) tt;
       r1 = placed_in (sub_in (sub_in B.w B.x1 tt) B.shoulder tt) B.y1 B.shoulder (lit 48) tt;
-      select = placed_in left B.mainy (lit 48) (lit 48) tt;
-      start = placed_in right B.mainy (lit 48) (lit 48) tt;
+      select = placed_in left B.main_y (lit 48) (lit 48) tt;
+      start = placed_in right B.main_y (lit 48) (lit 48) tt;
       l3 = placed_in left lower (lit 48) (lit 48) tt;
       r3 = placed_in right lower (lit 48) (lit 48) tt;
     }
@@ -132,9 +132,9 @@ full_in W H =
     let wide = in_more (at 1) (at 8192) W tt tt in
     let high = in_more (at 1) (at 8192) H tt tt in
     let standard = default_in_lem [] (from_zero wide) (from_zero high) tt (screen_area wide high) (from_zero high) in
-    let digital = dpad_in (controls_placed (λ r P. P) standard places) (placed_in B.digitalx B.facey B.face B.face tt) in
-    let left = placed_in (lit 16) B.mainy B.stick B.stick tt in
-    let right = placed_in (sub_in (sub_in B.w (lit 16) tt) B.stick tt) B.mainy B.stick B.stick tt in
+    let digital = dpad_in (controls_placed (λ r P. P) standard places) (placed_in B.digital_x B.face_y B.face B.face tt) in
+    let left = placed_in (lit 16) B.main_y B.stick B.stick tt in
+    let right = placed_in (sub_in (sub_in B.w (lit 16) tt) B.stick tt) B.main_y B.stick B.stick tt in
     with_analog_in digital places.l3 places.r3 left right
 
 -- ---- `shrunk`

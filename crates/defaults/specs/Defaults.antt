@@ -1,6 +1,5 @@
 -- `Layout::new`, `default_in`, `analog_default` and `psp` of input.rs: the layouts before a user changes them.
-use Rattle.std.specs.Prelude.{Bool, true, false, cond, not, ◌&&◌, ◌||◌, List, [], map, Float}
-use Rattle.std.proofs.Math.Option.{Option, some, none}
+use Rattle.std.specs.Prelude.{Bool, true, false, cond, not, ◌&&◌, ◌||◌, List, [], map, Float, Option, Some, None}
 use Rattle.std.specs.Float.Ieee.{lt, le, ne}
 use Rattle.float.specs.Float.{◌⊕◌, ◌⊖◌, ◌⊗◌, ◌⊘◌, k0, k0_01, k1, k1_35, k2, k8, k16, k20, k24, k32, k48, k56, k76, k88, k104, k122, k128, k160, k184, k192, k304, k336, k360}
 use Rattle.float.specs.MinMax.{max_of, clamp_of}
@@ -44,8 +43,8 @@ try_side_of rails w h cutouts picture =
     cond (lt (h ⊗ k1_35) w && le k304 h) (wider_of rails (clear_game_of (side_rails_of w h picture.h cutouts) picture)) rails
 
 abbrev pub wider_if : Layout → Option Layout → Layout
-wider_if layout none = layout
-wider_if layout (some band) = wider_of layout band
+wider_if layout None = layout
+wider_if layout (Some band) = wider_of layout band
 
 unfoldable pub try_band_of : Layout → Float → Float → Bool → Rect → Layout
 try_band_of layout w h analog picture = wider_if layout (controller_band_of w h analog false picture)
@@ -80,7 +79,7 @@ size_halves_of w h =
     let middle = not landscape && le k192 (w ⊖ k2 ⊗ (k16 ⊕ column)) in
     record { bottom = bottom; stick = stick; face = face; column = column; middle = middle; shoulder = cond middle k88 ((column ⊖ k8) ⊘ k2) }
 
--- the digital well at digitalx and facey, the stick at mainy, and the left shoulders L1 at x1 and y1, L2 at x2 and y2
+-- the digital well at digital_x and face_y, the stick at main_y, and the left shoulders L1 at x1 and y1, L2 at x2 and y2
 unfoldable pub measure_halves_of : Float → Float → Sizes → Halves
 measure_halves_of w h s =
     let mainY = h ⊖ s.bottom ⊖ s.stick in
@@ -91,9 +90,9 @@ measure_halves_of w h s =
       stick = s.stick;
       face = s.face;
       shoulder = s.shoulder;
-      digitalx = k16 ⊕ (s.column ⊖ s.face) ⊘ k2;
-      mainy = mainY;
-      facey = faceY;
+      digital_x = k16 ⊕ (s.column ⊖ s.face) ⊘ k2;
+      main_y = mainY;
+      face_y = faceY;
       faces = well_faces_of (w ⊖ k16 ⊖ s.column ⊘ k2) (faceY ⊕ s.face ⊘ k2) s.face;
       x1 = cond s.middle inner (k16 ⊕ k0);
       x2 = cond s.middle inner (k16 ⊕ (s.shoulder ⊕ k8));
@@ -105,27 +104,27 @@ unfoldable pub half_places_of : Halves → Places
 half_places_of b =
     let left = k16 ⊕ b.stick ⊕ k8 in
     let right = b.w ⊖ k16 ⊖ b.stick ⊖ k56 in
-    let lower = b.mainy ⊕ b.stick ⊖ k48 in
+    let lower = b.main_y ⊕ b.stick ⊖ k48 in
     record {
       faces = b.faces;
       l1 = new_of b.x1 b.y1 b.shoulder k48;
       l2 = new_of b.x2 b.y2 b.shoulder k48;
       r2 = new_of (b.w ⊖ b.x2 ⊖ b.shoulder) b.y2 b.shoulder k48;
       r1 = new_of (b.w ⊖ b.x1 ⊖ b.shoulder) b.y1 b.shoulder k48;
-      select = new_of left b.mainy k48 k48;
-      start = new_of right b.mainy k48 k48;
+      select = new_of left b.main_y k48 k48;
+      start = new_of right b.main_y k48 k48;
       l3 = new_of left lower k48 k48;
       r3 = new_of right lower k48 k48;
     }
 
 abbrev pub half_dpad : Halves → Rect
-half_dpad b = new_of b.digitalx b.facey b.face b.face
+half_dpad b = new_of b.digital_x b.face_y b.face b.face
 
 abbrev pub half_left_stick : Halves → Rect
-half_left_stick b = new_of k16 b.mainy b.stick b.stick
+half_left_stick b = new_of k16 b.main_y b.stick b.stick
 
 abbrev pub half_right_stick : Halves → Rect
-half_right_stick b = new_of (b.w ⊖ k16 ⊖ b.stick) b.mainy b.stick b.stick
+half_right_stick b = new_of (b.w ⊖ k16 ⊖ b.stick) b.main_y b.stick b.stick
 
 -- for a screen of 360 by 360 at least. The Rust sets the toolbar's keys here too, in landscape; they are at most scaled
 -- with the other elements, and then anchored anew.

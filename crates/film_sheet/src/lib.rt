@@ -12,9 +12,8 @@ use sheet::{Sheet, layout_sheet, refused_sheet};
 pub fn film_sheet(order: &[u8]) -> Sheet
     ensures { result ≡ film_sheet_of order.now }
 {
-    let reading = read_order(order);
-    if reading.refusal != 0 {
-        return refused_sheet(reading.refusal as usize);
+    match read_order(order) {
+        Ok(s) => layout_sheet(settings_layout(s)),
+        Err(refusal) => refused_sheet(u8::from(refusal) as usize),
     }
-    layout_sheet(settings_layout(reading.settings))
 }

@@ -1,7 +1,7 @@
 -- `fits` of input/picture.rs.
 use Rattle.std.specs.Prelude.{Bool, true, false, not, ◌&&◌, ◌||◌, List, [], ◌∷◌, ◌++◌, map, Float}
 use Rattle.std.specs.Float.Ieee.{le}
-use Rattle.prelude.specs.Lists.{any_of, all_of}
+use Rattle.std.specs.List.{list_any, list_all}
 use Rattle.float.specs.Float.{◌⊕◌, ◌⊖◌, ◌⊘◌, k0_01, k2, k3_99}
 use Rattle.geometry.specs.declared.Rect.{Rect}
 use Rattle.geometry.specs.Rect.{inside_of, overlaps_of}
@@ -39,12 +39,12 @@ separate_of i j =
 module _ (w h : Float) (game : Rect) (holes : List Rect) where
   -- on the screen to 0.01, and clear of the picture and of the holes
   unfoldable pub lies_clear_of : Rect → Bool
-  lies_clear_of r = inside_of r (w ⊕ k0_01) (h ⊕ k0_01) && (not (overlaps_of r game) && not (any_of (overlaps_of r) holes))
+  lies_clear_of r = inside_of r (w ⊕ k0_01) (h ⊕ k0_01) && (not (overlaps_of r game) && not (list_any (overlaps_of r) holes))
 
   -- each input lies clear, and separate from those after it
   unfoldable pub all_fit : List Input → Bool
   all_fit [] = true
-  all_fit (i ∷ later) = lies_clear_of i.bounds && (all_of (separate_of i) later && all_fit later)
+  all_fit (i ∷ later) = lies_clear_of i.bounds && (list_all (separate_of i) later && all_fit later)
 
 unfoldable pub fits_of : Layout → Float → Float → Rect → List Rect → Bool
 fits_of l w h game holes = all_fit w h game holes (inputs_of l)

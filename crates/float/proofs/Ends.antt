@@ -1,5 +1,5 @@
 -- Laws of `<=`, by which a call of clamp shows that its ends are in order.
-use Rattle.std.proofs.Common.{ℕ, ◌+◌, ◌-◌, ◌*◌, ◌<◌, ◌≤◌, Bool, true, false, cond, not, ◌&&◌, ◌||◌, T, eqb, ltb, mul-pos, arith, eqb→eq, nltb→le, le-ltb}
+use Rattle.std.proofs.Common.{◌≡◌, refl, ℕ, ◌+◌, ◌-◌, ◌*◌, ◌<◌, ◌≤◌, Bool, true, false, cond, not, ◌&&◌, ◌||◌, T, eqb, ltb, mul-pos, arith, eqb→eq, nltb→le, le-ltb}
 use lib.Arith.{le→nltb}
 use lib.Dec.{not_T}
 use lib.Ieee.{Float, nan, inf, fin, binary32, up, down, below, level, round, sum, neg, add, sub, lt, le, eq, ne, is_nan, of_bits}
@@ -66,6 +66,18 @@ le_refl x p = not_lt_le x x p p (not_T (lt x x) (lt_irrefl x))
 pub le_trans : (x y z : Float) → T (le x y) → T (le y z) → T (le x z)
 le_trans x y z p q =
     not_lt_le x z (le_first x y p) (le_second y z q) (not_T (lt z x) (λ r. lt_irrefl z (lt_le_trans z y z (lt_le_trans z x y r p) q)))
+
+-- ---- std's clamp
+pub clamp_is : (x low high : Float) → T (le low high) → cond (lt x low) low (cond (lt high x) high x) ≡ clamp_of x low high
+unfolding clamp_of
+clamp_is x low high p = go (lt x low)
+  where
+    ordered : lt high low ≡ false
+    ordered = is_false (lt high low) (not_T (lt high low) (λ r. lt_irrefl high (lt_le_trans high low high r p)))
+
+    go : (b : Bool) → cond b low (cond (lt high x) high x) ≡ (let y = cond b low x in cond (lt high y) high y)
+    go true = rw ordered
+    go false = refl
 
 -- ---- finite numbers
 pub finite_number : (x : Float) → T (finite x) → T (not (is_nan x))

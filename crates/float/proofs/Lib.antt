@@ -1,4 +1,4 @@
-pub mod Magnitude
+pub mod Signs
 pub mod Literals
 pub mod Order
 pub mod Nan

@@ -1,9 +1,9 @@
 -- The tests for NaN: a float that differs from itself, a bit pattern above the infinity's.
-use Rattle.std.proofs.Common.{◌≡◌, ℕ, ◌*◌, ◌%◌, ◌<◌, ◌≤◌, true, false, not, T, refl, true≢false, lt→ltb}
+use Rattle.std.proofs.Common.{◌≡◌, ℕ, ◌*◌, ◌%◌, ◌<◌, ◌≤◌, Bool, true, false, not, T, refl, true≢false, lt→ltb}
 use lib.Arith.{le→nltb}
 use lib.Ieee.{Float, nan, inf, fin, Format, hid, ones, top, ne, is_nan, of_bits, nan_bits}
 use lib.Ieee.Compare.{differs_from_itself}
-use lib.Ieee.Bits.{nan_bits_is, nan_bits_above}
+use lib.Ieee.Bits.{is_false, nan_bits_is, nan_bits_above}
 
 pub is_nan_lem : (x : Float) → ne x x ≡ true → x ≡ nan
 is_nan_lem x e = differs_from_itself x (rw e tt)
@@ -25,3 +25,10 @@ nan_bits_lem f n h = only_nan (of_bits f n) (rw (← (nan_bits_is f n), nan_bits
 
 pub no_nan_bits : (f : Format) (n : ℕ) → n % top f ≤ ones f * hid f → T (not (nan_bits f n))
 no_nan_bits f n h = rw (nan_bits_above f n) (le→nltb _ _ h)
+
+pub is_nan_is : (x : Float) → is_nan x ≡ ne x x
+is_nan_is x = go (ne x x) refl
+  where
+    go : (b : Bool) → ne x x ≡ b → is_nan x ≡ b
+    go true e = rw (is_nan_lem x e) (unfold is_nan in refl)
+    go false e = is_false (is_nan x) (no_nan x e)

@@ -2,9 +2,10 @@
 #![tactic(auto)]
 
 ghost use Rattle.std.specs.Prelude.{◌≡◌};
+ghost use Rattle.std.specs.List.{list_any};
 ghost use Rattle.geometry.specs.Rect.{new_of, shifted_of, contains_of, inside_of, fit_of, overlaps_of, near_of, same_bounds_of};
 
-#[derive(Clone, Copy)]
+#[derive(Clone, Copy, Debug, Default, PartialEq)]
 pub struct Rect {
     pub x: f32,
     pub y: f32,
@@ -21,7 +22,7 @@ pub const EMPTY: Rect = Rect {
 };
 
 // Where the game lies in the room that a smaller size factor leaves, from 0 to 1 across and down.
-#[derive(Clone, Copy)]
+#[derive(Clone, Copy, Debug, PartialEq)]
 pub struct Offset {
     pub x: f32,
     pub y: f32,
@@ -84,6 +85,12 @@ impl Rect {
         self.x < other.x + other.w - 0.01
             && (self.x + self.w > other.x + 0.01
                 && (self.y < other.y + other.h - 0.01 && self.y + self.h > other.y + 0.01))
+    }
+
+    pub fn overlaps_any(self, others: &[Rect]) -> bool
+        ensures { result ≡ list_any (overlaps_of self) others.now }
+    {
+        others.iter().any(|r| self.overlaps(*r))
     }
 
     pub fn same_bounds(self, other: Rect) -> bool

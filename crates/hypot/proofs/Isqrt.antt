@@ -9,6 +9,7 @@ use lib.Dec.{T, leb, ltb, leb→le, nleb→lt, ltb→lt, nltb→le}
 use lib.Ieee.{size}
 use lib.Ieee.Digits.{size-lt}
 use Rattle.prelude.proofs.Compare.{Cmp}
+use borrow.Author.Tests.{lt-ltb, le-ltb}
 use Rattle.prelude.proofs.Booleans.{either, by_test}
 use Rattle.hypot.specs.Hypot.{grow, root_below, isqrt}
 use Rattle.hypot.specs.Parts.{root_of}
@@ -46,8 +47,12 @@ pub isqrt_to : (s n : ℕ) → isqrt (s * s + n * n) ≤ s + n
 isqrt_to s n = root_le (s * s + n * n) _ (s + n) (is_root (s * s + n * n)).0 (omega arith)
 
 -- ---- `root_of`
-pub root_is : (m x : ℕ) (b : Bool) → x ≡ isqrt m → ltb (x * x) m ≡ b → cond b (2 * x + 1) (2 * x) ≡ root_of m
-root_is m x b e t = rw (← t, e)
+-- by its whole part x, of a root that is not whole and of one that is
+pub root_between : (m x : ℕ) → x * x ≤ m → m < (x + 1) * (x + 1) → x * x < m → 2 * x + 1 ≡ root_of m
+root_between m x h k l = rw (← (isqrt_is m x (h, k)), lt-ltb (x * x) m l)
+
+pub root_whole : (m x : ℕ) → x * x ≤ m → m < (x + 1) * (x + 1) → m ≤ x * x → 2 * x ≡ root_of m
+root_whole m x h k l = rw (← (isqrt_is m x (h, k)), le-ltb (x * x) m l)
 
 pub root_within : (m : ℕ) → (2 * isqrt m ≤ root_of m) × (root_of m ≤ 2 * isqrt m + 1)
 root_within m = either (λ r. (2 * isqrt m ≤ r) × (r ≤ 2 * isqrt m + 1)) (ltb (isqrt m * isqrt m) m) (omega arith) (omega arith)

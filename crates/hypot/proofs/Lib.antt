@@ -7,5 +7,4 @@ mod Theorem
 mod Ways
 pub mod Cases
 mod Midpoints
-mod Squares
 pub mod AtLeast

@@ -12,6 +12,7 @@ use Rattle.hypot.specs.Pattern.{exponent_of, significand_of, pattern_value, f32_
 use Rattle.hypot.specs.Nearest.{mid, Nearest}
 use Rattle.hypot.specs.Parts.{root_of}
 use Rattle.hypot.proofs.Isqrt.{isqrt_from, isqrt_to, root_within, root_ge, root_cmp}
+use Rattle.hypot.proofs.Order.{square_le}
 use Rattle.hypot.proofs.Value.{significand_lt}
 use Rattle.hypot.proofs.Rounding.{lower, mid_next, nearest_digits}
 use Rattle.hypot.proofs.Theorem.{nearest_is}
@@ -67,6 +68,9 @@ module _ (p q e f a b s : ℕ) (ee : e ≡ exponent_of p) (ff : f ≡ exponent_o
 
 pub root_small : (s n : ℕ) → s < 0x20_0000_0000 → n < 0x200_0000 → root_of (s * s + n * n) < 0x100_0000_0000
 root_small s n h k = omega (arith, root_within (s * s + n * n), isqrt_to s n)
+
+pub squares_small : (s n : ℕ) → s < 0x20_0000_0000 → n < 0x200_0000 → s * s + n * n < 2 ^ 76
+squares_small s n h k = omega (arith, square_le {a = s} {b = 0x1f_ffff_ffff} (omega arith), square_le {a = n} {b = 0x1ff_ffff} (omega arith))
 
 pub times_power_lt : (m d : ℕ) → m < 0x100_0000 → d ≤ 12 → m * 2 ^ d < 0x10_0000_0000
 times_power_lt m d h l = lt_of_lt_of_le (mul-lt-mul_of_pos_right h (pow_pos d)) (mul-le-mul_left 0x100_0000 (pow_mono l))

@@ -48,10 +48,10 @@ record RowIn (r : KeyRow) : Type 0 where
   pub face : In r.face (at 122) (at 8200)
   pub stick : In r.stick (at 104) (at 8200)
   pub shoulder : In r.shoulder (at 0) (at 4200)
-  pub rowy : In r.rowy (minus 64) (at 8192)
-  pub sticky : In r.sticky (minus 8400) (at 8192)
-  pub facey : In r.facey (at 0) (at 8192)
-  pub shouldery : In r.shouldery (at 0) (at 8192)
+  pub row_y : In r.row_y (minus 64) (at 8192)
+  pub stick_y : In r.stick_y (minus 8400) (at 8192)
+  pub face_y : In r.face_y (at 0) (at 8192)
+  pub shoulder_y : In r.shoulder_y (at 0) (at 8192)
 
 -- the shoulders lie below the toolbar, so the wells below them are on the screen too
 row_in : {w h face stick : Float} → In w (at 1) (at 8192) → In h (at 1) (at 8192) → AtMost face (max_area + shrunk_margin) → AtMost stick (max_area + shrunk_margin)
@@ -59,7 +59,7 @@ row_in : {w h face stick : Float} → In w (at 1) (at 8192) → In h (at 1) (at 
 unfolding measure_key_row_of tight_of
 row_in {w} {h} {face} {stick} W H F S t =
     let r = measure_key_row_of w h face stick in
-    let tight = lt r.shouldery toolbar_height in
+    let tight = lt r.shoulder_y toolbar_height in
     let small = lt face k122 || lt stick k104 in
     let n = (or_no tight small t).1 in
     let f = in_more (at 122) (at 8200) (not_below (most_in F tt) (lit 122) (or_no (lt face k122) (lt stick k104) n).0) tt tt in
@@ -75,10 +75,10 @@ row_in {w} {h} {face} {stick} W H F S t =
       face = f;
       stick = s;
       shoulder = in_more (at 0) (at 4200) (div_in (sub_in f (lit 8) tt) f2 tt) tt tt;
-      rowy = in_more (minus 64) (at 8192) rowY tt tt;
-      sticky = in_more (minus 8400) (at 8192) stickY tt tt;
-      facey = in_more (at 0) (at 8192) (sub_back (at 1) faceY (lit 8) (sub_back (at 10) above (lit 48) shoulderY tt tt) tt tt) tt tt;
-      shouldery = in_more (at 0) (at 8192) shoulderY tt tt;
+      row_y = in_more (minus 64) (at 8192) rowY tt tt;
+      stick_y = in_more (minus 8400) (at 8192) stickY tt tt;
+      face_y = in_more (at 0) (at 8192) (sub_back (at 1) faceY (lit 8) (sub_back (at 10) above (lit 48) shoulderY tt tt) tt tt) tt tt;
+      shoulder_y = in_more (at 0) (at 8192) shoulderY tt tt;
     }
 
 -- ---- the box around the faces
@@ -112,14 +112,14 @@ module _ {r : KeyRow} {dx dy : Float} (R : RowIn r) (DX : In dx (minus 17500) (a
   place_in B O = face_in B
   place_in B X = face_in B
   place_in B Sq = face_in B
-  place_in B L1 = element_in (lit 16) R.shouldery R.shoulder (lit 48) tt
-  place_in B L2 = element_in (add_in (lit 24) R.shoulder tt) R.shouldery R.shoulder (lit 48) tt
-  place_in B R2 = element_in (sub_in (sub_in R.w (lit 24) tt) (times_in f2 R.shoulder tt) tt) R.shouldery R.shoulder (lit 48) tt
-  place_in B R1 = element_in (sub_in (sub_in R.w (lit 16) tt) R.shoulder tt) R.shouldery R.shoulder (lit 48) tt
-  place_in B Select = element_in (lit 72) R.rowy (lit 48) (lit 48) tt
-  place_in B Start = element_in (sub_in R.w (lit 120) tt) R.rowy (lit 48) (lit 48) tt
-  place_in B L3 = element_in (lit 16) R.rowy (lit 48) (lit 48) tt
-  place_in B R3 = element_in (sub_in R.w (lit 64) tt) R.rowy (lit 48) (lit 48) tt
+  place_in B L1 = element_in (lit 16) R.shoulder_y R.shoulder (lit 48) tt
+  place_in B L2 = element_in (add_in (lit 24) R.shoulder tt) R.shoulder_y R.shoulder (lit 48) tt
+  place_in B R2 = element_in (sub_in (sub_in R.w (lit 24) tt) (times_in f2 R.shoulder tt) tt) R.shoulder_y R.shoulder (lit 48) tt
+  place_in B R1 = element_in (sub_in (sub_in R.w (lit 16) tt) R.shoulder tt) R.shoulder_y R.shoulder (lit 48) tt
+  place_in B Select = element_in (lit 72) R.row_y (lit 48) (lit 48) tt
+  place_in B Start = element_in (sub_in R.w (lit 120) tt) R.row_y (lit 48) (lit 48) tt
+  place_in B L3 = element_in (lit 16) R.row_y (lit 48) (lit 48) tt
+  place_in B R3 = element_in (sub_in R.w (lit 64) tt) R.row_y (lit 48) (lit 48) tt
 
   -- the controls past the first n are on the screen as they were
   row_controls_in : (n : ℕ) (cs : List Control) → Each (λ c. Old c.bounds) cs → Each (λ c. Element c.bounds) (map_first (in_row r dx dy) n cs)
@@ -128,8 +128,8 @@ module _ {r : KeyRow} {dx dy : Float} (R : RowIn r) (DX : In dx (minus 17500) (a
 row_sticks_in : {r : KeyRow} → RowIn r → (sticks : List Rect) (count : ℕ) → Each Element sticks → Each Element (row_sticks_of sticks count r)
 unfolding row_sticks_of
 row_sticks_in R sticks count e =
-    let left = each_set Element 0 sticks _ e (element_in (lit 16) R.sticky R.stick R.stick tt) in
-    either (Each Element) (ltb 1 count) (each_set Element 1 (set sticks 0 _) _ left (element_in (sub_in (sub_in R.w (lit 16) tt) R.stick tt) R.sticky R.stick R.stick tt)) left
+    let left = each_set Element 0 sticks _ e (element_in (lit 16) R.stick_y R.stick R.stick tt) in
+    either (Each Element) (ltb 1 count) (each_set Element 1 (set sticks 0 _) _ left (element_in (sub_in (sub_in R.w (lit 16) tt) R.stick tt) R.stick_y R.stick R.stick tt)) left
 
 -- ---- the layout
 module _ (l : Layout) (cs : l.count ≤ length l.controls) (ss : 0 < length l.sticks) (L : Every Old Element l) where
@@ -141,8 +141,8 @@ module _ (l : Layout) (cs : l.count ≤ length l.controls) (ss : 0 < length l.st
   key_row_in R =
       let A = actions_in l cs L.controls in
       let dx = in_more (minus 17500) (at 9100) (sub_in (sub_in (sub_in R.w (lit 16) tt) R.face tt) A.x tt) tt tt in
-      let dy = in_more (minus 9300) (at 9300) (sub_in R.facey A.y tt) tt tt in
-      let dpad = dpad_in bounded (element_in (lit 16) R.facey R.face R.face tt) in
+      let dy = in_more (minus 9300) (at 9300) (sub_in R.face_y A.y tt) tt tt in
+      let dpad = dpad_in bounded (element_in (lit 16) R.face_y R.face R.face tt) in
       sticks_in (controls_in dpad (row_controls_in R dx dy l.count l.controls L.controls)) (row_sticks_in R l.sticks l.stickcount bounded.sticks)
 
   stick_in : AtMost (get_or l.sticks 0 any_rect).w (max_area + shrunk_margin)

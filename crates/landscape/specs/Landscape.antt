@@ -23,11 +23,11 @@ measure_key_row_of w h face stick =
     let rowY = h ⊖ k4 ⊖ k48 in
     let stickY = rowY ⊖ k8 ⊖ stick in
     let faceY = stickY ⊖ k8 ⊖ face in
-    record { w = w; face = face; stick = stick; shoulder = (face ⊖ k8) ⊘ k2; rowy = rowY; sticky = stickY; facey = faceY; shouldery = faceY ⊖ k8 ⊖ k48 }
+    record { w = w; face = face; stick = stick; shoulder = (face ⊖ k8) ⊘ k2; row_y = rowY; stick_y = stickY; face_y = faceY; shoulder_y = faceY ⊖ k8 ⊖ k48 }
 
 -- the shoulders would reach into the toolbar, or a thumb's target is small already
 unfoldable pub tight_of : KeyRow → Bool
-tight_of r = lt r.shouldery toolbar_height || (lt r.face k122 || lt r.stick k104)
+tight_of r = lt r.shoulder_y toolbar_height || (lt r.face k122 || lt r.stick k104)
 
 -- the place of a control by its label: the faces go by dx and dy
 unfoldable pub place_in_row_of : KeyRow → Float → Float → Rect → Label → Rect
@@ -35,14 +35,14 @@ place_in_row_of r dx dy bounds Tri = shifted_of bounds dx dy
 place_in_row_of r dx dy bounds O = shifted_of bounds dx dy
 place_in_row_of r dx dy bounds X = shifted_of bounds dx dy
 place_in_row_of r dx dy bounds Sq = shifted_of bounds dx dy
-place_in_row_of r dx dy bounds L1 = new_of k16 r.shouldery r.shoulder k48
-place_in_row_of r dx dy bounds L2 = new_of (k24 ⊕ r.shoulder) r.shouldery r.shoulder k48
-place_in_row_of r dx dy bounds R2 = new_of (r.w ⊖ k24 ⊖ k2 ⊗ r.shoulder) r.shouldery r.shoulder k48
-place_in_row_of r dx dy bounds R1 = new_of (r.w ⊖ k16 ⊖ r.shoulder) r.shouldery r.shoulder k48
-place_in_row_of r dx dy bounds Select = new_of k72 r.rowy k48 k48
-place_in_row_of r dx dy bounds Start = new_of (r.w ⊖ k120) r.rowy k48 k48
-place_in_row_of r dx dy bounds L3 = new_of k16 r.rowy k48 k48
-place_in_row_of r dx dy bounds R3 = new_of (r.w ⊖ k64) r.rowy k48 k48
+place_in_row_of r dx dy bounds L1 = new_of k16 r.shoulder_y r.shoulder k48
+place_in_row_of r dx dy bounds L2 = new_of (k24 ⊕ r.shoulder) r.shoulder_y r.shoulder k48
+place_in_row_of r dx dy bounds R2 = new_of (r.w ⊖ k24 ⊖ k2 ⊗ r.shoulder) r.shoulder_y r.shoulder k48
+place_in_row_of r dx dy bounds R1 = new_of (r.w ⊖ k16 ⊖ r.shoulder) r.shoulder_y r.shoulder k48
+place_in_row_of r dx dy bounds Select = new_of k72 r.row_y k48 k48
+place_in_row_of r dx dy bounds Start = new_of (r.w ⊖ k120) r.row_y k48 k48
+place_in_row_of r dx dy bounds L3 = new_of k16 r.row_y k48 k48
+place_in_row_of r dx dy bounds R3 = new_of (r.w ⊖ k64) r.row_y k48 k48
 
 abbrev pub in_row : KeyRow → Float → Float → Control → Control
 in_row r dx dy c = with_bounds c (place_in_row_of r dx dy c.bounds c.label)
@@ -50,17 +50,17 @@ in_row r dx dy c = with_bounds c (place_in_row_of r dx dy c.bounds c.label)
 -- the sticks above the row, the right one if there are two
 unfoldable pub row_sticks_of : List Rect → ℕ → KeyRow → List Rect
 row_sticks_of sticks count r =
-    let left = set sticks 0 (new_of k16 r.sticky r.stick r.stick) in
-    cond (ltb 1 count) (set left 1 (new_of (r.w ⊖ k16 ⊖ r.stick) r.sticky r.stick r.stick)) left
+    let left = set sticks 0 (new_of k16 r.stick_y r.stick r.stick) in
+    cond (ltb 1 count) (set left 1 (new_of (r.w ⊖ k16 ⊖ r.stick) r.stick_y r.stick r.stick)) left
 
 -- the layout with the row: the faces keep their diamond, in the right well
 unfoldable pub with_key_row_of : Layout → KeyRow → Layout
 with_key_row_of l r =
     let actions = action_bounds_of l in
     let dx = r.w ⊖ k16 ⊖ r.face ⊖ actions.x in
-    let dy = r.facey ⊖ actions.y in
+    let dy = r.face_y ⊖ actions.y in
     let controls = map_first (in_row r dx dy) l.count l.controls in
-    with_sticks (with_controls (with_dpad l (new_of k16 r.facey r.face r.face)) controls) (row_sticks_of l.sticks l.stickcount r)
+    with_sticks (with_controls (with_dpad l (new_of k16 r.face_y r.face r.face)) controls) (row_sticks_of l.sticks l.stickcount r)
 
 abbrev pub key_row_of : Layout → Float → Float → KeyRow
 key_row_of l w h = measure_key_row_of w h l.dpad.w (get_or l.sticks 0 any_rect).w

@@ -2,12 +2,12 @@
 #![tactic(auto)]
 
 ghost use Rattle.std.specs.Prelude.{◌≡◌, ◌≤◌};
-ghost use Rattle.prelude.specs.Lists.{map_first};
 ghost use Rattle.layout.specs.Layout.{Few};
-ghost use Rattle.landscape.specs.Landscape.{measure_key_row_of, tight_of, place_in_row_of, in_row, row_sticks_of, with_key_row_of, fit_landscape_controls_of};
+ghost use Rattle.landscape.specs.Landscape.{measure_key_row_of, tight_of, place_in_row_of, row_sticks_of, with_key_row_of, fit_landscape_controls_of};
 
 use geometry::{CENTRED, Rect};
-use layout::{Control, Label, Layout};
+use layout::{Label, Layout};
+use places::move_all;
 use search::place_game_in_aspect;
 use toolbar::TOOLBAR_HEIGHT;
 
@@ -18,12 +18,13 @@ struct KeyRow {
     face: f32,
     stick: f32,
     shoulder: f32,
-    rowy: f32,
-    sticky: f32,
-    facey: f32,
-    shouldery: f32,
+    row_y: f32,
+    stick_y: f32,
+    face_y: f32,
+    shoulder_y: f32,
 }
 
+#[tactic(auto, unfolding(crate::specs::Landscape::measure_key_row_of))]
 fn measure_key_row(w: f32, h: f32, face: f32, stick: f32) -> KeyRow
     ensures { result ≡ measure_key_row_of w h face stick }
 {
@@ -35,71 +36,51 @@ fn measure_key_row(w: f32, h: f32, face: f32, stick: f32) -> KeyRow
         face,
         stick,
         shoulder: (face - 8.0) / 2.0,
-        rowy: row_y,
-        sticky: stick_y,
-        facey: face_y,
-        shouldery: face_y - 8.0 - 48.0,
+        row_y,
+        stick_y,
+        face_y,
+        shoulder_y: face_y - 8.0 - 48.0,
     }
 }
 
 // The shoulders would reach into the toolbar, or a thumb's target is small already.
+#[tactic(auto, unfolding(crate::specs::Landscape::tight_of))]
 fn tight(row: KeyRow) -> bool
     ensures { result ≡ tight_of row }
 {
-    row.shouldery < TOOLBAR_HEIGHT || (row.face < 122.0 || row.stick < 104.0)
+    row.shoulder_y < TOOLBAR_HEIGHT || row.face < 122.0 || row.stick < 104.0
 }
 
 // The place of a control by its label: the faces go by dx and dy.
+#[tactic(auto, unfolding(crate::specs::Landscape::place_in_row_of))]
 fn place_in_row(row: KeyRow, dx: f32, dy: f32, bounds: Rect, label: Label) -> Rect
     ensures { result ≡ place_in_row_of row dx dy bounds label }
 {
     let w = row.w;
     let shoulder = row.shoulder;
-    let y = row.shouldery;
+    let y = row.shoulder_y;
     match label {
-        Label::Tri => bounds.shifted(dx, dy),
-        Label::O => bounds.shifted(dx, dy),
-        Label::X => bounds.shifted(dx, dy),
-        Label::Sq => bounds.shifted(dx, dy),
+        Label::Tri | Label::O | Label::X | Label::Sq => bounds.shifted(dx, dy),
         Label::L1 => Rect::new(16.0, y, shoulder, 48.0),
         Label::L2 => Rect::new(24.0 + shoulder, y, shoulder, 48.0),
         Label::R2 => Rect::new(w - 24.0 - 2.0 * shoulder, y, shoulder, 48.0),
         Label::R1 => Rect::new(w - 16.0 - shoulder, y, shoulder, 48.0),
-        Label::Select => Rect::new(72.0, row.rowy, 48.0, 48.0),
-        Label::Start => Rect::new(w - 120.0, row.rowy, 48.0, 48.0),
-        Label::L3 => Rect::new(16.0, row.rowy, 48.0, 48.0),
-        Label::R3 => Rect::new(w - 64.0, row.rowy, 48.0, 48.0),
+        Label::Select => Rect::new(72.0, row.row_y, 48.0, 48.0),
+        Label::Start => Rect::new(w - 120.0, row.row_y, 48.0, 48.0),
+        Label::L3 => Rect::new(16.0, row.row_y, 48.0, 48.0),
+        Label::R3 => Rect::new(w - 64.0, row.row_y, 48.0, 48.0),
     }
 }
 
-fn row_controls(
-    controls: [Control; 12],
-    count: usize,
-    row: KeyRow,
-    dx: f32,
-    dy: f32,
-) -> [Control; 12]
-    requires { count ≤ 12 }
-    ensures { result ≡ map_first (in_row row dx dy) count controls }
-{
-    let mut out = controls;
-    for i in 0..count {
-        let c = out[i];
-        let label = c.label;
-        out[i] = c.with_bounds(place_in_row(row, dx, dy, c.bounds, label));
-    }
-    out
-}
-
-// The sticks above the row, the right one if there are two.
+// The sticks above the row, the right one if there are two. Apart from `with_key_row`: its `if` there would be a join.
+#[tactic(auto, unfolding(crate::specs::Landscape::row_sticks_of))]
 fn row_sticks(sticks: [Rect; 2], count: usize, row: KeyRow) -> [Rect; 2]
     ensures { result ≡ row_sticks_of sticks count row }
 {
-    let stick = row.stick;
     let mut out = sticks;
-    out[0] = Rect::new(16.0, row.sticky, stick, stick);
-    if 1 < count {
-        out[1] = Rect::new(row.w - 16.0 - stick, row.sticky, stick, stick);
+    out[0] = Rect::new(16.0, row.stick_y, row.stick, row.stick);
+    if count > 1 {
+        out[1] = Rect::new(row.w - 16.0 - row.stick, row.stick_y, row.stick, row.stick);
     }
     out
 }
@@ -111,16 +92,17 @@ fn with_key_row(l: Layout, row: KeyRow) -> Layout
 {
     let actions = l.action_bounds();
     let dx = row.w - 16.0 - row.face - actions.x;
-    let dy = row.facey - actions.y;
-    let controls = l.controls;
-    let placed = row_controls(controls, l.count, row, dx, dy);
-    let sticks = l.sticks;
-    let raised = row_sticks(sticks, l.stickcount, row);
-    let mut out = l;
-    out.dpad = Rect::new(16.0, row.facey, row.face, row.face);
-    out.controls = placed;
-    out.sticks = raised;
-    out
+    let dy = row.face_y - actions.y;
+    let mut controls = l.controls;
+    move_all(&mut controls[..l.count], |c| {
+        place_in_row(row, dx, dy, c.bounds, c.label)
+    });
+    Layout {
+        dpad: Rect::new(16.0, row.face_y, row.face, row.face),
+        controls,
+        sticks: row_sticks(l.sticks, l.stickcount, row),
+        ..l
+    }
 }
 
 // The row is kept only if it makes the game wider.
@@ -129,20 +111,15 @@ pub fn fit_landscape_controls(l: Layout, w: f32, h: f32, picture: Rect, aspect: 
     requires { Few l }
     ensures { result ≡ fit_landscape_controls_of l w h picture aspect }
 {
-    if (w <= h * 1.35) | (l.stickcount == 0) {
+    if w <= h * 1.35 || l.stickcount == 0 {
         return l;
     }
-    let dpad = l.dpad;
-    let sticks = l.sticks;
-    let stick = sticks[0];
-    let row = measure_key_row(w, h, dpad.w, stick.w);
+    let row = measure_key_row(w, h, l.dpad.w, l.sticks[0].w);
     if tight(row) {
         return l;
     }
     let fitted = place_game_in_aspect(with_key_row(l, row), picture, false, 1.0, CENTRED, aspect);
-    let game = l.game;
-    let rival = fitted.game;
-    if rival.w <= game.w + 0.01 {
+    if fitted.game.w <= l.game.w + 0.01 {
         return l;
     }
     fitted

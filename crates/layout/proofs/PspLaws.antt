@@ -2,13 +2,12 @@
 use mathlib.Core.Path.{◌≡◌, refl, ap, ◌∙◌}
 use mathlib.Core.List.{map}
 use Prim.Native.Nat.{◌≤◌}
-use native.Mathlib.Nat.{le_trans}
+use native.Mathlib.Nat.{le_trans, min-le_right}
 use native.Mathlib.Omega.{arith}
-use lib.Dec.{ltb}
+use lib.Dec.{lit≤}
 use lib.ListN.{length, drop}
 use lib.Seq.{take_at, length-take-le}
 use Rattle.prelude.specs.Lists.{retain}
-use Rattle.prelude.proofs.Booleans.{either}
 use Rattle.prelude.proofs.ListLaws.{map_retain, retain_fewer}
 use Rattle.layout.specs.declared.Control.{Control}
 use Rattle.layout.specs.declared.Layout.{Layout}
@@ -34,7 +33,7 @@ module _ (l : Layout) where
 
   psp_sticks : l.stickcount ≤ 2 → (psp_inputs_of l).stickcount ≤ 2
   unfolding psp_inputs_of at_most_one_of
-  psp_sticks h = either (λ n. n ≤ 2) (ltb l.stickcount 1) h (omega arith)
+  psp_sticks h = le_trans (min-le_right l.stickcount 1) (lit≤ tt)
 
   pub psp_counts : length l.controls ≡ 12 → Few l → Few (psp_inputs_of l)
   psp_counts n k =

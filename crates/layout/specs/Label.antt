@@ -1,9 +1,8 @@
 -- The labels of the controls.
-use Rattle.std.specs.Prelude.{Bool, true, false, List, [], ◌∷◌, ◌++◌, ℕ, ◌-◌, ◌^◌, eqb, length, replicate}
+use Rattle.std.specs.Prelude.{Bool, true, false, List, [], ◌∷◌, ℕ, ◌^◌, eqb}
 use Rattle.std.specs.Int.Bits.{bit_and}
 use Rattle.layout.specs.declared.Label.{Label}
 use Rattle.layout.specs.declared.Label.TheVariants.{Tri, O, X, Sq, L1, L2, R2, R1, Select, Start, L3, R3}
-use Rattle.layout.specs.declared.Name.{Name}
 
 -- the number of a label's bit in a button mask
 unfoldable pub id_of : Label → ℕ
@@ -58,7 +57,3 @@ name_of Select = 83 ∷ 69 ∷ 76 ∷ 69 ∷ 67 ∷ 84 ∷ []  -- SELECT
 name_of Start = 83 ∷ 84 ∷ 65 ∷ 82 ∷ 84 ∷ []  -- START
 name_of L3 = 76 ∷ 51 ∷ []  -- L3
 name_of R3 = 82 ∷ 51 ∷ []  -- R3
-
--- the name in six bytes, with zeros after it, and its length
-unfoldable pub padded_name_of : Label → Name
-padded_name_of l = let name = name_of l in record { bytes = name ++ replicate (6 - length name) 0; length = length name }

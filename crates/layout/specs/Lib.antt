@@ -4,4 +4,3 @@ pub mod Elements
 pub mod Labels
 pub mod Actions
 pub mod Psp
-pub mod Maybe

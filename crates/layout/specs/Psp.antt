@@ -1,5 +1,5 @@
 -- `psp_inputs` of input.rs: the controls that a psp has, and one stick at most.
-use Rattle.std.specs.Prelude.{Bool, cond, ℕ, ltb, length}
+use Rattle.std.specs.Prelude.{Bool, cond, ℕ, min, length}
 use Rattle.prelude.specs.Lists.{retain, compact}
 use Rattle.layout.specs.declared.Control.{Control}
 use Rattle.layout.specs.declared.Layout.{Layout}
@@ -7,7 +7,7 @@ use Rattle.layout.specs.Label.{on_psp_of}
 use Rattle.layout.specs.Layout.{control_list, with_controller}
 
 unfoldable pub at_most_one_of : ℕ → ℕ
-at_most_one_of n = cond (ltb n 1) n 1
+at_most_one_of n = min n 1
 
 abbrev pub on_psp : Control → Bool
 on_psp c = on_psp_of c.label

@@ -1,21 +1,20 @@
 // The layout record of input.rs: a game, a d-pad, controls, the toolbar's four keys, sticks.
 #![tactic(auto)]
 
-ghost use Rattle.std.specs.Prelude.{◌≡◌, cond, ◌+◌, ◌≤◌, ◌<◌, drop};
-ghost use Rattle.std.proofs.Math.Option.{none};
-ghost use Rattle.layout.specs.Label.{mask_of, is_face_of, on_psp_of, padded_name_of};
+ghost use Rattle.std.specs.Prelude.{◌≡◌, ◌+◌, ◌≤◌, ◌<◌, length, drop};
+ghost use Rattle.arrayvec.specs.ArrayVec.{array_vec_len};
+ghost use Rattle.layout.specs.Label.{mask_of, is_face_of, on_psp_of, name_of};
 ghost use Rattle.layout.specs.Actions.{join_of, action_bounds_of};
-ghost use Rattle.layout.specs.Psp.{at_most_one_of, psp_inputs_of, with_inputs_of};
-ghost use Rattle.layout.specs.Maybe.{maybe};
+ghost use Rattle.layout.specs.Psp.{psp_inputs_of, with_inputs_of};
 ghost use mathlib.Core.List.{map, zip_with};
-ghost use Rattle.prelude.specs.Lists.{any_of, replace_first};
-ghost use Rattle.geometry.specs.Rect.{overlaps_of};
-ghost use Rattle.layout.specs.Layout.{element_count_of, element_of, set_element_of, elements_of, element_list, cutout_list, control, with_bounds, Few};
+ghost use Rattle.prelude.specs.Lists.{replace_first};
+ghost use Rattle.layout.specs.Layout.{element_count_of, element_of, set_element_of, elements_of, control_list, stick_list, cutout_list, control, with_bounds, Few};
 ghost use Rattle.layout.specs.Elements.{controller_elements_of, set_elements_of};
 
+use arrayvec::ArrayVec;
 use geometry::{EMPTY, Rect};
 
-#[derive(Clone, Copy)]
+#[derive(Clone, Copy, Debug, PartialEq, Eq)]
 pub enum Label {
     Tri,
     O,
@@ -31,21 +30,15 @@ pub enum Label {
     R3,
 }
 
-#[derive(Clone, Copy)]
+#[derive(Clone, Copy, Debug, PartialEq)]
 pub struct Control {
     pub bounds: Rect,
     pub label: Label,
 }
 
-// A name in ASCII: the first `length` bytes of the array, zeros after them.
-#[derive(Clone, Copy)]
-pub struct Name {
-    pub bytes: [u8; 6],
-    pub length: usize,
-}
-
-// The first `count` controls and the first `stickcount` sticks are in use.
-#[derive(Clone, Copy)]
+// The first `count` controls and the first `stickcount` sticks are in use. That these are no more than the arrays have, `Few`, is said where it is needed, and is no
+// invariant of the type: each definition that makes a layout (`with_controller` and those on it) would have to carry a proof of it.
+#[derive(Clone, Copy, Debug, PartialEq)]
 pub struct Layout {
     pub game: Rect,
     pub dpad: Rect,
@@ -59,24 +52,16 @@ pub struct Layout {
     pub stickcount: usize,
 }
 
-// All elements of a layout, or some of them: the first `count` of the array.
-#[derive(Clone, Copy)]
-pub struct Elements {
-    pub at: [Rect; 19],
-    pub count: usize,
-}
+// Elements of a layout: all of them, or some.
+pub type Elements = ArrayVec<Rect, 19>;
 
-// The camera holes of a screen: the first `count` of the array.
-#[derive(Clone, Copy)]
+// The camera holes that an order sets: the first `count` of the array. No invariant bounds the count, since `write_order` answers 7 for settings
+// with more; so functions over a slice of them ask for at most 16 where an array or the number of moves does.
+#[derive(Clone, Copy, Debug, PartialEq)]
 pub struct Cutouts {
     pub at: [Rect; 16],
     pub count: usize,
 }
-
-pub const NO_ELEMENTS: Elements = Elements {
-    at: [EMPTY; 19],
-    count: 0,
-};
 
 pub const NO_CUTOUTS: Cutouts = Cutouts {
     at: [EMPTY; 16],
@@ -102,13 +87,6 @@ pub const EMPTY_LAYOUT: Layout = Layout {
     stickcount: 0,
 };
 
-// A layout, where there is one.
-#[derive(Clone, Copy)]
-pub struct MaybeLayout {
-    pub some: bool,
-    pub layout: Layout,
-}
-
 impl Control {
     pub fn new(bounds: Rect, label: Label) -> Self
         ensures { result ≡ control bounds label }
@@ -120,9 +98,10 @@ impl Control {
     pub fn with_bounds(self, bounds: Rect) -> Self
         ensures { result ≡ with_bounds self bounds }
     {
-        let mut c = self;
-        c.bounds = bounds;
-        c
+        Self {
+            bounds,
+            label: self.label,
+        }
     }
 }
 
@@ -147,23 +126,11 @@ impl Label {
         }
     }
 
+    #[tactic(auto, unfolding(crate::specs::Label::is_face_of))]
     pub fn is_face(self) -> bool
         ensures { result ≡ is_face_of self }
     {
-        match self {
-            Label::Tri => true,
-            Label::O => true,
-            Label::X => true,
-            Label::Sq => true,
-            Label::L1 => false,
-            Label::L2 => false,
-            Label::R2 => false,
-            Label::R1 => false,
-            Label::Select => false,
-            Label::Start => false,
-            Label::L3 => false,
-            Label::R3 => false,
-        }
+        matches!(self, Label::Tri | Label::O | Label::X | Label::Sq)
     }
 
     // Whether a psp has the control: its mask has no high bit.
@@ -174,65 +141,54 @@ impl Label {
     }
 
     // The film sheet's name.
-    pub fn name(self) -> Name
-        ensures { result ≡ padded_name_of self }
+    #[tactic(auto, unfolding(crate::specs::Label::name_of))]
+    pub fn name(self) -> &'static str
+        ensures { result.now ≡ name_of self }
     {
         match self {
-            Label::Tri => named([b'T', b'R', b'I', 0, 0, 0], 3),
-            Label::O => named([b'O', 0, 0, 0, 0, 0], 1),
-            Label::X => named([b'X', 0, 0, 0, 0, 0], 1),
-            Label::Sq => named([b'S', b'Q', 0, 0, 0, 0], 2),
-            Label::L1 => named([b'L', b'1', 0, 0, 0, 0], 2),
-            Label::L2 => named([b'L', b'2', 0, 0, 0, 0], 2),
-            Label::R2 => named([b'R', b'2', 0, 0, 0, 0], 2),
-            Label::R1 => named([b'R', b'1', 0, 0, 0, 0], 2),
-            Label::Select => named([b'S', b'E', b'L', b'E', b'C', b'T'], 6),
-            Label::Start => named([b'S', b'T', b'A', b'R', b'T', 0], 5),
-            Label::L3 => named([b'L', b'3', 0, 0, 0, 0], 2),
-            Label::R3 => named([b'R', b'3', 0, 0, 0, 0], 2),
+            Label::Tri => "TRI",
+            Label::O => "O",
+            Label::X => "X",
+            Label::Sq => "SQ",
+            Label::L1 => "L1",
+            Label::L2 => "L2",
+            Label::R2 => "R2",
+            Label::R1 => "R1",
+            Label::Select => "SELECT",
+            Label::Start => "START",
+            Label::L3 => "L3",
+            Label::R3 => "R3",
         }
-    }
-}
-
-fn named(bytes: [u8; 6], length: usize) -> Name
-    ensures { result ≡ record { bytes = bytes; length = length } }
-{
-    Name { bytes, length }
-}
-
-impl Elements {
-    // One of them overlaps the rectangle.
-    pub fn overlap(self, r: Rect) -> bool
-        requires { self.count ≤ 19 }
-        ensures { result ≡ any_of (overlaps_of r) (element_list self) }
-    {
-        let n = self.count;
-        for k in 0..n {
-            if r.overlaps(self.at[k]) {
-                return true;
-            }
-        }
-        false
     }
 }
 
 impl Cutouts {
-    // One of them overlaps the rectangle.
-    pub fn overlap(self, r: Rect) -> bool
-        requires { self.count ≤ 16 }
-        ensures { result ≡ any_of (overlaps_of r) (cutout_list self) }
+    // Those in use.
+    pub fn as_slice(&self) -> &[Rect]
+        requires { self.now.count ≤ 16 }
+        ensures { result.now ≡ cutout_list self.now }
     {
-        let n = self.count;
-        for k in 0..n {
-            if r.overlaps(self.at[k]) {
-                return true;
-            }
-        }
-        false
+        &self.at[..self.count]
     }
 }
 
 impl Layout {
+    // The controls in use.
+    pub fn control_list(&self) -> &[Control]
+        requires { self.now.count ≤ 12 }
+        ensures { result.now ≡ control_list self.now }
+    {
+        &self.controls[..self.count]
+    }
+
+    // The sticks in use.
+    pub fn stick_list(&self) -> &[Rect]
+        requires { self.now.stickcount ≤ 2 }
+        ensures { result.now ≡ stick_list self.now }
+    {
+        &self.sticks[..self.stickcount]
+    }
+
     pub fn element_count(self) -> usize
         requires { Few self }
         ensures { result ≡ element_count_of self }
@@ -304,75 +260,61 @@ impl Layout {
     }
 
     // All elements, in the order of their indices.
-    // The places of the array past the count are left open.
+    #[tactic(auto, unfolding(crate::specs::Layout::elements_of))]
     pub fn elements(self) -> Elements
         requires { Few self }
-        ensures { (element_list result ≡ elements_of self) × (result.count ≡ element_count_of self) }
+        ensures items { result.items ≡ elements_of self }
+        ensures count { array_vec_len result ≡ element_count_of self }
     {
-        let n = self.count;
-        let dpad = self.dpad;
-        let controls = self.controls;
-        let pause = self.pause;
-        let playback = self.playback;
-        let speed = self.speed;
-        let mute = self.mute;
-        let sticks = self.sticks;
-        let mut at = [dpad; 19];
-        for i in 0..n {
-            let c = controls[i];
-            let bounds = c.bounds;
-            at[i + 1] = bounds;
+        let mut out = ArrayVec::new();
+        out.push(self.dpad);
+        for c in self.control_list() {
+            out.push(c.bounds);
         }
-        at[n + 1] = pause;
-        at[n + 2] = playback;
-        at[n + 3] = speed;
-        at[n + 4] = mute;
-        at[n + 5] = sticks[0];
-        at[n + 6] = sticks[1];
-        Elements {
-            at,
-            count: self.element_count(),
+        out.push(self.pause);
+        out.push(self.playback);
+        out.push(self.speed);
+        out.push(self.mute);
+        for r in self.stick_list() {
+            out.push(*r);
         }
+        out
     }
 
     // The elements but for the toolbar's.
-    // The places of the array past the count are left open.
-    pub fn controller_elements(self) -> Elements
+    #[tactic(auto, using(crate::proofs::ElementLaws::controller_elements_lem, crate::proofs::ArrayLaws::array_lengths))]
+    pub fn controller_elements(self) -> ArrayVec<Rect, 15>
         requires { Few self }
-        ensures { (element_list result ≡ map (element_of self) (controller_elements_of self)) × (result.count ≡ self.count + 1 + self.stickcount) }
+        ensures items { result.items ≡ map (element_of self) (controller_elements_of self) }
+        ensures count { array_vec_len result ≡ self.count + 1 + self.stickcount }
     {
-        let n = self.count;
-        let sticks = self.sticks;
-        let all = self.elements();
-        let mut at = all.at;
-        at[n + 1] = sticks[0];
-        at[n + 2] = sticks[1];
-        Elements {
-            at,
-            count: n + 1 + self.stickcount,
+        let mut out = ArrayVec::new();
+        out.push(self.dpad);
+        for c in self.control_list() {
+            out.push(c.bounds);
         }
+        for r in self.stick_list() {
+            out.push(*r);
+        }
+        out
     }
 
     // `set_element` at each index in turn.
-    pub fn set_elements(self, rects: Elements) -> Layout
-        requires { Few self × (rects.count ≡ element_count_of self) }
-        ensures { result ≡ set_elements_of self (element_list rects) }
+    #[tactic(auto, unfolding(crate::specs::Elements::set_elements_of))]
+    pub fn set_elements(self, rects: &[Rect]) -> Layout
+        requires { Few self × (length rects.now ≡ element_count_of self) }
+        ensures { result ≡ set_elements_of self rects.now }
     {
         let n = self.count;
-        let at = rects.at;
-        let old = self.controls;
-        let controls = set_bounds(old, n, at);
         let mut sticks = self.sticks;
-        for i in 0..self.stickcount {
-            sticks[i] = at[n + 5 + i];
-        }
+        sticks[..self.stickcount].copy_from_slice(&rects[n + 5..]);
         let mut l = self;
-        l.dpad = at[0];
-        l.controls = controls;
-        l.pause = at[n + 1];
-        l.playback = at[n + 2];
-        l.speed = at[n + 3];
-        l.mute = at[n + 4];
+        l.dpad = rects[0];
+        l.controls = set_bounds(self.controls, n, rects);
+        l.pause = rects[n + 1];
+        l.playback = rects[n + 2];
+        l.speed = rects[n + 3];
+        l.mute = rects[n + 4];
         l.sticks = sticks;
         l
     }
@@ -382,18 +324,16 @@ impl Layout {
         requires { self.count ≤ 12 }
         ensures { result ≡ action_bounds_of self }
     {
-        let controls = self.controls;
-        let mut bounds = EMPTY;
-        let mut found = false;
-        for i in 0..self.count {
-            let c = controls[i];
-            let label = c.label;
-            if label.is_face() {
-                bounds = joined(found, bounds, c.bounds);
-                found = true;
+        let mut bounds: Option<Rect> = None;
+        for c in self.control_list() {
+            if c.label.is_face() {
+                bounds = Some(match bounds {
+                    Some(b) => join(b, c.bounds),
+                    None => c.bounds,
+                });
             }
         }
-        bounds
+        bounds.unwrap_or(EMPTY)
     }
 
     // Keeps the controls that a psp has, in their order, and at most one stick.
@@ -401,29 +341,21 @@ impl Layout {
         requires { self.count ≤ 12 }
         ensures { result ≡ psp_inputs_of self }
     {
-        let old = self.controls;
-        let mut controls = old;
-        let mut count: usize = 0;
-        for i in 0..self.count {
-            let c = old[i];
-            let label = c.label;
-            if label.on_psp() {
-                controls[count] = c;
+        // By hand, since the places of the array past those kept stay as they were.
+        let mut controls = self.controls;
+        let mut count = 0;
+        for c in self.control_list() {
+            if c.label.on_psp() {
+                controls[count] = *c;
                 count += 1;
             }
         }
         let mut l = self;
         l.controls = controls;
         l.count = count;
-        l.stickcount = at_most_one(self.stickcount);
+        l.stickcount = self.stickcount.min(1);
         l
     }
-}
-
-fn at_most_one(n: usize) -> usize
-    ensures { result ≡ at_most_one_of n }
-{
-    if n < 1 { n } else { 1 }
 }
 
 // The box around two rectangles.
@@ -440,25 +372,14 @@ fn join(a: Rect, b: Rect) -> Rect
     )
 }
 
-// The box around what was found and one more.
-fn joined(found: bool, bounds: Rect, next: Rect) -> Rect
-    ensures { result ≡ cond found (join_of bounds next) next }
-{
-    if found {
-        return join(bounds, next);
-    }
-    next
-}
-
-// The first n controls with the rectangles that follow the d-pad's.
-fn set_bounds(controls: [Control; 12], n: usize, at: [Rect; 19]) -> [Control; 12]
-    requires { n ≤ 12 }
-    ensures { result ≡ replace_first n (zip_with with_bounds controls (drop 1 at)) controls }
+// The first n controls with the rectangles that follow the d-pad's. By index: a proof sees nothing of what an adapter of `iter_mut` writes.
+fn set_bounds(controls: [Control; 12], n: usize, rects: &[Rect]) -> [Control; 12]
+    requires { (n ≤ 12) × (n + 1 ≤ length rects.now) }
+    ensures { result ≡ replace_first n (zip_with with_bounds controls (drop 1 rects.now)) controls }
 {
     let mut out = controls;
-    for i in 0..n {
-        let c = controls[i];
-        out[i] = c.with_bounds(at[i + 1]);
+    for (i, r) in rects[1..n + 1].iter().enumerate() {
+        out[i] = controls[i].with_bounds(*r);
     }
     out
 }
@@ -472,15 +393,4 @@ pub fn with_inputs(l: Layout, psp: bool) -> Layout
         return l.psp_inputs();
     }
     l
-}
-
-// Rust's `None`.
-// The layout beside `some: false` is left open, but for its counts.
-pub fn no_layout() -> MaybeLayout
-    ensures { (maybe result ≡ none) × (result.layout.count ≡ 0) × (result.layout.stickcount ≡ 0) }
-{
-    MaybeLayout {
-        some: false,
-        layout: EMPTY_LAYOUT,
-    }
 }

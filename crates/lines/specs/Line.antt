@@ -1,8 +1,7 @@
 -- A line of the film sheet of document 01, and its text.
-use Rattle.std.specs.Prelude.{cond, List, [], ◌∷◌, ◌++◌, ℕ, zero, suc, ◌+◌, ◌/◌, ◌%◌, ◌≤◌, ◌<◌, ltb, ℤ, pos, negsuc, nat_abs, length, take}
+use Rattle.std.specs.Prelude.{cond, List, [], ◌∷◌, ◌++◌, ℕ, zero, suc, ◌+◌, ◌/◌, ◌%◌, ◌<◌, ltb, ℤ, pos, negsuc, nat_abs, length}
 use Rattle.prelude.specs.Lists.{stored}
 use Rattle.geometry.specs.declared.Rect.{Rect}
-use Rattle.layout.specs.declared.Name.{Name}
 use Rattle.numerics.specs.Value.{value, AtMost}
 use Rattle.numerics.specs.Rects.{max_game_corner}
 use Rattle.tenths.specs.Tenths.{tenths_of, span_of}
@@ -27,12 +26,9 @@ line_of name r =
       h = span_of (value r.y) (value r.h);
     }
 
--- a name without the zeros after it, and the line that the code holds
-abbrev pub name_text : Name → List ℕ
-name_text n = take n.length n.bytes
-
+-- the line that the code holds
 abbrev pub line_in : SheetLine → Line
-line_in l = record { name = name_text l.name; x = l.x; y = l.y; w = l.w; h = l.h }
+line_in l = record { name = l.name.now; x = l.x; y = l.y; w = l.w; h = l.h }
 
 -- ---- text, in ASCII
 
@@ -84,10 +80,6 @@ pub record Numbers (C : ℤ → Type 0) (l : Line) : Type 0 where
 -- a number has six digits at most
 abbrev pub SixDigits : ℤ → Type 0
 SixDigits z = nat_abs z < 1000000
-
-pub record PrintableLine (l : SheetLine) : Type 0 where
-  pub name : l.name.length ≤ 6
-  pub numbers : Numbers SixDigits (line_in l)
 
 -- the output with a text stored from `at` on, and where the text ends
 unfoldable pub put_of : List ℕ → ℕ → List ℕ → List ℕ × ℕ

@@ -2,79 +2,82 @@
 #![tactic(auto)]
 
 ghost use Rattle.std.specs.Prelude.{◌≡◌, ◌+◌, ◌≤◌, length};
-ghost use Rattle.lines.specs.Line.{name_text, line_of, line_in, digits_of, number_text, field_text, line_text, head_text, SixDigits, Printable, PrintableLine, put_of};
+ghost use Rattle.numerics.specs.Value.{value, AtMost};
+ghost use Rattle.tenths.specs.Tenths.{tenths_of, span_of};
+ghost use Rattle.lines.specs.Line.{most, line_of, line_in, digits_of, number_text, field_text, line_text, head_text, Printable, Numbers, SixDigits, put_of};
 
 use geometry::Rect;
-use layout::Name;
 use tenths::edge;
 
 // A line as data: a name, and x, y, w and h in tenths.
-#[derive(Clone, Copy)]
+#[derive(Clone, Copy, Default, Debug, PartialEq, Eq)]
 pub struct SheetLine {
-    pub name: Name,
+    pub name: &'static str,
     pub x: i32,
     pub y: i32,
     pub w: i32,
     pub h: i32,
 }
 
-// x and y are rounded, and so are the right and lower edges: w and h are what lies between.
-pub fn sheet_line(name: Name, r: Rect) -> SheetLine
-    requires { (name.length ≤ 6) × Printable r }
-    ensures { (line_in result ≡ line_of (name_text name) r) × PrintableLine result }
+// Along one axis, the rounded beginning, and what lies between it and the rounded end.
+fn span(x: f32, w: f32) -> (i32, i32)
+    requires { AtMost x most × AtMost w most }
+    ensures { result ≡ (tenths_of (value x), span_of (value x) (value w)) }
 {
-    let x = edge(r.x, 0.0);
-    let y = edge(r.y, 0.0);
-    let right = edge(r.x, r.w);
-    let lower = edge(r.y, r.h);
-    SheetLine {
-        name,
-        x,
-        y,
-        w: right - x,
-        h: lower - y,
-    }
+    let near = edge(x, 0.0);
+    let far = edge(x, w);
+    (near, far - near)
+}
+
+#[tactic(auto, unfolding(crate::specs::Line::line_of))]
+pub fn sheet_line(name: &'static str, r: Rect) -> SheetLine
+    requires { Printable r }
+    ensures line { line_in result ≡ line_of name.now r }
+    ensures printable { Numbers SixDigits (line_in result) }
+{
+    let (x, w) = span(r.x, r.w);
+    let (y, h) = span(r.y, r.h);
+    SheetLine { name, x, y, w, h }
 }
 
 fn put_text(out: &mut [u8], at: usize, text: &[u8]) -> usize
     requires { at + length text.now ≤ length out.old }
     ensures { (out.new, result) ≡ put_of out.old at text.now }
 {
-    for i in 0..text.len() {
-        out[at + i] = text[i];
-    }
+    out[at..at + text.len()].copy_from_slice(text);
     at + text.len()
 }
 
 // The digits of n, the most significant first: those of n / 10, and then the last.
+// `out` and `at` stay side by side, here and below, and are no `ArrayString`: `put_line` and `put_head` (docs/ARCHITECTURE.md) write into output of any length,
+// and over `ArrayString<N>` this recursion does not prove: a bug of the check keeps each answer `put_digits-requires` from counting.
 fn put_digits(out: &mut [u8], at: usize, n: u32) -> usize
     requires { at + length (digits_of n) ≤ length out.old }
     ensures { (out.new, result) ≡ put_of out.old at (digits_of n) }
 {
-    if n < 10 {
-        out[at] = b'0' + n as u8;
-        return at + 1;
-    }
-    let last = put_digits(out, at, n / 10);
+    let last = if n < 10 {
+        at
+    } else {
+        put_digits(out, at, n / 10)
+    };
     out[last] = b'0' + (n % 10) as u8;
     last + 1
 }
 
-#[tactic(auto, using(crate::proofs::Numbers::below_zero, crate::proofs::Numbers::not_below_zero, crate::proofs::Puts::put_length))]
 fn put_number(out: &mut [u8], at: usize, n: i32) -> usize
-    requires { SixDigits n × (at + length (number_text n) ≤ length out.old) }
+    requires { at + length (number_text n) ≤ length out.old }
     ensures { (out.new, result) ≡ put_of out.old at (number_text n) }
 {
     if n < 0 {
         out[at] = b'-';
-        return put_digits(out, at + 1, (-n) as u32);
+        return put_digits(out, at + 1, n.unsigned_abs());
     }
-    put_digits(out, at, n as u32)
+    put_digits(out, at, n.unsigned_abs())
 }
 
 // A blank, and a number.
 fn put_field(out: &mut [u8], at: usize, n: i32) -> usize
-    requires { SixDigits n × (at + length (field_text n) ≤ length out.old) }
+    requires { at + length (field_text n) ≤ length out.old }
     ensures { (out.new, result) ≡ put_of out.old at (field_text n) }
 {
     out[at] = b' ';
@@ -83,13 +86,10 @@ fn put_field(out: &mut [u8], at: usize, n: i32) -> usize
 
 // A local says where the field begins that it is named after.
 pub fn put_line(out: &mut [u8], at: usize, l: SheetLine) -> usize
-    requires { PrintableLine l × (at + length (line_text (line_in l)) ≤ length out.old) }
+    requires { at + length (line_text (line_in l)) ≤ length out.old }
     ensures { (out.new, result) ≡ put_of out.old at (line_text (line_in l)) }
 {
-    let name = l.name;
-    let bytes = name.bytes;
-    let length = name.length;
-    let x = put_text(out, at, &bytes[..length]);
+    let x = put_text(out, at, l.name.as_bytes());
     let y = put_field(out, x, l.x);
     let w = put_field(out, y, l.y);
     let h = put_field(out, w, l.w);

@@ -1,107 +1,105 @@
--- A move inserted into arrays: its place, each array opened there, the moves that the arrays then hold.
+-- A move inserted into arrays: each array opened at the move's place, the moves that the arrays then hold.
 use mathlib.Core.Path.{◌≡◌, refl, ap, sym, ◌∙◌}
-use mathlib.Core.Bool.{Bool, true, false, cond}
-use mathlib.Core.List.{List, [], ◌∷◌, map, zip, zip_with}
-use Prim.Native.Nat.{ℕ, zero, suc, ◌+◌, ◌<◌, ◌≤◌}
-use native.Mathlib.Numerals.{add-one}
+use mathlib.Core.Bool.{Bool, true, false, not, cond}
+use mathlib.Core.List.{List, [], ◌∷◌, ◌++◌, map, append-nil}
+use Prim.Native.Nat.{ℕ, zero, suc, ◌+◌, ◌-◌, ◌<◌, ◌≤◌}
 use native.Mathlib.Omega.{arith}
+use lib.Dec.{ltb, nltb→le}
 use lib.Ieee.{Float}
-use lib.ListN.{length, take, drop, get_or, set}
-use lib.Seq.{drop-cons, drop_at, get_or-take, length-take-le, set_split, take-set-le, take-set-lt, take-take}
-use Rattle.prelude.proofs.ListLaws.{take_zip_with}
-use Rattle.prelude.proofs.Loops.{none_left}
-use Rattle.moves.specs.Moves.{HoldMoves, length_of, shorter_of, slot_of, insert_at_of, insert_of, moves_in}
+use lib.ListN.{length, take, drop, get_or, set, length-drop, length-append}
+use lib.Seq.{paste, drop_at, length-take-le, set_split, take-append-le, take-set-lt, take-take}
+use Rattle.std.specs.Prelude.{Option, Some, None, unwrap_or}
+use Rattle.std.specs.List.{find, flat_map, fold, insert, position_or_len, zip}
+use Rattle.std.specs.Option.{option_map}
+use Rattle.std.proofs.lemmas.List.{take_more}
+use Rattle.std.proofs.lemmas.List.Concat.{flat_map-append}
+use Rattle.std.proofs.lemmas.List.Sums.{fold-append, prefix_len-le-length}
+use Rattle.std.proofs.lemmas.List.Edits.{take-paste}
+use Rattle.std.proofs.lemmas.Slice.Zip.{length-zip}
+use Rattle.prelude.specs.Lists.{find as first}
+use Rattle.prelude.proofs.Booleans.{by_test}
+use Rattle.prelude.proofs.ListLaws.{drop_take}
+use Rattle.moves.specs.Moves.{length_of, shorter_of, insert_of, moves_in}
 
-drop_set : {A : Type 0} (l : List A) (i : ℕ) (v : A) → i < length l → drop i (set l i v) ≡ v ∷ drop (i + 1) l
-drop_set l i v h =
-    let e : length (take i l) ≡ i = length-take-le i l (omega arith) in
-    rw (set_split l i v h, add-one) (drop_at (take i l) (v ∷ drop (suc i) l) i e)
+-- ---- an array opened at a place: what stood from there on among the first n is copied one place further, and v is put there
+pub opened : {A : Type 0} (old : List A) (n at : ℕ) (v : A) → at ≤ n → n < length old → take (n + 1) (set (paste old (at + 1) (drop at old) (n - at)) at v) ≡ insert (take n old) at v
+opened old n at v h k =
+    let copied = paste old (at + 1) (drop at old) (n - at) in
+    let e : n + 1 ≡ at + 1 + (n - at) = omega arith in
+    let d : n ≡ at + (n - at) = omega arith in
+    let front : length (take (at + 1) old) ≡ suc at = let z = length-take-le (at + 1) old (omega arith) in omega arith in
+    let rest : drop at (take n old) ≡ take (n - at) (drop at old) = ap (λ m. drop at (take m old)) d ∙ drop_take at (n - at) old in
+    let whole : take (n + 1) copied ≡ take (at + 1) old ++ take (n - at) (drop at old) =
+    ap (λ m. take m copied) e ∙ take-paste old (at + 1) (drop at old) (n - at) (omega arith) (omega (arith, length-drop at old)) in
+    rw (take-set-lt (n + 1) copied at v (omega arith), whole)
+    (set_split (take (at + 1) old ++ take (n - at) (drop at old)) at v (let z = length-append (take (at + 1) old) (take (n - at) (drop at old)) in omega arith)
+    ∙ rw (take-append-le at (take (at + 1) old) (take (n - at) (drop at old)) (omega arith), take-take at (at + 1) old (omega arith), drop_at (take (at + 1) old) (take (n - at) (drop at old)) (suc at) front, take-take at n old h, rest))
 
--- ---- an array opened from its end: the first j are as before, those from j on stand one place further
-module _ {A : Type 0} (old : List A) (n : ℕ) where
-  pub record Opened (new : List A) (j : ℕ) : Type 0 where
-    pub before : take j new ≡ take j old
-    pub after : drop (j + 1) (take (n + 1) new) ≡ drop j (take n old)
-
-  pub open_start : Opened old n
-  open_start = record { before = refl; after = none_left old (n + 1) (n + 1) (omega arith) ∙ sym (none_left old n n (omega arith)) }
-
-  pub open_step : (new : List A) (j k : ℕ) (d : A) → j ≡ k + 1 → j ≤ n → n < length new → n ≤ length old → Opened new j → Opened (set new j (get_or new k d)) k
-  open_step new j k d e h hn ho o =
-      let s : k ≤ j = omega arith in
-      let v : get_or new k d ≡ get_or old k d = sym (get_or-take j new k d (omega arith)) ∙ ap (λ (l : List A). get_or l k d) o.before ∙ get_or-take j old k d (omega arith) in
-      let t : length (take (n + 1) new) ≡ n + 1 = length-take-le (n + 1) new (omega arith) in
-      let u : length (take n old) ≡ n = length-take-le n old ho in
-      record {
-        before = take-set-le k new j (get_or new k d) s ∙ sym (take-take k j new s) ∙ ap (take k) o.before ∙ take-take k j old s;
-        after =
-            rw (← e, take-set-lt (n + 1) new j (get_or new k d) (omega arith), drop_set (take (n + 1) new) j (get_or new k d) (omega arith), o.after, v)
-            (rw (drop-cons (take n old) k d (omega arith), get_or-take n old k d (omega arith), ← add-one, ← e));
-      }
-
-  pub open_put : (new : List A) (at : ℕ) (v : A) → at ≤ n → n < length new → Opened new at → take (n + 1) (set new at v) ≡ insert_at_of (take n old) at v
-  open_put new at v h hn o =
-      let t : length (take (n + 1) new) ≡ n + 1 = length-take-le (n + 1) new (omega arith) in
-      let a : drop (suc at) (take (n + 1) new) ≡ drop at (take n old) = rw (add-one at) at o.after in
-      rw (take-set-lt (n + 1) new at v (omega arith), set_split (take (n + 1) new) at v (omega arith), a, take-take at (n + 1) new (omega arith), o.before, take-take at n old h)
-
--- ---- an insertion at the slot is the insertion in front of the first longer move
-insert_slot : (l : List (Float × Float)) (m : Float × Float) → insert_of l m ≡ insert_at_of l (slot_of (map length_of l) (length_of m)) m
-unfolding insert_of slot_of
+-- ---- an insertion at the place is the insertion in front of the first longer move
+insert_slot : (l : List (Float × Float)) (m : Float × Float) → insert_of l m ≡ insert l (position_or_len (shorter_of (length_of m)) (map length_of l)) m
+unfolding insert_of
 insert_slot [] m = refl
-insert_slot (y ∷ ys) m = go (shorter_of (length_of m) (length_of y)) (slot_of (map length_of ys) (length_of m)) (insert_slot ys m)
+insert_slot (y ∷ ys) m = go (shorter_of (length_of m) (length_of y)) (position_or_len (shorter_of (length_of m)) (map length_of ys)) (insert_slot ys m)
   where
-    go : (b : Bool) (p : ℕ) → insert_of ys m ≡ insert_at_of ys p m → cond b (m ∷ y ∷ ys) (y ∷ insert_of ys m) ≡ insert_at_of (y ∷ ys) (cond b 0 (suc p)) m
+    go : (b : Bool) (p : ℕ) → insert_of ys m ≡ insert ys p m → cond b (m ∷ y ∷ ys) (y ∷ insert_of ys m) ≡ insert (y ∷ ys) (cond (not b) (1 + p) 0) m
     go true p e = refl
-    go false p e = ap (λ (l : List (Float × Float)). y ∷ l) e
+    go false p e = let q : 1 + p ≡ suc p = omega arith in rw q (ap (λ (l : List (Float × Float)). y ∷ l) e)
 
-map_insert : {A B : Type 0} (f : A → B) (l : List A) (p : ℕ) (v : A) → map f (insert_at_of l p v) ≡ insert_at_of (map f l) p (f v)
+pub length_insert_of : (l : List (Float × Float)) (m : Float × Float) → length (insert_of l m) ≡ length l + 1
+unfolding insert_of
+length_insert_of [] m = refl
+length_insert_of (y ∷ ys) m = go (shorter_of (length_of m) (length_of y)) (length_insert_of ys m)
+  where
+    go : (b : Bool) → length (insert_of ys m) ≡ length ys + 1 → length (cond b (m ∷ y ∷ ys) (y ∷ insert_of ys m)) ≡ suc (length ys) + 1
+    go true e = omega arith
+    go false e = omega arith
+
+map_insert : {A B : Type 0} (f : A → B) (l : List A) (p : ℕ) (v : A) → map f (insert l p v) ≡ insert (map f l) p (f v)
 map_insert f l zero v = refl
 map_insert f [] (suc p) v = refl
 map_insert f (x ∷ l) (suc p) v = ap (λ t. f x ∷ t) (map_insert f l p v)
 
 zip_insert : {A B : Type 0} (xs : List A) (ys : List B) (p : ℕ) (x : A) (y : B) → length xs ≡ length ys
-    → zip (insert_at_of xs p x) (insert_at_of ys p y) ≡ insert_at_of (zip xs ys) p (x, y)
-unfolding zip zip_with
+    → zip (insert xs p x) (insert ys p y) ≡ insert (zip xs ys) p (x, y)
 zip_insert xs ys zero x y e = refl
 zip_insert [] [] (suc p) x y e = refl
 zip_insert [] (b ∷ ys) (suc p) x y e = absurd (let z : ⊥ = omega arith in z)
 zip_insert (a ∷ xs) [] (suc p) x y e = absurd (let z : ⊥ = omega arith in z)
 zip_insert (a ∷ xs) (b ∷ ys) (suc p) x y e = ap (λ t. (a, b) ∷ t) (zip_insert xs ys p x y (omega arith))
 
--- the three arrays, each opened at the slot of the new length
-pub insert_holds : (dxs dys lens dxs' dys' lens' : List Float) (n p : ℕ) (dx dy : Float) → n ≤ 256 → HoldMoves dxs dys lens n (moves_in dxs dys n)
-    → p ≡ slot_of (take n lens) (length_of (dx, dy)) → (take (n + 1) dxs' ≡ insert_at_of (take n dxs) p dx) × (length dxs' ≡ 256)
-    → (take (n + 1) dys' ≡ insert_at_of (take n dys) p dy) × (length dys' ≡ 256) → (take (n + 1) lens' ≡ insert_at_of (take n lens) p (length_of (dx, dy))) × (length lens' ≡ 256)
-    → HoldMoves dxs' dys' lens' (n + 1) (insert_of (moves_in dxs dys n) (dx, dy))
-unfolding moves_in zip
-insert_holds dxs dys lens dxs' dys' lens' n p dx dy hn o e ex ey el =
-    let m : Float × Float = (dx, dy) in
-    let ms : List (Float × Float) = moves_in dxs dys n in
-    let q : insert_of ms m ≡ insert_at_of ms p m = insert_slot ms m ∙ rw (← o.lengths, e) in
-    let lx : length (take n dxs) ≡ n = length-take-le n dxs (omega arith) in
-    let ly : length (take n dys) ≡ n = length-take-le n dys (omega arith) in
-    record {
-      dxsize = ex.1;
-      dysize = ey.1;
-      lensize = el.1;
-      offsets = rw (take_zip_with, ex.0, ey.0, take_zip_with) (zip_insert (take n dxs) (take n dys) p dx dy (omega arith)) ∙ sym q;
-      lengths = el.0 ∙ rw o.lengths (sym (map_insert length_of ms p m)) ∙ ap (map length_of) (sym q);
-    }
+-- what `position` finds, else the end
+pub place : {A : Type 0} (p : A → Bool) (xs : List A) {n : ℕ} {r : Option ℕ} → length xs ≡ n → r ≡ cond (ltb (position_or_len p xs) (length xs)) (Some (position_or_len p xs)) None → (unwrap_or r n ≡ position_or_len p xs) × (unwrap_or r n ≤ n)
+place p xs {n} {r} e q =
+    let k : position_or_len p xs ≤ length xs = prefix_len-le-length (λ x. not (p x)) xs in
+    rw q (by_test (λ (o : Option ℕ). (unwrap_or o n ≡ position_or_len p xs) × (unwrap_or o n ≤ n)) (ltb (position_or_len p xs) (length xs)) (λ t. (refl, omega arith)) (λ t. let z = nltb→le (position_or_len p xs) (length xs) t in (omega arith, omega arith)))
 
--- no move yet
-pub holds_none : (dxs dys lens : List Float) → length dxs ≡ 256 → length dys ≡ 256 → length lens ≡ 256 → HoldMoves dxs dys lens 0 (moves_in dxs dys 0)
-unfolding moves_in
-holds_none dxs dys lens x y k = record { dxsize = x; dysize = y; lensize = k; offsets = refl; lengths = refl }
+-- ---- folds over lists that are joined end to end: one more of them
+pub joined_more : {X A B : Type 0} (g : B → A → B) (f : X → List A) (z : B) (xs : List X) (i : ℕ) (d : X) → i < length xs
+    → fold g z (flat_map f (take (i + 1) xs)) ≡ fold g (fold g z (flat_map f (take i xs))) (f (get_or xs i d))
+joined_more g f z xs i d h = rw (take_more xs i d h, flat_map-append f (take i xs) (get_or xs i d ∷ []), fold-append g z (flat_map f (take i xs)) _, append-nil)
 
--- what arrays hold, read off them
-pub held : {dxs dys lens : List Float} {n : ℕ} {moves : List (Float × Float)} → HoldMoves dxs dys lens n moves → HoldMoves dxs dys lens n (moves_in dxs dys n)
-held o = record { dxsize = o.dxsize; dysize = o.dysize; lensize = o.lensize; offsets = refl; lengths = o.lengths ∙ ap (map length_of) (sym o.offsets) }
+-- ---- the first that passes, as an option
+pub first_found : {A B : Type 0} (p : A → Bool) (hit : A → B) (none : B) (xs : List A) → first p hit none xs ≡ unwrap_or (option_map hit (find p xs)) none
+first_found p hit none [] = refl
+first_found {A} p hit none (x ∷ xs) = go (p x) (find p xs) (first_found p hit none xs)
+  where
+    go : (b : Bool) (o : Option A) → first p hit none xs ≡ unwrap_or (option_map hit o) none → cond b (hit x) (first p hit none xs) ≡ unwrap_or (option_map hit (cond b (Some x) o)) none
+    go true o e = refl
+    go false o e = e
 
--- one more
-pub holds_next : {dxs dys lens dxs' dys' lens' : List Float} {n k : ℕ} {moves : List (Float × Float)} (m : Float × Float) → HoldMoves dxs dys lens n moves
-    → HoldMoves dxs' dys' lens' k (insert_of (moves_in dxs dys n) m) → HoldMoves dxs' dys' lens' k (insert_of moves m)
-holds_next m o q = rw o.offsets at q
+-- how many moves two arrays hold
+pub moves_count : (dxs dys : List Float) (n : ℕ) → n ≤ length dxs → n ≤ length dys → length (moves_in dxs dys n) ≡ n
+moves_count dxs dys n h k = omega (arith, length-zip (take n dxs) (take n dys), length-take-le n dxs h, length-take-le n dys k)
 
-pub recount : {dxs dys lens : List Float} {n : ℕ} (k : ℕ) {moves : List (Float × Float)} → n ≡ k → HoldMoves dxs dys lens n moves → HoldMoves dxs dys lens k moves
-recount k e o = rw e at o
+-- the three arrays, each opened at the place of the new length
+module _ (dxs dys lens dxs' dys' lens' : List Float) (n p : ℕ) (dx dy : Float) {ms : List (Float × Float)} (hx : n ≤ length dxs) (hy : n ≤ length dys)
+    (view : moves_in dxs dys n ≡ ms) (e : p ≡ position_or_len (shorter_of (length_of (dx, dy))) (map length_of ms))
+    (ex : take (n + 1) dxs' ≡ insert (take n dxs) p dx) (ey : take (n + 1) dys' ≡ insert (take n dys) p dy) where
+  pub moves_inserted : moves_in dxs' dys' (n + 1) ≡ insert_of ms (dx, dy)
+  moves_inserted =
+      let lx : length (take n dxs) ≡ n = length-take-le n dxs hx in
+      let ly : length (take n dys) ≡ n = length-take-le n dys hy in
+      rw (ex, ey, zip_insert (take n dxs) (take n dys) p dx dy (omega arith), view, e) (sym (insert_slot ms (dx, dy)))
+
+  pub lengths_inserted : take (n + 1) lens' ≡ insert (take n lens) p (length_of (dx, dy)) → take n lens ≡ map length_of (moves_in dxs dys n) → take (n + 1) lens' ≡ map length_of (moves_in dxs' dys' (n + 1))
+  lengths_inserted el inv = el ∙ rw (inv, view, e) (sym (map_insert length_of ms _ (dx, dy))) ∙ ap (map length_of) (sym (insert_slot ms (dx, dy)) ∙ sym moves_inserted)

@@ -1,10 +1,11 @@
 -- The moves that take a group of elements off the cutouts, and the choice among them, as in `Layout::avoid_cutouts` of input.rs: there as
 -- here, a candidate is a pair dx, dy.
-use Rattle.std.specs.Prelude.{◌≡◌, Bool, cond, not, ◌&&◌, ℕ, suc, ◌+◌, ◌-◌, ltb, Float, length, take, drop}
-use mathlib.Core.List.{List, [], ◌∷◌, ◌++◌, map, foldl, flat_map, zip}
+use Rattle.std.specs.Prelude.{Bool, cond, not, ◌&&◌, ℕ, ◌+◌, ◌-◌, ltb, Float, take}
+use mathlib.Core.List.{List, [], ◌∷◌}
 use Rattle.std.specs.Float.Ieee.{to_bits}
 use Rattle.std.specs.Float.{binary32}
-use Rattle.prelude.specs.Lists.{any_of, all_of, find}
+use Rattle.std.specs.List.{fold, flat_map, zip, list_any, list_all}
+use Rattle.prelude.specs.Lists.{find}
 use Rattle.float.specs.Float.{◌⊕◌, ◌⊖◌, ◌⊗◌, k0, k8}
 use Rattle.geometry.specs.declared.Rect.{Rect}
 use Rattle.geometry.specs.Rect.{shifted_of, inside_of, overlaps_of}
@@ -51,16 +52,16 @@ insert_of (y ∷ ys) m = cond (shorter_of (length_of m) (length_of y)) (m ∷ y 
 
 -- The order in which moves are tried: the shorter first, and of equal length the one that arose first.
 unfoldable pub ordered_of : List (Float × Float) → List (Float × Float)
-ordered_of candidates = foldl insert_of [] candidates
+ordered_of candidates = fold insert_of [] candidates
 
 -- ---- the first that leaves the whole group clear
 
 -- on the screen, off the cutouts, and off the elements outside the group
 unfoldable pub clear_of : Float → Float → List Rect → List Rect → Rect → Bool
-clear_of w h holes others r = inside_of r w h && (not (any_of (overlaps_of r) holes) && not (any_of (overlaps_of r) others))
+clear_of w h holes others r = inside_of r w h && (not (list_any (overlaps_of r) holes) && not (list_any (overlaps_of r) others))
 
 abbrev pub all_clear_of : Float → Float → List Rect → List Rect → List Rect → Float × Float → Bool
-all_clear_of w h holes others original (dx, dy) = all_of (λ r. clear_of w h holes others (shifted_of r dx dy)) original
+all_clear_of w h holes others original (dx, dy) = list_all (λ r. clear_of w h holes others (shifted_of r dx dy)) original
 
 abbrev pub first_clear_of : Float → Float → List Rect → List Rect → List Rect → List (Float × Float) → Move
 first_clear_of w h holes others original candidates = find (all_clear_of w h holes others original) (λ (dx, dy). Go dx dy) Stay candidates
@@ -71,22 +72,6 @@ search_of w h holes others original = first_clear_of w h holes others original (
 
 -- ---- moves in arrays of numbers
 
--- where a length belongs: how many stand in front of the first longer one
-unfoldable pub slot_of : List Float → Float → ℕ
-slot_of [] len = 0
-slot_of (y ∷ ys) len = cond (shorter_of len y) 0 (suc (slot_of ys len))
-
-abbrev pub insert_at_of : {A : Type 0} → List A → ℕ → A → List A
-insert_at_of l at v = take at l ++ (v ∷ drop at l)
-
 -- the first n moves of two arrays of offsets
-unfoldable pub moves_in : List Float → List Float → ℕ → List (Float × Float)
-moves_in dxs dys n = take n (zip dxs dys)
-
--- the first n of three arrays of 256 hold moves and their lengths
-pub record HoldMoves (dxs dys lens : List Float) (n : ℕ) (moves : List (Float × Float)) : Type 0 where
-  pub dxsize : length dxs ≡ 256
-  pub dysize : length dys ≡ 256
-  pub lensize : length lens ≡ 256
-  pub offsets : moves_in dxs dys n ≡ moves
-  pub lengths : take n lens ≡ map length_of moves
+abbrev pub moves_in : List Float → List Float → ℕ → List (Float × Float)
+moves_in dxs dys n = zip (take n dxs) (take n dys)

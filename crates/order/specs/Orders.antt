@@ -9,19 +9,6 @@ use Rattle.tracker.specs.Tracker.{Call, call_of}
 use Rattle.reader.specs.Order.{read_order_of}
 use Rattle.writer.specs.Bytes.{write_layout_of, output_of}
 use Rattle.preset.specs.Preset.{settings_layout_of, settings_viewport_of}
-use Rattle.order.specs.declared.LayoutAnswer.{LayoutAnswer}
-use Rattle.order.specs.declared.LayoutAnswer.TheVariants as Layout
-use Rattle.order.specs.declared.TouchAnswer.{TouchAnswer}
-use Rattle.order.specs.declared.TouchAnswer.TheVariants as Touch
-
--- ---- answers as document 01 gives them
-abbrev pub layout_answer : LayoutAnswer → Answer ℕ
-layout_answer (Layout.Bytes n) = accepted n
-layout_answer (Layout.Refused n) = refused n
-
-abbrev pub touch_answer : TouchAnswer → Answer ℕ
-touch_answer (Touch.Mask n) = accepted n
-touch_answer (Touch.Refused n) = refused n
 
 -- ---- the layout of an order
 

@@ -1,5 +1,4 @@
-pub mod Fields
-pub mod Runs
+pub mod Made
 pub mod Owned
 pub mod Replaced
 pub mod NumbersLaws

@@ -12,7 +12,7 @@ use lib.Ieee.{Float, fin, of_bits, up, down, lt, eq, ne}
 use lib.Dec.{eqb}
 use lib.ListN.{length, replicate, length-map}
 use lib.Seq.{take_at, length-take-le}
-use Rattle.prelude.specs.Lists.{all_of}
+use Rattle.std.specs.List.{list_all}
 use Rattle.prelude.proofs.Booleans.{either, both}
 use Rattle.float.specs.Float.{k0, k0_5, k1}
 use Rattle.float.specs.MinMax.{max_of}
@@ -26,16 +26,14 @@ use Rattle.settings.specs.Settings.{saved_list, screen_picture_of, mode_byte_of,
 use Rattle.wire.specs.Wire.{plus_zero, plus_zero_rect}
 use Rattle.wire.proofs.Rects.{bits_f32}
 use Rattle.wire.proofs.PlusZero.{zeros_same, number_same, rect_same, rects_same, eq_same}
-use Rattle.order_writer.specs.OrderBytes.{writable_of, replaced_preset, replaced_cutouts, replaced_of, equal_of, place_field, rects_field, rects_length, first_fields, last_fields, fields_of, order_bytes}
-use Rattle.order_writer.proofs.Runs.{joined, first_length, last_length}
+use Rattle.order_writer.specs.OrderBytes.{writable_of, replaced_preset, replaced_cutouts, replaced_of, equal_of, place_field, rects_field, first_fields, last_fields, all_fields, fields_of, order_bytes}
 
 -- ---- lists
 writable_f32 : (r : Rect) → rect_is_f32 r ≡ true → rect_is_f32 (writable_of r) ≡ true
 unfolding writable_of rect_is_f32
 writable_f32 r e = either (λ q. rect_is_f32 q ≡ true) (usable_of r) e (rw (bits_f32 0x7fc0_0000))
 
-pub all_writable : (l : List Rect) → all_of rect_is_f32 l ≡ true → all_of rect_is_f32 (map writable_of l) ≡ true
-unfolding all_of
+pub all_writable : (l : List Rect) → list_all rect_is_f32 l ≡ true → list_all rect_is_f32 (map writable_of l) ≡ true
 all_writable [] e = refl
 all_writable (r ∷ l) e = let b = both _ _ e in rw (writable_f32 r b.0, all_writable l b.1)
 
@@ -109,16 +107,6 @@ module _ (s : Settings) where
           place_same,
         )
 
-    pub as_written : order_bytes s ≡ first_fields s ++ last_fields s.preset (cutout_list s.cutouts) (listed s.preset)
+    pub as_written : order_bytes s ≡ all_fields s (cutout_list s.cutouts) (listed s.preset)
     unfolding order_bytes fields_of
     as_written = rw (first_same, last_same)
-
-    -- how long they are, by what was found of the fields
-    pub written_length : {picture place : Bool} {mode fit : ℕ} → picture ≡ equal_of s.picture (screen_picture_of s.w s.h)
-        → mode ≡ mode_byte_of s.preset → fit ≡ fit_byte_of s.preset.fit → place ≡ untouched_of s.preset
-        → length (order_bytes s) ≡ 11 + (cond picture 0 19 + (cond (eqb mode 0) 0 4 + cond (eqb fit 1) 0 4))
-        + (cond place 0 15 + (rects_length s.cutouts.count + rects_length s.preset.count))
-    written_length a m f u =
-        let p = s.preset in
-        let last = last_length p (cutout_list s.cutouts) (listed p) u (cutouts_counted s.cutouts fit-arrays.0) (counted p fit-arrays.1) in
-        rw as_written (joined (first_fields s) (last_fields p (cutout_list s.cutouts) (listed p)) (first_length s a m f) last)

@@ -1,15 +1,14 @@
 -- Settings as numbers, the marks as the bytes of their fields, rectangles four numbers each.
-use Rattle.std.specs.Prelude.{List, ℕ, ◌+◌, ◌*◌, ◌/◌, leb, Float, length, get_or}
+use Rattle.std.specs.Prelude.{List, ℕ, ◌+◌, ◌*◌, ◌/◌, Float, length, get_or}
 use Rattle.std.specs.Float.{nan}
-use Rattle.prelude.specs.Answer.{accepted, refusal_of, must}
-use Rattle.prelude.specs.Lists.{all_of, tabulate}
+use Rattle.prelude.specs.Lists.{tabulate}
 use Rattle.geometry.specs.declared.Rect.{Rect}
 use Rattle.geometry.specs.Rect.{new_of, rect_array}
 use Rattle.geometry.specs.declared.Offset.{Offset}
 use Rattle.layout.specs.declared.Cutouts.{Cutouts}
 use Rattle.settings.specs.declared.Settings.{Settings}
 use Rattle.settings.specs.Settings.{default_of, absent_of, with_fit, with_place, with_elements, with_screen, with_preset, with_cutouts}
-use Rattle.settings.specs.Settings.{with_mode_byte, fit_mark_of, least, rect_in_limits_of, must_saved}
+use Rattle.settings.specs.Settings.{with_mode_byte, fit_mark_of}
 
 -- four numbers from place i on
 abbrev pub rect_from : List Float → ℕ → Rect
@@ -34,12 +33,3 @@ settings_from numbers mode fit cutouts saved =
     (with_screen absent_of (get_or numbers 0 nan) (get_or numbers 1 nan) (rect_from numbers 2))
     (with_elements placed (rects_from 32 saved) (length saved / 4)))
     holes
-
--- the first fault of the lists, 0 for none
-unfoldable pub lists_fault_of : List Float → List Float → ℕ
-lists_fault_of cutouts saved =
-    refusal_of {A = ℕ}
-    (must (leb (length cutouts / 4) 16) 7
-    (must (all_of (rect_in_limits_of least) (rects_in cutouts)) 6
-    (must_saved (length saved / 4)
-    (accepted 0))))

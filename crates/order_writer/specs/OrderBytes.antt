@@ -1,5 +1,5 @@
 -- Settings as the bytes of an order: W-201 of document 02.
-use Rattle.std.specs.Prelude.{Bool, ◌&&◌, cond, ℕ, ◌+◌, ◌*◌, eqb, Float, length}
+use Rattle.std.specs.Prelude.{Bool, ◌&&◌, cond, ℕ, eqb, Float, length}
 use mathlib.Core.List.{List, [], ◌∷◌, ◌++◌, map, flat_map}
 use Rattle.std.specs.Float.{binary32}
 use Rattle.std.specs.Float.Ieee.{of_bits, eq}
@@ -14,9 +14,8 @@ use Rattle.settings.specs.declared.Preset.{Preset}
 use Rattle.settings.specs.declared.Settings.{Settings}
 use Rattle.settings.specs.Settings.{saved_list, default_of, with_place, with_elements, with_screen, with_preset, with_cutouts}
 use Rattle.settings.specs.Settings.{screen_picture_of, mode_byte_of, fit_byte_of, untouched_of, usable_of, tested_of}
+use Rattle.fields.specs.Fields.{field_unless}
 use Rattle.wire.specs.Wire.{number_bytes, rect_bytes, field_bytes, plus_zero, plus_zero_rect, room_for, with_front}
-use Rattle.order_writer.specs.declared.OrderAnswer.{OrderAnswer}
-use Rattle.order_writer.specs.declared.OrderAnswer.TheVariants.{Bytes, Refused}
 
 -- ---- the two replacements
 
@@ -45,12 +44,12 @@ replaced_of s =
 
 -- ---- the fields
 
--- "A field that then has the value its absence means is left out."
-abbrev pub field_unless : Bool → ℕ → List ℕ → List ℕ
-field_unless absent tag value = cond absent [] (field_bytes tag value)
+-- "A field that then has the value its absence means is left out.": `field_unless`
+abbrev pub screen_bytes : Float → Float → List ℕ
+screen_bytes w h = number_bytes w ++ number_bytes h
 
 abbrev pub screen_field : Float → Float → List ℕ
-screen_field w h = field_bytes 1 (number_bytes w ++ number_bytes h)
+screen_field w h = field_bytes 1 (screen_bytes w h)
 
 -- as numbers
 unfoldable pub equal_of : Rect → Rect → Bool
@@ -63,15 +62,14 @@ picture_field w h r = field_unless (equal_of r (screen_picture_of w h)) 2 (rect_
 abbrev pub byte_field : ℕ → ℕ → ℕ → List ℕ
 byte_field absent tag b = field_unless (eqb b absent) tag (b ∷ [])
 
+abbrev pub place_bytes : Float → Offset → List ℕ
+place_bytes scale offset = number_bytes scale ++ (number_bytes offset.x ++ number_bytes offset.y)
+
 abbrev pub place_field : Preset → List ℕ
-place_field p = field_unless (untouched_of p) 5 (number_bytes p.scale ++ (number_bytes p.offset.x ++ number_bytes p.offset.y))
+place_field p = field_unless (untouched_of p) 5 (place_bytes p.scale p.offset)
 
 abbrev pub rects_field : ℕ → List Rect → List ℕ
 rects_field tag rs = field_unless (is_empty rs) tag (flat_map rect_bytes rs)
-
--- how long it is, of n rectangles
-abbrev pub rects_length : ℕ → ℕ
-rects_length n = cond (eqb n 0) 0 (3 + 16 * n)
 
 -- tags 1 to 4
 abbrev pub first_fields : Settings → List ℕ
@@ -85,17 +83,17 @@ first_fields s =
 abbrev pub last_fields : Preset → List Rect → List Rect → List ℕ
 last_fields p cutouts saved = place_field p ++ (rects_field 6 cutouts ++ rects_field 7 saved)
 
+-- settings, but with these lists
+abbrev pub all_fields : Settings → List Rect → List Rect → List ℕ
+all_fields s cutouts saved = first_fields s ++ last_fields s.preset cutouts saved
+
 unfoldable pub fields_of : Settings → List ℕ
-fields_of s = first_fields s ++ last_fields s.preset (cutout_list s.cutouts) (saved_list s.preset)
+fields_of s = all_fields s (cutout_list s.cutouts) (saved_list s.preset)
 
 unfoldable pub order_bytes : Settings → List ℕ
 order_bytes s = fields_of (replaced_of s)
 
 -- ---- written to an output
-
-abbrev pub order_answer : OrderAnswer → Answer ℕ
-order_answer (Bytes n) = accepted n
-order_answer (Refused n) = refused n
 
 -- how many bytes tested settings take, or a refusal: theirs, then 8
 abbrev pub written_order_of : Answer Settings → List ℕ → Answer ℕ

@@ -1,10 +1,10 @@
 -- What holds of each candidate holds of the layout that `controls` chooses among them.
 use mathlib.Core.Bool.{Bool, not, ◌&&◌, ◌||◌}
 use mathlib.Core.List.{List, [], ◌∷◌}
-use mathlib.Core.Option.{Option, some, none}
 use lib.Dec.{T}
 use lib.Ieee.{Float, lt}
 use mir.Facts.{or_no}
+use Rattle.std.specs.Prelude.{Option, Some, None}
 use Rattle.prelude.proofs.Booleans.{either}
 use Rattle.prelude.specs.Each.{Each}
 use Rattle.prelude.specs.Lists.{find}
@@ -35,8 +35,8 @@ module _ (C : Layout → Type 0) where
         guard C (lt row.well min_well || narrow) (λ t. given C (f (or_no (lt row.well min_well) narrow t).0))
 
   module _ (fit : Layout → Bool) where
-    pub first_case : (candidates : List (Option Layout)) → Each (Given C) candidates → Given C (find fit some none (flatten candidates))
+    pub first_case : (candidates : List (Option Layout)) → Each (Given C) candidates → Given C (find fit Some None (flatten candidates))
     unfolding flatten
     first_case [] e = nothing C
-    first_case (none ∷ candidates) e = first_case candidates e.1
-    first_case (some l ∷ candidates) e = either (Given C) (fit l) e.0 (first_case candidates e.1)
+    first_case (None ∷ candidates) e = first_case candidates e.1
+    first_case (Some l ∷ candidates) e = either (Given C) (fit l) e.0 (first_case candidates e.1)

@@ -1,6 +1,5 @@
 -- input/picture.rs: controls beside or below a picture that keeps its size.
-use Rattle.std.specs.Prelude.{Bool, false, not, ◌&&◌, ◌||◌, cond, List, [], ◌∷◌, Float}
-use Rattle.std.proofs.Math.Option.{Option, some, none}
+use Rattle.std.specs.Prelude.{Bool, false, not, ◌&&◌, ◌||◌, cond, List, [], ◌∷◌, Float, Option, Some, None}
 use Rattle.std.specs.Float.Ieee.{lt, neg}
 use Rattle.prelude.specs.Lists.{find}
 use Rattle.float.specs.Float.{◌⊕◌, ◌⊖◌, ◌⊗◌, ◌⊘◌, k0, k2, k3, k4, k6, k8, k12, k14, k24, k44, k50, k64, k68, k70, k76, k96, k112, k120, k124, k128, k136, k164, k240}
@@ -101,7 +100,7 @@ stacked_of l left right analog s =
 unfoldable pub vertical_of : Layout → Rect → Rect → Bool → Option Layout
 vertical_of base left right analog =
     let s = measure_stack_of left right analog in
-    cond (cramped_of s analog) none (some (stacked_of base left right analog s))
+    cond (cramped_of s analog) None (Some (stacked_of base left right analog s))
 
 -- ---- `horizontal`: sticks and wells side by side in a band
 
@@ -165,7 +164,7 @@ rowed_of l w row =
 unfoldable pub horizontal_of : Layout → Float → Rect → Bool → Bool → Option Layout
 horizontal_of base w band analog psp =
     let row = measure_row_of w band analog psp in
-    cond (lt row.well min_well || lt (row.middleright ⊖ row.middleleft) row.required) none (some (rowed_of base w row))
+    cond (lt row.well min_well || lt (row.middleright ⊖ row.middleleft) row.required) None (Some (rowed_of base w row))
 
 -- ---- `controls`
 
@@ -173,11 +172,16 @@ horizontal_of base w band analog psp =
 unfoldable pub base_of : Float → Float → Bool → Bool → Layout
 base_of w h analog psp = cond psp (psp_of w h) (cond analog (analog_default_of w h) (arranged_of w h false))
 
+-- a layout that is there and fits
+abbrev pub kept : (Layout → Bool) → Option Layout → Option Layout
+kept fit None = None
+kept fit (Some layout) = cond (fit layout) (Some layout) None
+
 -- Rust's `flatten` of options
 unfoldable pub flatten : List (Option Layout) → List Layout
 flatten [] = []
-flatten (none ∷ candidates) = flatten candidates
-flatten (some layout ∷ candidates) = layout ∷ flatten candidates
+flatten (None ∷ candidates) = flatten candidates
+flatten (Some layout ∷ candidates) = layout ∷ flatten candidates
 
 -- A row below the picture keeps the main thumb areas level; the stacks below it and beside it serve narrow surfaces. No
 -- smaller picture, hidden control or tiny cap stands in: where nothing fits there is none.
@@ -193,4 +197,4 @@ controls_of w h game analog psp holes =
     let below = vertical_of base (new_of k0 bottom (w ⊘ k2) band.h) (new_of (w ⊘ k2) bottom (w ⊘ k2) band.h) analog in
     let beside = vertical_of base left right analog in
     let candidates = row ∷ below ∷ beside ∷ [] in
-    find (λ layout. fits_of layout w h game holes) some none (flatten candidates)
+    find (λ layout. fits_of layout w h game holes) Some None (flatten candidates)

@@ -1,18 +1,17 @@
 // Controls beside or below a picture that keeps its size: input/picture.rs.
 #![tactic(auto)]
 
-ghost use Rattle.std.specs.Prelude.{◌≡◌, ◌≤◌, ◌&&◌, T};
+ghost use Rattle.std.specs.Prelude.{◌≡◌, ◌≤◌, T, IfSome};
 ghost use Rattle.std.specs.Float.Ieee.{le};
 ghost use Rattle.float.specs.Float.{k0};
 ghost use Rattle.fits.specs.Fits.{fits_of};
-ghost use Rattle.layout.specs.Layout.{cutout_list, Few};
-ghost use Rattle.layout.specs.Maybe.{maybe};
-ghost use Rattle.picture.specs.Picture.{diamond_of, auxiliary_of, arrange_of, square_of, measure_stack_of, cramped_of, stacked_of, measure_row_of, center_keys_of, row_places_of, rowed_of, vertical_of, horizontal_of, base_of, controls_of};
+ghost use Rattle.layout.specs.Layout.{Few};
+ghost use Rattle.picture.specs.Picture.{diamond_of, auxiliary_of, arrange_of, square_of, measure_stack_of, cramped_of, stacked_of, measure_row_of, center_keys_of, row_places_of, rowed_of, vertical_of, horizontal_of, base_of, kept, controls_of};
 
 use fits::fits;
 use float::{clamp, max, min, pick};
 use geometry::Rect;
-use layout::{Cutouts, Layout, MaybeLayout, no_layout};
+use layout::Layout;
 use places::{Faces, Places, placed};
 
 const GAP: f32 = 8.0;
@@ -22,6 +21,7 @@ const KEY: f32 = 44.0;
 const MIN_WELL: f32 = 112.0; // Four separate caps of 44 points with gaps between them.
 
 // The four face caps in a square well.
+#[tactic(auto, unfolding(crate::specs::Picture::diamond_of))]
 pub fn diamond(rect: Rect) -> Faces
     ensures { result ≡ diamond_of rect }
 {
@@ -38,6 +38,7 @@ pub fn diamond(rect: Rect) -> Faces
 }
 
 // The face caps as given, and in two columns the shoulders, the system and the stick keys.
+#[tactic(auto, unfolding(crate::specs::Picture::auxiliary_of))]
 pub fn auxiliary(faces: Faces, left: Rect, right: Rect, shoulders: f32, system: f32) -> Places
     ensures { result ≡ auxiliary_of faces left right shoulders system }
 {
@@ -58,14 +59,16 @@ pub fn auxiliary(faces: Faces, left: Rect, right: Rect, shoulders: f32, system: 
 }
 
 // A layout with its controller's elements placed. Of the two sticks it uses as many as it has.
+#[tactic(auto, unfolding(crate::specs::Picture::arrange_of))]
 fn arrange(l: Layout, dpad: Rect, places: Places, first: Rect, second: Rect) -> Layout
     requires { l.count ≤ 12 }
     ensures { (result ≡ arrange_of l dpad places first second) × (result.count ≡ l.count) × (result.stickcount ≡ l.stickcount) }
 {
-    let mut out = placed(l, places);
-    out.dpad = dpad;
-    out.sticks = [first, second];
-    out
+    Layout {
+        dpad,
+        sticks: [first, second],
+        ..placed(l, places)
+    }
 }
 
 // A square in the middle of a column.
@@ -84,6 +87,7 @@ struct Stack {
     well: f32,
 }
 
+#[tactic(auto, unfolding(crate::specs::Picture::measure_stack_of))]
 fn measure_stack(left: Rect, right: Rect, analog: bool) -> Stack
     ensures { result ≡ measure_stack_of left right analog }
 {
@@ -108,12 +112,14 @@ fn measure_stack(left: Rect, right: Rect, analog: bool) -> Stack
     }
 }
 
+#[tactic(auto, unfolding(crate::specs::Picture::cramped_of))]
 fn cramped(s: Stack, analog: bool) -> bool
     ensures { result ≡ cramped_of s analog }
 {
     (analog & (s.stick < 96.0)) | ((s.well < MIN_WELL) | (s.width < 124.0))
 }
 
+#[tactic(auto, unfolding(crate::specs::Picture::stacked_of))]
 fn stacked(l: Layout, left: Rect, right: Rect, analog: bool, s: Stack) -> Layout
     requires { l.count ≤ 12 }
     ensures { (result ≡ stacked_of l left right analog s) × (result.count ≡ l.count) × (result.stickcount ≡ l.stickcount) }
@@ -130,17 +136,16 @@ fn stacked(l: Layout, left: Rect, right: Rect, analog: bool, s: Stack) -> Layout
 }
 
 // A stack of controls in each of two columns, where there is room.
-// The layout beside `some: false` is left open, but for its counts.
-pub fn vertical(base: Layout, left: Rect, right: Rect, analog: bool) -> MaybeLayout
+#[tactic(auto, unfolding(crate::specs::Picture::vertical_of))]
+pub fn vertical(base: Layout, left: Rect, right: Rect, analog: bool) -> Option<Layout>
     requires { Few base }
-    ensures { (maybe result ≡ vertical_of base left right analog) × Few result.layout }
+    ensures { (result ≡ vertical_of base left right analog) × IfSome result Few }
 {
     let s = measure_stack(left, right, analog);
     if cramped(s, analog) {
-        return no_layout();
+        return None;
     }
-    let layout = stacked(base, left, right, analog, s);
-    MaybeLayout { some: true, layout }
+    Some(stacked(base, left, right, analog, s))
 }
 
 // The wells of a row and the room between its halves. `digital` and `rightdigital` are the outer distances of the
@@ -158,6 +163,7 @@ struct Row {
     middleright: f32,
 }
 
+#[tactic(auto, unfolding(crate::specs::Picture::measure_row_of))]
 fn measure_row(w: f32, band: Rect, analog: bool, psp: bool) -> Row
     ensures { result ≡ measure_row_of w band analog psp }
 {
@@ -192,18 +198,15 @@ fn measure_row(w: f32, band: Rect, analog: bool, psp: bool) -> Row
 fn center_keys(p: Places, center: f32) -> Places
     ensures { result ≡ center_keys_of p center }
 {
-    let select = center - 68.0;
-    let start = center + 4.0;
-    let l3 = center - 120.0;
-    let r3 = center + 76.0;
     let mut out = p;
-    out.select.x = select;
-    out.start.x = start;
-    out.l3.x = l3;
-    out.r3.x = r3;
+    out.select.x = center - 68.0;
+    out.start.x = center + 4.0;
+    out.l3.x = center - 120.0;
+    out.r3.x = center + 76.0;
     out
 }
 
+#[tactic(auto, unfolding(crate::specs::Picture::row_places_of))]
 fn row_places(w: f32, row: Row) -> Places
     ensures { result ≡ row_places_of w row }
 {
@@ -216,6 +219,7 @@ fn row_places(w: f32, row: Row) -> Places
     center_keys(places, (row.middleleft + row.middleright) / 2.0)
 }
 
+#[tactic(auto, unfolding(crate::specs::Picture::rowed_of))]
 fn rowed(l: Layout, w: f32, row: Row) -> Layout
     requires { l.count ≤ 12 }
     ensures { (result ≡ rowed_of l w row) × (result.count ≡ l.count) × (result.stickcount ≡ l.stickcount) }
@@ -229,31 +233,28 @@ fn rowed(l: Layout, w: f32, row: Row) -> Layout
 }
 
 // Sticks and wells side by side in a band, where there is room.
-// The layout beside `some: false` is left open, but for its counts.
-pub fn horizontal(base: Layout, w: f32, band: Rect, analog: bool, psp: bool) -> MaybeLayout
+#[tactic(auto, unfolding(crate::specs::Picture::horizontal_of))]
+pub fn horizontal(base: Layout, w: f32, band: Rect, analog: bool, psp: bool) -> Option<Layout>
     requires { Few base }
-    ensures { (maybe result ≡ horizontal_of base w band analog psp) × Few result.layout }
+    ensures { (result ≡ horizontal_of base w band analog psp) × IfSome result Few }
 {
     let row = measure_row(w, band, analog, psp);
     if (row.well < MIN_WELL) | (row.middleright - row.middleleft < row.required) {
-        return no_layout();
+        return None;
     }
-    let layout = rowed(base, w, row);
-    MaybeLayout { some: true, layout }
+    Some(rowed(base, w, row))
 }
 
-fn fitting(m: MaybeLayout, w: f32, h: f32, game: Rect, holes: Cutouts) -> bool
-    requires { Few m.layout × (holes.count ≤ 16) }
-    ensures { result ≡ m.some && fits_of m.layout w h game (cutout_list holes) }
+// A layout that is there and fits.
+fn fitting(layout: Option<Layout>, w: f32, h: f32, game: Rect, holes: &[Rect]) -> Option<Layout>
+    requires { IfSome layout Few }
+    ensures { (result ≡ kept (λ l. fits_of l w h game holes.now) layout) × IfSome result Few }
 {
-    if m.some {
-        let l = m.layout;
-        return fits(l, w, h, game, holes);
-    }
-    false
+    layout.filter(|l| fits(*l, w, h, game, holes))
 }
 
 // The layout whose controls are moved.
+#[tactic(auto, unfolding(crate::specs::Picture::base_of))]
 pub fn base(w: f32, h: f32, analog: bool, psp: bool) -> Layout
     ensures { (result ≡ base_of w h analog psp) × Few result }
 {
@@ -267,10 +268,17 @@ pub fn base(w: f32, h: f32, analog: bool, psp: bool) -> Layout
 }
 
 // A row below the picture, else stacks below it, else stacks beside it: the first that fits. The picture keeps its
-// size, and where nothing fits there is no layout; the layout beside `some: false` is left open, but for its counts.
-pub fn controls(w: f32, h: f32, game: Rect, analog: bool, psp: bool, holes: Cutouts) -> MaybeLayout
-    requires { (holes.count ≤ 16) × T (le k0 w) × T (le k0 h) }
-    ensures { (maybe result ≡ controls_of w h game analog psp (cutout_list holes)) × Few result.layout }
+// size, and where nothing fits there is no layout.
+pub fn controls(
+    w: f32,
+    h: f32,
+    game: Rect,
+    analog: bool,
+    psp: bool,
+    holes: &[Rect],
+) -> Option<Layout>
+    requires { T (le k0 w) × T (le k0 h) }
+    ensures { (result ≡ controls_of w h game analog psp holes.now) × IfSome result Few }
 {
     let base = base(w, h, analog, psp);
     let bottom = clamp(game.y + game.h, 0.0, h);
@@ -278,19 +286,15 @@ pub fn controls(w: f32, h: f32, game: Rect, analog: bool, psp: bool, holes: Cuto
     let left = Rect::new(0.0, 0.0, clamp(game.x, 0.0, w), h);
     let right_x = clamp(game.x + game.w, 0.0, w);
     let right = Rect::new(right_x, 0.0, w - right_x, h);
-    let row = horizontal(base, w, band, analog, psp);
-    if fitting(row, w, h, game, holes) {
-        return row;
-    }
     let below_left = Rect::new(0.0, bottom, w / 2.0, band.h);
     let below_right = Rect::new(w / 2.0, bottom, w / 2.0, band.h);
-    let below = vertical(base, below_left, below_right, analog);
-    if fitting(below, w, h, game, holes) {
-        return below;
-    }
-    let beside = vertical(base, left, right, analog);
-    if fitting(beside, w, h, game, holes) {
-        return beside;
-    }
-    no_layout()
+    fitting(horizontal(base, w, band, analog, psp), w, h, game, holes)
+        .or_else(|| fitting(
+            vertical(base, below_left, below_right, analog),
+            w,
+            h,
+            game,
+            holes,
+        ))
+        .or_else(|| fitting(vertical(base, left, right, analog), w, h, game, holes))
 }

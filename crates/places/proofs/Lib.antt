@@ -1,2 +1,3 @@
 pub mod PlaceLabels
 pub mod PlaceRanges
+pub mod Mapped

@@ -1,13 +1,32 @@
 // A place for each label, and the controls of a layout put there: the loops over `layout.controls` of input.rs.
 #![tactic(auto)]
 
-ghost use Rattle.std.specs.Prelude.{◌≡◌, ◌≤◌};
+ghost use Rattle.std.specs.Prelude.{◌≡◌, ◌≤◌, map};
 ghost use Rattle.prelude.specs.Lists.{map_first};
-ghost use Rattle.places.specs.Places.{cap_of, place_faces_of, well_faces_of, at_of, control_at_of, controls_at_of, controller_of, placed_control, placed_of};
+ghost use Rattle.geometry.specs.declared.Rect.{Rect};
+ghost use Rattle.layout.specs.declared.Control.{Control};
+ghost use Rattle.layout.specs.Layout.{with_bounds, with_controls};
+ghost use Rattle.places.specs.Places.{cap_of, place_faces_of, well_faces_of, at_of, control_at_of, controls_at_of, controller_of, standard_controller_of, analog_controller_of, placed_of};
 
 use float::SQRT_2;
-use geometry::Rect;
+use geometry::{EMPTY, Rect};
 use layout::{Control, EMPTY_LAYOUT, Label, Layout};
+
+// The labels of all controls, in the order of the controls; the first ten are those of a layout without sticks.
+const LABELS: [Label; 12] = [
+    Label::Tri,
+    Label::O,
+    Label::X,
+    Label::Sq,
+    Label::L1,
+    Label::L2,
+    Label::R2,
+    Label::R1,
+    Label::Select,
+    Label::Start,
+    Label::L3,
+    Label::R3,
+];
 
 // The four face caps.
 #[derive(Clone, Copy)]
@@ -26,6 +45,7 @@ pub fn cap(well: f32) -> f32
 }
 
 // The four face caps about a centre.
+#[tactic(auto, unfolding(crate::specs::Places::place_faces_of))]
 pub fn place_faces(fx: f32, fy: f32, across: f32, down: f32, cap: f32) -> Faces
     ensures { result ≡ place_faces_of fx fy across down cap }
 {
@@ -39,6 +59,7 @@ pub fn place_faces(fx: f32, fy: f32, across: f32, down: f32, cap: f32) -> Faces
 }
 
 // The four face caps about the centre of a square well.
+#[tactic(auto, unfolding(crate::specs::Places::well_faces_of))]
 pub fn well_faces(fx: f32, fy: f32, well: f32) -> Faces
     ensures { result ≡ well_faces_of fx fy well }
 {
@@ -62,6 +83,7 @@ pub struct Places {
 }
 
 impl Places {
+    #[tactic(auto, unfolding(crate::specs::Places::at_of))]
     fn at(self, label: Label) -> Rect
         ensures { result ≡ at_of self label }
     {
@@ -81,35 +103,16 @@ impl Places {
         }
     }
 
-    fn control_at(self, label: Label) -> Control
-        ensures { result ≡ control_at_of self label }
-    {
-        let bounds = self.at(label);
-        Control::new(bounds, label)
-    }
-
     // The controls of all labels.
-    fn controls_at(self) -> [Control; 12]
+    fn controls(self) -> [Control; 12]
         ensures { result ≡ controls_at_of self }
     {
-        [
-            self.control_at(Label::Tri),
-            self.control_at(Label::O),
-            self.control_at(Label::X),
-            self.control_at(Label::Sq),
-            self.control_at(Label::L1),
-            self.control_at(Label::L2),
-            self.control_at(Label::R2),
-            self.control_at(Label::R1),
-            self.control_at(Label::Select),
-            self.control_at(Label::Start),
-            self.control_at(Label::L3),
-            self.control_at(Label::R3),
-        ]
+        LABELS.map(|label| Control::new(self.at(label), label))
     }
 }
 
-// A layout without toolbar and game: the controls of the first `count` labels at their places, a d-pad, sticks.
+// A layout without toolbar and game: the controls of the first `count` labels at their places, a d-pad, sticks; the counts beside their arrays, as in `Layout`.
+#[tactic(auto, unfolding(crate::specs::Places::controller_of))]
 pub fn controller(
     places: Places,
     dpad: Rect,
@@ -119,37 +122,47 @@ pub fn controller(
 ) -> Layout
     ensures { (result ≡ controller_of places dpad count sticks stickcount) × (result.count ≡ count) × (result.stickcount ≡ stickcount) }
 {
-    let controls = places.controls_at();
-    let mut out = EMPTY_LAYOUT;
-    out.dpad = dpad;
-    out.controls = controls;
-    out.count = count;
-    out.sticks = sticks;
-    out.stickcount = stickcount;
-    out
+    Layout {
+        dpad,
+        controls: places.controls(),
+        count,
+        sticks,
+        stickcount,
+        ..EMPTY_LAYOUT
+    }
 }
 
-fn place_all(controls: [Control; 12], count: usize, places: Places) -> [Control; 12]
-    requires { count ≤ 12 }
-    ensures { result ≡ map_first (placed_control places) count controls }
+// One without sticks, and with the ten controls of that.
+pub fn standard_controller(places: Places, dpad: Rect) -> Layout
+    ensures { (result ≡ standard_controller_of places dpad) × (result.count ≡ 10) × (result.stickcount ≡ 0) }
 {
-    let mut out = controls;
-    for i in 0..count {
-        let c = out[i];
-        let label = c.label;
-        out[i] = places.control_at(label);
+    controller(places, dpad, 10, [EMPTY; 2], 0)
+}
+
+// One with two sticks, and all controls.
+pub fn analog_controller(places: Places, dpad: Rect, left: Rect, right: Rect) -> Layout
+    ensures { (result ≡ analog_controller_of places dpad left right) × (result.count ≡ 12) × (result.stickcount ≡ 2) }
+{
+    controller(places, dpad, 12, [left, right], 2)
+}
+
+// Puts each control where `place` has it.
+pub fn move_all<F: Fn(Control) -> Rect>(controls: &mut [Control], place: F)
+    requires { F.IsAlwaysCallable place }
+    ensures { (g : Control → Rect) → ((c : Control) (r : Rect) → F.post place c r → r ≡ g c) → controls.new ≡ map (λ c. with_bounds c (g c)) controls.old }
+{
+    for c in controls.iter_mut() {
+        c.bounds = place(*c);
     }
-    out
 }
 
 // The layout with each control at the place of its label.
+#[tactic(auto, unfolding(crate::specs::Places::placed_of))]
 pub fn placed(l: Layout, places: Places) -> Layout
     requires { l.count ≤ 12 }
     ensures { (result ≡ placed_of l places) × (result.count ≡ l.count) × (result.stickcount ≡ l.stickcount) }
 {
-    let controls = l.controls;
-    let moved = place_all(controls, l.count, places);
-    let mut out = l;
-    out.controls = moved;
-    out
+    let mut controls = l.controls;
+    move_all(&mut controls[..l.count], |c| places.at(c.label));
+    Layout { controls, ..l }
 }

@@ -7,7 +7,8 @@ use native.Mathlib.Omega.{arith}
 use lib.Dec.{T}
 use lib.ListN.{length, take, drop, get_or, set}
 use Rattle.prelude.proofs.Booleans.{either, both}
-use Rattle.prelude.specs.Lists.{all_of, map_first, replace_first, filter_map, retain, compact}
+use Rattle.std.specs.List.{list_all}
+use Rattle.prelude.specs.Lists.{map_first, replace_first, filter_map, retain, compact}
 use Rattle.prelude.specs.Each.{Each, Pairwise}
 
 module _ {A : Type 0} (C : A → Type 0) where
@@ -71,10 +72,9 @@ module _ {A B : Type 0} (C : A → B → Type 0) where
   pairwise_imp D g (x ∷ xs) (y ∷ ys) e = (g x y e.0, pairwise_imp D g xs ys e.1)
 
 -- a test that each passes
-pub all_each : {A : Type 0} (p : A → Bool) (l : List A) → all_of p l ≡ true → Each (λ x. p x ≡ true) l
-unfolding all_of
+pub all_each : {A : Type 0} (p : A → Bool) (l : List A) → list_all p l ≡ true → Each (λ x. p x ≡ true) l
 all_each p [] e = tt
-all_each p (x ∷ l) e = let b = both (p x) (all_of p l) e in (b.0, all_each p l b.1)
+all_each p (x ∷ l) e = let b = both (p x) (list_all p l) e in (b.0, all_each p l b.1)
 
 -- ---- those that pass a test
 module _ {A B : Type 0} (p : A → Bool) (f : A → B) (C : A → Type 0) where

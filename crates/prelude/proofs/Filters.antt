@@ -1,12 +1,14 @@
 -- Loops over an array that keep or join the elements that pass a test.
-use mathlib.Core.Path.{◌≡◌, refl, ap, sym, ◌∙◌}
+use mathlib.Core.Path.{◌≡◌, refl, ap, subst, ◌∙◌}
 use mathlib.Core.Bool.{Bool, true, false, cond}
-use mathlib.Core.List.{List, [], ◌∷◌, ◌++◌, append_assoc, foldl-append}
+use mathlib.Core.List.{List, [], ◌∷◌, ◌++◌, append_assoc, foldl, foldl-append}
 use Prim.Native.Nat.{ℕ, suc, ◌+◌, ◌<◌}
 use native.Mathlib.Numerals.{add-one}
 use native.Mathlib.Omega.{arith}
+use lib.Dec.{T}
 use lib.ListN.{length, take, drop, get_or, set, length-append}
 use lib.Seq.{drop-cons, set-append_seam, length-take-le}
+use Rattle.std.specs.Prelude.{Option, Some, None, is_some, is_none, unwrap_or}
 use Rattle.prelude.specs.Lists.{retain, compact, reduce}
 use Rattle.prelude.proofs.ListLaws.{retain_fewer}
 use Rattle.prelude.proofs.Loops.{one_more, no_more}
@@ -32,16 +34,20 @@ module _ {A : Type 0} (p : A → Bool) (l : List A) (i : ℕ) (d : A) (h : i < l
   pub skip_list : (out : List A) → flag ≡ false → out ≡ compact p i l → out ≡ compact p (i + 1) l
   skip_list out t o = rw (no_more p (λ x. x) l i d h e t) o
 
--- `reduce`, with a flag for any element so far
-module _ {A : Type 0} where
-  abbrev pub nonempty : List A → Bool
-  nonempty [] = false
-  nonempty (x ∷ l) = true
+-- `reduce`, as an option: none of no element
+module _ {A : Type 0} (f : A → A → A) where
+  abbrev pub reduced : List A → Option A
+  reduced [] = None
+  reduced (x ∷ l) = Some (foldl f x l)
 
-  pub nonempty_more : (l : List A) (x : A) → true ≡ nonempty (l ++ (x ∷ []))
-  nonempty_more [] x = refl
-  nonempty_more (y ∷ l) x = refl
+  pub reduced_first : (l : List A) (x : A) → reduced l ≡ None → reduced (l ++ (x ∷ [])) ≡ Some x
+  reduced_first [] x e = refl
+  reduced_first (y ∷ l) x e = absurd (subst (λ o. T (is_some o)) e tt)
 
-  pub reduce_more : (f : A → A → A) (z : A) (l : List A) (x : A) → cond (nonempty l) (f (reduce f z l) x) x ≡ reduce f z (l ++ (x ∷ []))
-  reduce_more f z [] x = refl
-  reduce_more f z (y ∷ l) x = sym (foldl-append f y l (x ∷ []))
+  pub reduced_next : (l : List A) (x b : A) → reduced l ≡ Some b → reduced (l ++ (x ∷ [])) ≡ Some (f b x)
+  reduced_next [] x b e = absurd (subst (λ o. T (is_none o)) e tt)
+  reduced_next (y ∷ l) x b e = ap Some (foldl-append f y l (x ∷ []) ∙ ap (λ o. f (unwrap_or o y) x) e)
+
+  pub reduced_reduce : (z : A) (l : List A) → unwrap_or (reduced l) z ≡ reduce f z l
+  reduced_reduce z [] = refl
+  reduced_reduce z (y ∷ l) = refl

@@ -11,7 +11,8 @@ use lib.Ieee.Bits.{is_true}
 use lib.ListN.{length, take, drop, get_or, length-append, get_or-append}
 use lib.Seq.{take-nil, take_at, length_front, length-take-le, get_or_at}
 use Rattle.prelude.proofs.Booleans.{either, by_test, both}
-use Rattle.prelude.specs.Lists.{all_of, is_empty, map_first, replace_first, find, retain, enumerate_from, tabulate, count_from, range}
+use Rattle.std.specs.List.{list_all}
+use Rattle.prelude.specs.Lists.{is_empty, map_first, replace_first, find, retain, enumerate_from, tabulate, count_from, range}
 
 module _ {A B : Type 0} (f : A → B) where
   -- one element more, if a test holds
@@ -33,10 +34,9 @@ module _ {A : Type 0} (p : A → Bool) where
   find_passes C hit none [] n h = n
   find_passes C hit none (x ∷ l) n h = by_test C (p x) (λ t. h x (is_true (p x) t)) (λ t. find_passes C hit none l n h)
 
-  pub all_snoc : (l : List A) (x : A) → all_of p l ≡ true → p x ≡ true → all_of p (l ++ (x ∷ [])) ≡ true
-  unfolding all_of
+  pub all_snoc : (l : List A) (x : A) → list_all p l ≡ true → p x ≡ true → list_all p (l ++ (x ∷ [])) ≡ true
   all_snoc [] x a b = rw b
-  all_snoc (y ∷ l) x a b = let h = both (p y) (all_of p l) a in rw h.0 (all_snoc l x h.1 b)
+  all_snoc (y ∷ l) x a b = let h = both (p y) (list_all p l) a in rw h.0 (all_snoc l x h.1 b)
 
 module _ {A : Type 0} (g : A → A) where
   pub length_map_first : (n : ℕ) (xs : List A) → length (map_first g n xs) ≡ length xs

@@ -101,19 +101,9 @@ module _ {A B : Type 0} (p : A → Bool) (f : A → B) (l : List A) (i : ℕ) (d
   pub no_more : flag ≡ false → filter_map p f (take (i + 1) l) ≡ filter_map p f (take i l)
   no_more t = rw (add-one i, take-suc l i d h, filter_map_append, ← e, t, append-nil)
 
--- ---- a loop that changes the first elements in place
-module _ {A : Type 0} (g : A → A) where
-  pub map_first_zero : (xs : List A) → xs ≡ map_first g 0 xs
-  unfolding map_first
-  map_first_zero xs = refl
-
-  map_first_suc : (i : ℕ) (xs : List A) (d : A) → set (map_first g i xs) i (g (get_or (map_first g i xs) i d)) ≡ map_first g (suc i) xs
-  unfolding map_first
-  map_first_suc zero [] d = refl
-  map_first_suc zero (x ∷ xs) d = refl
-  map_first_suc (suc i) [] d = refl
-  map_first_suc (suc i) (x ∷ xs) d = ap (λ (t : List A). g x ∷ t) (map_first_suc i xs d)
-
-  -- one turn, in which v is g of the element at i
-  pub changes : (xs : List A) (d : A) {out : List A} {n k i : ℕ} {v : A} → Done (λ j. map_first g j xs) n k out i → i < n → v ≡ g (get_or out i d) → Done (λ j. map_first g j xs) n k (set out i v) (i + 1)
-  changes xs d {i = i} {v} r h e = does v r h (rw (e, r.is, add-one) (map_first_suc i xs d))
+-- ---- the first elements of an array, changed in place as a slice of their own
+pub map_first_parts : {A : Type 0} (g : A → A) (n : ℕ) (xs : List A) → map g (take n xs) ++ drop n xs ≡ map_first g n xs
+unfolding map_first
+map_first_parts g zero xs = refl
+map_first_parts g (suc n) [] = refl
+map_first_parts g (suc n) (x ∷ xs) = ap (λ t. g x ∷ t) (map_first_parts g n xs)

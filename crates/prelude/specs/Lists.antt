@@ -1,17 +1,9 @@
--- Loops over lists, as definitions write them: any, all, no element, find, filter with map, retain, reduce, enumerate, `a..b`, a change of the first elements in place, and stores from an index on.
-use Rattle.std.specs.Prelude.{Bool, true, false, ◌&&◌, ◌||◌, cond, ℕ, zero, suc, ◌-◌, eqb, length, take, drop}
+-- Loops over lists, as definitions write them beside those of std (`list_any`, `list_all`): no element, find, filter with map, retain, reduce, enumerate, `a..b`, a change of the first elements in place, and stores from an index on.
+use Rattle.std.specs.Prelude.{Bool, cond, ℕ, zero, suc, ◌-◌, eqb, length, take, drop}
 use mathlib.Core.List.{List, [], ◌∷◌, ◌++◌, foldl}
 use Rattle.std.proofs.lemmas.List.Edits.{sets}
 
 module _ {A : Type 0} where
-  unfoldable pub any_of : (A → Bool) → List A → Bool
-  any_of p [] = false
-  any_of p (x ∷ xs) = p x || any_of p xs
-
-  unfoldable pub all_of : (A → Bool) → List A → Bool
-  all_of p [] = true
-  all_of p (x ∷ xs) = p x && all_of p xs
-
   abbrev pub is_empty : List A → Bool
   is_empty xs = eqb (length xs) 0
 

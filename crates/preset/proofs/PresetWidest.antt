@@ -16,7 +16,7 @@ use Rattle.numerics.proofs.Literals.{lit}
 use Rattle.layout_ranges.specs.Bounded.{Bounded}
 use Rattle.search.specs.Search.{place_game_in_aspect_of, aspect_of}
 use Rattle.search.proofs.Layouts.{place_widest}
-use Rattle.settings.specs.declared.Fit.TheVariants.{KeepClear}
+use Rattle.settings.specs.declared.PictureFit.TheVariants.{KeepClear}
 use Rattle.settings.specs.declared.Preset.{Preset}
 use Rattle.settings.specs.declared.Settings.{Settings}
 use Rattle.settings.specs.Settings.{picture_fit_of}

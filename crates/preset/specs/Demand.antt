@@ -6,7 +6,7 @@ use Rattle.geometry.specs.declared.Rect.{Rect}
 use Rattle.layout.specs.declared.Layout.{Layout}
 use Rattle.search.specs.Widest.{WidestGame}
 use Rattle.search.specs.Search.{aspect_of}
-use Rattle.settings.specs.declared.Fit.TheVariants.{KeepClear}
+use Rattle.settings.specs.declared.PictureFit.TheVariants.{KeepClear}
 use Rattle.settings.specs.declared.Preset.{Preset}
 use Rattle.settings.specs.declared.Settings.{Settings}
 use Rattle.settings.specs.Settings.{picture_fit_of}

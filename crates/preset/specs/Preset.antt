@@ -9,8 +9,8 @@ use Rattle.geometry.specs.Rect.{new_of}
 use Rattle.layout.specs.declared.Layout.{Layout}
 use Rattle.layout.specs.Layout.{cutout_list}
 use Rattle.search.specs.Search.{place_game_in_aspect_of, aspect_of}
-use Rattle.settings.specs.declared.Fit.{Fit}
-use Rattle.settings.specs.declared.Fit.TheVariants.{Unset, Maximum, KeepClear}
+use Rattle.settings.specs.declared.PictureFit.{PictureFit}
+use Rattle.settings.specs.declared.PictureFit.TheVariants.{Maximum, KeepClear}
 use Rattle.settings.specs.declared.Preset.{Preset}
 use Rattle.settings.specs.declared.Settings.{Settings}
 use Rattle.settings.specs.Settings.{saved_list, untouched_of, picture_fit_of}
@@ -26,9 +26,8 @@ settled_of layout w h cutouts picture saved =
     let restored = with_saved_of layout w h saved in
     anchor_toolbar_of (avoid_cutouts_of restored w h cutouts) w h (reusable_top_of picture) k0 cutouts
 
--- `picture_fit() == PictureFit::Maximum`, where a fit is never unset
-abbrev pub is_maximum_of : Fit → Bool
-is_maximum_of Unset = false
+-- `picture_fit() == PictureFit::Maximum`
+abbrev pub is_maximum_of : PictureFit → Bool
 is_maximum_of Maximum = true
 is_maximum_of KeepClear = false
 

@@ -10,7 +10,7 @@ use lib.Ieee.Bits.{is_true}
 use lib.ListN.{length, take, drop}
 use Rattle.prelude.specs.Answer.{Answer, accepted, refused, must, and_then}
 use Rattle.prelude.proofs.Booleans.{either, both}
-use Rattle.prelude.specs.Lists.{all_of}
+use Rattle.std.specs.List.{list_all}
 use Rattle.float.specs.Float.{k0, k1}
 use Rattle.float.specs.MinMax.{max_of}
 use Rattle.geometry.specs.declared.Rect.{Rect}
@@ -161,7 +161,7 @@ InLimits = Parts (λ w h. screen_in_limits_of w h ≡ true) (λ r. rect_in_limit
     (λ c. (leb c.count 16 ≡ true) × (cutouts_in_limits_of c ≡ true)) (λ l n. leb n 32 ≡ true)
 
 absent_limits : InLimits absent_of
-unfolding absent_of default_of screen_in_limits_of rect_in_limits_of place_in_limits_of cutouts_in_limits_of in_limits_of all_of le lt eq neg of_bits
+unfolding absent_of default_of screen_in_limits_of rect_in_limits_of place_in_limits_of cutouts_in_limits_of in_limits_of le lt eq neg of_bits
 absent_limits = record { screen = refl; picture = refl; place = refl; cutouts = (refl, refl); saved = refl }
 
 limits : (bytes : List ℕ) → Holds InLimits (read_order_of bytes)
@@ -186,10 +186,10 @@ default_f32 w h p q = let one = bits_f32 0x3f80_0000 in rw (bits_f32 0, raised (
 abbrev InF32 : Settings → Type 0
 InF32 = Parts (λ w h. (fits binary32 w ≡ true) × (fits binary32 h ≡ true)) (λ r. rect_is_f32 r ≡ true)
     (λ scale offset. (fits binary32 scale ≡ true) × (fits binary32 offset.x ≡ true) × (fits binary32 offset.y ≡ true))
-    (λ c. all_of rect_is_f32 (cutout_list c) ≡ true) (λ l n. all_of rect_is_f32 (take n l) ≡ true)
+    (λ c. list_all rect_is_f32 (cutout_list c) ≡ true) (λ l n. list_all rect_is_f32 (take n l) ≡ true)
 
 absent_f32 : InF32 absent_of
-unfolding absent_of default_of rect_is_f32 all_of fits of_bits
+unfolding absent_of default_of rect_is_f32 fits of_bits
 absent_f32 = record { screen = (refl, refl); picture = refl; place = (refl, refl, refl); cutouts = refl; saved = refl }
 
 pub order_f32 : (bytes : List ℕ) {s : Settings} → read_order_of bytes ≡ accepted s → IsF32 s

@@ -7,12 +7,7 @@ use Rattle.settings.specs.declared.Settings.{Settings}
 use Rattle.settings.specs.Settings.{absent_of, with_fit, with_place, with_elements, with_screen, with_picture, with_preset, with_cutouts}
 use Rattle.settings.specs.Settings.{screen_picture_of, with_mode_byte, fit_mark_of, must_screen, must_picture, must_mode, must_fit, must_place, must_cutouts, must_saved}
 use Rattle.wire.specs.Wire.{short_of, number_at_of, rect_at_of, filled}
-use Rattle.reader.specs.declared.Reading.{Reading}
 use Rattle.reader.specs.declared.Tag.{Tag}
-
--- what a reading says; the settings of a refused one are left open
-unfoldable pub reading_answer : Reading → Answer Settings
-reading_answer r = cond (eqb r.refusal 0) (accepted r.settings) (refused r.refusal)
 
 -- ---- the seven fields: the settings with a value put in, or 3 bad length, 7 overfull, 5 odd mark, 6 off the scale
 
@@ -83,6 +78,10 @@ from_byte_of b =
     (cond (eqb b 5) Tag.Place
     (cond (eqb b 6) Tag.Cutouts
     Tag.Saved)))))
+
+-- of any byte: a tag, or 2 out of turn
+unfoldable pub tag_of : ℕ → Answer Tag
+tag_of b = must (ltb 0 b && leb b 7) 2 (accepted (from_byte_of b))
 
 unfoldable pub read_field_of : Tag → List ℕ → Settings → Answer Settings
 read_field_of Tag.Screen v s = read_screen_of v s

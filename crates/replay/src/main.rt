@@ -8,42 +8,39 @@ ghost use Rattle.std.specs.Prelude.{◌≤◌, length, IfOk};
 use film_sheet::film_sheet;
 use float::from_bits;
 use input::read_full;
-use order::{LayoutAnswer, TouchAnswer};
-use order_writer::{OrderAnswer, write_order};
+use order_writer::write_order;
 use reader::read_order;
-use std::fs;
+use refusal::Refusal;
 use std::io::{self, Read, Write};
 use std::rt::Files;
-use wire::{short, word};
+use std::{fmt, fs};
 
 fn main(rt: HostRuntime) -> io::Result<()> {
-    examples(&rt)?;
+    for (order, sheet) in EXAMPLES {
+        example(&rt, order, sheet)?;
+    }
     replay(&rt, "cases")?;
     replay(&rt, "orders")
 }
 
 // ---- examples
 
-// The orders in data/examples, which the root has as examples/, and their sheets. Each prints `ok ORDER`, or `WRONG ORDER` if it gives
-// another sheet.
-fn examples(rt: &(impl Files + Print)) -> io::Result<()> {
-    example(rt, "examples/standard.order", "examples/standard.sheet")?;
-    example(rt, "examples/analog.order", "examples/analog.sheet")?;
-    example(rt, "examples/psp.order", "examples/psp.sheet")?;
-    example(rt, "examples/keep_clear.order", "examples/keep_clear.sheet")?;
-    example(rt, "examples/saved.order", "examples/saved.sheet")?;
-    example(rt, "examples/wide.order", "examples/wide.sheet")?;
-    example(rt, "examples/narrow.order", "examples/narrow.sheet")?;
-    example(rt, "examples/scaled.order", "examples/scaled.sheet")?;
-    example(
-        rt,
-        "examples/two_cameras.order",
-        "examples/two_cameras.sheet",
-    )?;
-    example(rt, "examples/refused.order", "examples/refused.sheet")?;
-    example(rt, "examples/empty.order", "examples/empty.sheet")
-}
+// The orders in data/examples, which the root has as examples/, and their sheets.
+const EXAMPLES: [(&str, &str); 11] = [
+    ("examples/standard.order", "examples/standard.sheet"),
+    ("examples/analog.order", "examples/analog.sheet"),
+    ("examples/psp.order", "examples/psp.sheet"),
+    ("examples/keep_clear.order", "examples/keep_clear.sheet"),
+    ("examples/saved.order", "examples/saved.sheet"),
+    ("examples/wide.order", "examples/wide.sheet"),
+    ("examples/narrow.order", "examples/narrow.sheet"),
+    ("examples/scaled.order", "examples/scaled.sheet"),
+    ("examples/two_cameras.order", "examples/two_cameras.sheet"),
+    ("examples/refused.order", "examples/refused.sheet"),
+    ("examples/empty.order", "examples/empty.sheet"),
+];
 
+// Prints `ok ORDER`, or `WRONG ORDER` if the order gives another sheet.
 fn example(rt: &(impl Files + Print), order: &str, sheet: &str) -> io::Result<()> {
     let mut given = [0u8; 4096];
     let n = read(rt, order, &mut given)?;
@@ -54,13 +51,10 @@ fn example(rt: &(impl Files + Print), order: &str, sheet: &str) -> io::Result<()
 }
 
 fn say(out: &mut impl Write, name: &[u8], fault: bool) -> io::Result<()> {
-    if fault {
-        out.write_all(b"WRONG ")?;
-    } else {
-        out.write_all(b"ok ")?;
-    }
+    let verdict = if fault { "WRONG" } else { "ok" };
+    write!(out, "{verdict} ")?;
     out.write_all(name)?;
-    out.write_all(b"\n")
+    writeln!(out)
 }
 
 // A file's bytes.
@@ -73,6 +67,84 @@ fn read(rt: &impl Files, path: &str, out: &mut [u8]) -> io::Result<usize>
 
 // ---- lists
 
+// What a step is.
+#[derive(Clone, Copy, Debug, PartialEq, Eq)]
+enum Kind {
+    Order,
+    Layout,
+    Viewport,
+    Touch,
+    Sheet,
+    Written,
+    Name,
+}
+
+impl TryFrom<u8> for Kind {
+    type Error = ();
+
+    fn try_from(letter: u8) -> Result<Kind, ()> {
+        match letter {
+            b'O' => Ok(Kind::Order),
+            b'L' => Ok(Kind::Layout),
+            b'V' => Ok(Kind::Viewport),
+            b'T' => Ok(Kind::Touch),
+            b'S' => Ok(Kind::Sheet),
+            b'W' => Ok(Kind::Written),
+            b'N' => Ok(Kind::Name),
+            _ => Err(()),
+        }
+    }
+}
+
+// A step's head. A kind that is not known is none.
+#[derive(Clone, Copy)]
+struct Step {
+    kind: Option<Kind>,
+    x: f32,
+    y: f32,
+    // How many bytes are lent, or a touch's previous mask.
+    number: u16,
+    // What each of the lent bytes was before.
+    fill: u8,
+    answer: usize,
+    // How many bytes follow.
+    length: usize,
+}
+
+impl From<[u8; 17]> for Step {
+    fn from(head: [u8; 17]) -> Step {
+        let [
+            kind,
+            x0,
+            x1,
+            x2,
+            x3,
+            y0,
+            y1,
+            y2,
+            y3,
+            n0,
+            n1,
+            fill,
+            a0,
+            a1,
+            a2,
+            l0,
+            l1,
+        ] = head;
+        Step {
+            kind: Kind::try_from(kind).ok(),
+            x: from_bits(u32::from_be_bytes([x0, x1, x2, x3])),
+            y: from_bits(u32::from_be_bytes([y0, y1, y2, y3])),
+            number: u16::from_be_bytes([n0, n1]),
+            fill,
+            answer: u32::from_be_bytes([0, a0, a1, a2]) as usize,
+            length: u16::from_be_bytes([l0, l1]) as usize,
+        }
+    }
+}
+
+// The language asks for a bound on the steps.
 fn replay(rt: &(impl Files + Print), list: &str) -> io::Result<()> {
     let mut file = fs::open(rt, list)?;
     let mut out = io::writer(rt);
@@ -80,153 +152,96 @@ fn replay(rt: &(impl Files + Print), list: &str) -> io::Result<()> {
     let mut order = [0u8; 65536];
     let mut size = 0;
     let mut bytes = [0u8; 65536];
-    let mut count = no_steps();
+    let mut tally = Tally::default();
     for _ in 0usize..100000 {
         if read_full(&mut file, &mut head)? < 17 {
             break;
         }
-        if head[0] == b'O' {
-            size = load(&mut file, &head, &mut order)?;
-            count = counted(count, b'O', true);
+        let step = Step::from(head);
+        if step.kind == Some(Kind::Order) {
+            size = load(&mut file, step, &mut order)?;
+            tally.count(step.kind, true);
         } else {
-            let n = load(&mut file, &head, &mut bytes)?;
-            count = ran(&mut out, count, &head, &order[..size], &bytes[..n])?;
+            let n = load(&mut file, step, &mut bytes)?;
+            if step.kind == Some(Kind::Name) {
+                say(&mut out, &bytes[..n], tally.fault)?;
+            }
+            tally.count(step.kind, step.agrees(&order[..size], &bytes[..n]));
         }
     }
-    report(&mut out, list, count)
+    writeln!(out, "{list}: {tally}")
 }
 
 // The bytes that follow a step's head: how many there are.
-fn load(file: &mut impl Read, head: &[u8; 17], out: &mut [u8]) -> io::Result<usize>
+fn load(file: &mut impl Read, step: Step, out: &mut [u8]) -> io::Result<usize>
     ensures { IfOk result (λ n. n ≤ length out.new) }
 {
-    let n = at_most(short(head[15], head[16]), out);
+    let n = step.length.min(out.len());
     read_full(file, &mut out[..n])
 }
 
-// Runs a step on the order before it.
-fn ran(
-    out: &mut impl Write,
-    t: Tally,
-    head: &[u8; 17],
-    order: &[u8],
-    bytes: &[u8],
-) -> io::Result<Tally> {
-    if head[0] == b'N' {
-        say(out, bytes, t.fault)?;
+impl Step {
+    // Whether the library answers on the order before it as the list does.
+    fn agrees(self, order: &[u8], bytes: &[u8]) -> bool {
+        match self.kind {
+            Some(Kind::Layout) => self.output_agrees(bytes, |out| order::layout(order, out)),
+            Some(Kind::Viewport) => self.output_agrees(bytes, |out| {
+                order::viewport_layout(order, self.x, self.y, out)
+            }),
+            Some(Kind::Touch) => {
+                number(order::touch(order, self.x, self.y, self.number)) == self.answer
+            }
+            Some(Kind::Sheet) => sheet_agrees(order, bytes),
+            Some(Kind::Written) => self.output_agrees(bytes, |out| written(order, out)),
+            Some(Kind::Order | Kind::Name) => true,
+            None => false,
+        }
     }
-    Ok(counted(t, head[0], agrees(head, order, bytes)))
-}
 
-fn agrees(head: &[u8; 17], order: &[u8], bytes: &[u8]) -> bool {
-    let kind = head[0];
-    match kind {
-        b'L' => layout_agrees(head, order, bytes),
-        b'V' => viewport_agrees(head, order, bytes),
-        b'T' => touch_agrees(head, order),
-        b'S' => sheet_agrees(order, bytes),
-        b'W' => written_agrees(head, order, bytes),
-        _ => kind == b'N',
+    fn output_agrees<F: FnOnce(&mut [u8]) -> Result<usize, Refusal>>(
+        self,
+        bytes: &[u8],
+        write: F,
+    ) -> bool
+        requires { F.IsAlwaysCallable write }
+    {
+        let mut out = [self.fill; 1024];
+        let room = (self.number as usize).min(out.len());
+        let answer = write(&mut out[..room]);
+        number(answer) == self.answer && holds(&out, bytes, self.fill)
     }
-}
-
-fn layout_agrees(head: &[u8; 17], order: &[u8], bytes: &[u8]) -> bool {
-    let fill = head[11];
-    let mut out = [fill; 1024];
-    let room = at_most(short(head[9], head[10]), &out);
-    let answer = order::layout(order, &mut out[..room]);
-    (layout_number(answer) == answer_of(head)) & holds(out, bytes, fill)
-}
-
-fn viewport_agrees(head: &[u8; 17], order: &[u8], bytes: &[u8]) -> bool {
-    let fill = head[11];
-    let mut out = [fill; 1024];
-    let room = at_most(short(head[9], head[10]), &out);
-    let answer = order::viewport_layout(order, x_of(head), y_of(head), &mut out[..room]);
-    (layout_number(answer) == answer_of(head)) & holds(out, bytes, fill)
-}
-
-fn touch_agrees(head: &[u8; 17], order: &[u8]) -> bool {
-    let previous = short(head[9], head[10]) as u16;
-    let answer = order::touch(order, x_of(head), y_of(head), previous);
-    touch_number(answer) == answer_of(head)
 }
 
 fn sheet_agrees(order: &[u8], bytes: &[u8]) -> bool {
     let sheet = film_sheet(order);
-    let text = sheet.bytes;
-    (sheet.len == bytes.len()) & holds(text, bytes, 0)
-}
-
-fn written_agrees(head: &[u8; 17], order: &[u8], bytes: &[u8]) -> bool {
-    let fill = head[11];
-    let mut out = [fill; 1024];
-    let room = at_most(short(head[9], head[10]), &out);
-    let answer = written(order, &mut out[..room]);
-    (written_number(answer) == answer_of(head)) & holds(out, bytes, fill)
+    sheet.len == bytes.len() && holds(&sheet.bytes, bytes, 0)
 }
 
 // Writes the settings that an order is read to.
-fn written(order: &[u8], out: &mut [u8]) -> OrderAnswer {
-    let reading = read_order(order);
-    if reading.refusal != 0 {
-        return OrderAnswer::Refused(reading.refusal);
-    }
-    write_order(reading.settings, out)
+fn written(order: &[u8], out: &mut [u8]) -> Result<usize, Refusal> {
+    write_order(read_order(order)?, out)
 }
 
 // Whether `out` begins with the bytes and is filled up as it was before.
-fn holds(out: [u8; 1024], bytes: &[u8], fill: u8) -> bool {
-    let before = [fill; 1024];
-    let n = at_most(bytes.len(), &out);
-    (&out[..n] == bytes) & (&out[n..] == &before[n..])
+fn holds(out: &[u8], bytes: &[u8], fill: u8) -> bool {
+    match out.strip_prefix(bytes) {
+        Some(rest) => rest.iter().all(|byte| *byte == fill),
+        None => false,
+    }
 }
 
 // An answer as a list has it: a number below 65,536, or 65,536 times that of a refusal.
-fn layout_number(answer: LayoutAnswer) -> usize {
+fn number<T: Into<usize>>(answer: Result<T, Refusal>) -> usize {
     match answer {
-        LayoutAnswer::Bytes(n) => n,
-        LayoutAnswer::Refused(n) => n as usize * 65536,
+        Ok(n) => n.into(),
+        Err(refusal) => u8::from(refusal) as usize * 65536,
     }
-}
-
-fn touch_number(answer: TouchAnswer) -> usize {
-    match answer {
-        TouchAnswer::Mask(n) => n as usize,
-        TouchAnswer::Refused(n) => n as usize * 65536,
-    }
-}
-
-fn written_number(answer: OrderAnswer) -> usize {
-    match answer {
-        OrderAnswer::Bytes(n) => n,
-        OrderAnswer::Refused(n) => n as usize * 65536,
-    }
-}
-
-fn answer_of(head: &[u8; 17]) -> usize {
-    short(0, head[12]) * 65536 + short(head[13], head[14])
-}
-
-fn x_of(head: &[u8; 17]) -> f32 {
-    from_bits(word(head[1], head[2], head[3], head[4]))
-}
-
-fn y_of(head: &[u8; 17]) -> f32 {
-    from_bits(word(head[5], head[6], head[7], head[8]))
-}
-
-// `n`, or all of the bytes where they are fewer.
-fn at_most(n: usize, bytes: &[u8]) -> usize
-    ensures { result ≤ length bytes.now }
-{
-    if n < bytes.len() { n } else { bytes.len() }
 }
 
 // ---- tallies
 
 // How many steps of each kind a list has, and how many are wrong.
-#[derive(Clone, Copy)]
+#[derive(Clone, Copy, Default)]
 struct Tally {
     orders: u64,
     layouts: u64,
@@ -241,58 +256,46 @@ struct Tally {
     fault: bool,
 }
 
-fn no_steps() -> Tally {
-    Tally {
-        orders: 0,
-        layouts: 0,
-        viewports: 0,
-        touches: 0,
-        sheets: 0,
-        written: 0,
-        wrong: 0,
-        first: 0,
-        fault: false,
+impl Tally {
+    // One step more, which agrees or not.
+    fn count(&mut self, kind: Option<Kind>, agrees: bool) {
+        match kind {
+            Some(Kind::Order) => self.orders = self.orders.saturating_add(1),
+            Some(Kind::Layout) => self.layouts = self.layouts.saturating_add(1),
+            Some(Kind::Viewport) => self.viewports = self.viewports.saturating_add(1),
+            Some(Kind::Touch) => self.touches = self.touches.saturating_add(1),
+            Some(Kind::Sheet) => self.sheets = self.sheets.saturating_add(1),
+            Some(Kind::Written) => self.written = self.written.saturating_add(1),
+            Some(Kind::Name) => self.fault = false,
+            None => {}
+        }
+        if !agrees {
+            if self.wrong == 0 {
+                self.first = self.orders;
+            }
+            self.wrong = self.wrong.saturating_add(1);
+            self.fault = true;
+        }
     }
 }
 
-// With one step more, which agrees or not.
-fn counted(t: Tally, kind: u8, same: bool) -> Tally {
-    Tally {
-        orders: more(t.orders, kind == b'O'),
-        layouts: more(t.layouts, kind == b'L'),
-        viewports: more(t.viewports, kind == b'V'),
-        touches: more(t.touches, kind == b'T'),
-        sheets: more(t.sheets, kind == b'S'),
-        written: more(t.written, kind == b'W'),
-        wrong: more(t.wrong, !same),
-        first: if same | (t.wrong > 0) {
-            t.first
-        } else {
-            t.orders
-        },
-        fault: !same | (t.fault & (kind != b'N')),
+impl fmt::Display for Tally {
+    fn fmt<W: fmt::Write>(&self, f: &mut fmt::Formatter<W>) -> fmt::Result {
+        write!(f, "orders {}, layouts {}, ", self.orders, self.layouts)?;
+        write!(
+            f,
+            "viewports {}, touches {}, ",
+            self.viewports, self.touches
+        )?;
+        write!(
+            f,
+            "sheets {}, written orders {}, ",
+            self.sheets, self.written
+        )?;
+        write!(f, "wrong {}", self.wrong)?;
+        if self.wrong > 0 {
+            write!(f, ", the first at order {}", self.first)?;
+        }
+        Ok(())
     }
-}
-
-fn more(n: u64, one: bool) -> u64 {
-    std::num::wrapping_add_u64(n, one as u64)
-}
-
-fn report(out: &mut impl Write, list: &str, t: Tally) -> io::Result<()> {
-    out.write_all(list.as_bytes())?;
-    print(out, ": orders ", t.orders)?;
-    print(out, ", layouts ", t.layouts)?;
-    print(out, ", viewports ", t.viewports)?;
-    print(out, ", touches ", t.touches)?;
-    print(out, ", sheets ", t.sheets)?;
-    print(out, ", written orders ", t.written)?;
-    print(out, ", wrong ", t.wrong)?;
-    if t.wrong > 0 {
-        print(out, ", the first at order ", t.first)?;
-    }
-    writeln!(out)
-}
-
-fn print(out: &mut impl Write, name: &str, n: u64) -> io::Result<()> {
-    write!(out, "{name}{n}")
 }

@@ -1,1 +1,1 @@
-mod Scale
+pub mod Scale

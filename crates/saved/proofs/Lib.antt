@@ -1,4 +1,4 @@
 pub mod SavedLaws
 pub mod SavedRanges
-pub mod Turns
 pub mod Ends
+pub mod Turns

@@ -4,11 +4,10 @@ use mathlib.Core.Logic.{◌⊎◌, inl, inr}
 use mathlib.Core.Bool.{Bool, true, false, cond, ◌||◌, ◌&&◌}
 use mathlib.Core.List.{List, foldl}
 use Prim.Native.Nat.{ℕ, ◌≤◌}
-use lib.ListN.{take, drop}
+use lib.ListN.{length, drop, drop_of_length-le}
 use lib.Dec.{T}
 use lib.Ieee.{Float, lt, le, eq}
 use Rattle.prelude.proofs.Booleans.{either}
-use Rattle.prelude.proofs.Loops.{Rest, runs_out}
 use Rattle.prelude.proofs.EachLaws.{fold_keeps}
 use Rattle.float.specs.Float.{◌⊕◌, ◌⊘◌, k0_01}
 use Rattle.float.proofs.Order.{lt_trans, lt_irrefl, lt_not_eq, min_below}
@@ -38,9 +37,9 @@ better_not best x y width aspect p = go (lt best.w width) refl (eq width best.w)
     go false h false k = refl
 
 -- A turn's answer is that of the full width, if no obstacle is left or the picture was given up. `left` is where a picture of a width starts.
-pub turn_is_full : {f : Float → Rect → Float} {l : List Rect} {n k : ℕ} {width full : Float} (best : Rect) → Narrows f best.w → (left : Float → Float) (y aspect : Float) → Rest (foldl f width) l n full k
-    → (n ≤ k) ⊎ (lt width best.w ≡ true) → better_of best (left width) y width aspect ≡ better_of best (left full) y full aspect
-turn_is_full best keeps left y aspect r (inl j) = rw (runs_out r j)
-turn_is_full {f} {l} {n} {k} {width} {full} best keeps left y aspect r (inr t) =
+pub turn_is_full : (f : Float → Rect → Float) (obstacles : List Rect) (width : Float) {full : Float} {i : ℕ} (best : Rect) → Narrows f best.w → (left : Float → Float) (y aspect : Float) → foldl f width (drop i obstacles) ≡ full
+    → (length obstacles ≤ i) ⊎ (lt width best.w ≡ true) → better_of best (left width) y width aspect ≡ better_of best (left full) y full aspect
+turn_is_full f obstacles width {full} {i} best keeps left y aspect e (inl h) = rw (← e, drop_of_length-le obstacles {i = i} h)
+turn_is_full f obstacles width {full} {i} best keeps left y aspect e (inr t) =
     let q : T (lt width best.w) = rw t tt in
-    better_not best (left width) y width aspect q ∙ sym (better_not best (left full) y full aspect (rw (← r.left) (fold_keeps (λ v. T (lt v best.w)) f keeps (drop k (take n l)) width q)))
+    better_not best (left width) y width aspect q ∙ sym (better_not best (left full) y full aspect (rw (← e) (fold_keeps (λ v. T (lt v best.w)) f keeps (drop i obstacles) width q)))

@@ -1,13 +1,15 @@
 // The largest clear picture of input.rs, and the game placed in it.
 #![tactic(auto)]
 
-ghost use Rattle.std.specs.Prelude.{◌≡◌, cond, [], ◌≤◌, take};
-ghost use Rattle.layout.specs.Layout.{element_list, elements_of, Few};
+ghost use Rattle.std.specs.Prelude.{◌≡◌, cond, [], ◌≤◌, length};
+ghost use Rattle.layout.specs.Layout.{elements_of, Few};
 ghost use Rattle.search.specs.Search.{aspect_of, within_of, better_of, narrow_of, narrow_side_of, centered_of, side_of, clear_picture_aspect_of, clear_picture_of, obstacles_of, game_of, place_game_in_aspect_of, place_game_in_of, place_game_of};
 
+use arrayvec::ArrayVec;
 use float::{clamp, max, min, pick};
 use geometry::{EMPTY, Offset, Rect};
-use layout::{Elements, Layout, NO_ELEMENTS};
+use layout::{Elements, Layout};
+use std::iter::once;
 
 // The picture's shape.
 pub fn aspect(psp: bool) -> f32
@@ -17,6 +19,7 @@ pub fn aspect(psp: bool) -> f32
 }
 
 // A picture may start at y.
+#[tactic(auto, unfolding(crate::specs::Search::within_of))]
 fn within(y: f32, h: f32) -> bool
     ensures { result ≡ within_of y h }
 {
@@ -24,6 +27,7 @@ fn within(y: f32, h: f32) -> bool
 }
 
 // The wider picture, at equal width the higher.
+#[tactic(auto, unfolding(crate::specs::Search::better_of))]
 fn better(best: Rect, x: f32, y: f32, width: f32, aspect: f32) -> Rect
     ensures { result ≡ better_of best x y width aspect }
 {
@@ -34,6 +38,7 @@ fn better(best: Rect, x: f32, y: f32, width: f32, aspect: f32) -> Rect
 }
 
 // What one obstacle leaves of the width of a picture in the middle: it ends beside the obstacle or above it.
+#[tactic(auto, unfolding(crate::specs::Search::narrow_of))]
 fn narrow(center: f32, aspect: f32, y: f32, width: f32, r: Rect) -> f32
     ensures { result ≡ narrow_of center aspect y width r }
 {
@@ -45,7 +50,8 @@ fn narrow(center: f32, aspect: f32, y: f32, width: f32, r: Rect) -> f32
     min(width, max(beside, above))
 }
 
-// The same of a picture that starts at x: it ends before the obstacle or above it.
+// The same of a picture that starts at x, by another formula, as in the Rust: it ends before the obstacle or above it.
+#[tactic(auto, unfolding(crate::specs::Search::narrow_side_of))]
 fn narrow_side(aspect: f32, x: f32, y: f32, width: f32, r: Rect) -> f32
     ensures { result ≡ narrow_side_of aspect x y width r }
 {
@@ -57,26 +63,20 @@ fn narrow_side(aspect: f32, x: f32, y: f32, width: f32, r: Rect) -> f32
 }
 
 // The widest picture in the middle, starting at the top or under an obstacle. One that has become narrower than the best is given up: obstacles only narrow it.
-fn centered(w: f32, h: f32, obstacles: [Rect; 19], count: usize, aspect: f32) -> Rect
-    requires { count ≤ 19 }
-    ensures { result ≡ centered_of w h (take count obstacles) aspect }
+#[tactic(auto, unfolding(crate::specs::Search::centered_of, crate::specs::Search::width_at))]
+fn centered(w: f32, h: f32, obstacles: &[Rect], aspect: f32) -> Rect
+    ensures { result ≡ centered_of w h obstacles.now aspect }
 {
     let center = w / 2.0;
     let mut best = EMPTY;
-    for j in 0..count + 1 {
-        let mut y: f32 = 0.0;
-        if j > 0 {
-            let r = obstacles[j - 1];
-            y = r.y + r.h;
-        }
+    for y in once(0.0).chain(obstacles.iter().map(|r| r.y + r.h)) {
         if within(y, h) {
             let mut width = max(min(w, (h - y) * aspect), 0.0);
-            for k in 0..count {
+            for r in obstacles {
                 if width < best.w {
                     break;
                 }
-                let r = obstacles[k];
-                width = narrow(center, aspect, y, width, r);
+                width = narrow(center, aspect, y, width, *r);
             }
             best = better(best, (w - width) / 2.0, y, width, aspect);
         }
@@ -84,33 +84,23 @@ fn centered(w: f32, h: f32, obstacles: [Rect; 19], count: usize, aspect: f32) ->
     best
 }
 
-// Controls that the user has moved can fill the whole centre column: a clear region at a side is better than no picture.
-fn side(w: f32, h: f32, obstacles: [Rect; 19], count: usize, aspect: f32) -> Rect
-    requires { count ≤ 19 }
-    ensures { result ≡ side_of w h (take count obstacles) aspect }
+// Controls that the user has moved can fill the whole centre column: a clear region at a side is better than no picture. Nested over x, y and obstacles as in
+// the Rust, and so no instance of `centered`.
+#[tactic(auto, unfolding(crate::specs::Search::side_of, crate::specs::Search::side_width_at))]
+fn side(w: f32, h: f32, obstacles: &[Rect], aspect: f32) -> Rect
+    ensures { result ≡ side_of w h obstacles.now aspect }
 {
     let mut best = EMPTY;
-    for i in 0..count + 1 {
-        let mut x: f32 = 0.0;
-        if i > 0 {
-            let r = obstacles[i - 1];
-            x = r.x + r.w;
-        }
+    for x in once(0.0).chain(obstacles.iter().map(|r| r.x + r.w)) {
         if within(x, w) {
-            for j in 0..count + 1 {
-                let mut y: f32 = 0.0;
-                if j > 0 {
-                    let r = obstacles[j - 1];
-                    y = r.y + r.h;
-                }
+            for y in once(0.0).chain(obstacles.iter().map(|r| r.y + r.h)) {
                 if within(y, h) {
                     let mut width = max(min(w - x, (h - y) * aspect), 0.0);
-                    for k in 0..count {
+                    for r in obstacles {
                         if width < best.w {
                             break;
                         }
-                        let r = obstacles[k];
-                        width = narrow_side(aspect, x, y, width, r);
+                        width = narrow_side(aspect, x, y, width, *r);
                     }
                     best = better(best, x, y, width, aspect);
                 }
@@ -120,55 +110,49 @@ fn side(w: f32, h: f32, obstacles: [Rect; 19], count: usize, aspect: f32) -> Rec
     best
 }
 
-pub fn clear_picture_aspect(w: f32, h: f32, obstacles: Elements, aspect: f32) -> Rect
-    requires { obstacles.count ≤ 19 }
-    ensures { result ≡ clear_picture_aspect_of w h (element_list obstacles) aspect }
+#[tactic(auto, unfolding(crate::specs::Search::clear_picture_aspect_of))]
+pub fn clear_picture_aspect(w: f32, h: f32, obstacles: &[Rect], aspect: f32) -> Rect
+    ensures { result ≡ clear_picture_aspect_of w h obstacles.now aspect }
 {
-    let at = obstacles.at;
-    let count = obstacles.count;
-    let picture = centered(w, h, at, count, aspect);
+    let picture = centered(w, h, obstacles, aspect);
     if picture.w > 0.0 {
         return picture;
     }
-    side(w, h, at, count, aspect)
+    side(w, h, obstacles, aspect)
 }
 
-pub fn clear_picture(w: f32, h: f32, obstacles: Elements) -> Rect
-    requires { obstacles.count ≤ 19 }
-    ensures { result ≡ clear_picture_of w h (element_list obstacles) }
+pub fn clear_picture(w: f32, h: f32, obstacles: &[Rect]) -> Rect
+    ensures { result ≡ clear_picture_of w h obstacles.now }
 {
     clear_picture_aspect(w, h, obstacles, 4.0 / 3.0)
 }
 
 // The elements that overlap the area, moved into its frame.
-fn obstacles(elements: Elements, bounds: Rect) -> Elements
-    requires { elements.count ≤ 19 }
-    ensures { (element_list result ≡ obstacles_of bounds (element_list elements)) × (result.count ≤ elements.count) }
+#[tactic(auto, unfolding(crate::specs::Search::obstacles_of))]
+fn obstacles(elements: &[Rect], bounds: Rect) -> Elements
+    requires { length elements.now ≤ 19 }
+    ensures { result.items ≡ obstacles_of bounds elements.now }
 {
-    let from = elements.at;
-    let n = elements.count;
-    let mut at = elements.at;
-    let mut count = 0;
-    for i in 0..n {
-        let r = from[i];
+    let mut out = ArrayVec::new();
+    for r in elements {
         if r.overlaps(bounds) {
-            at[count] = Rect::new(r.x - bounds.x, r.y - bounds.y, r.w, r.h);
-            count += 1;
+            out.push(Rect::new(r.x - bounds.x, r.y - bounds.y, r.w, r.h));
         }
     }
-    Elements { at, count }
+    out
 }
 
 // The game for elements that it may not cover: the largest clear picture, made smaller by the factor and moved in the room that this leaves.
-fn game(elements: Elements, bounds: Rect, scale: f32, offset: Offset, aspect: f32) -> Rect
-    requires { elements.count ≤ 19 }
-    ensures { result ≡ game_of (element_list elements) bounds scale offset aspect }
+#[tactic(auto, unfolding(crate::specs::Search::game_of))]
+fn game(elements: &[Rect], bounds: Rect, scale: f32, offset: Offset, aspect: f32) -> Rect
+    requires { length elements.now ≤ 19 }
+    ensures { result ≡ game_of elements.now bounds scale offset aspect }
 {
     let obstacles = obstacles(elements, bounds);
     let area = if aspect == 4.0 / 3.0 {
-        clear_picture(bounds.w, bounds.h, obstacles)
+        clear_picture(bounds.w, bounds.h, &obstacles)
     } else {
-        clear_picture_aspect(bounds.w, bounds.h, obstacles, aspect)
+        clear_picture_aspect(bounds.w, bounds.h, &obstacles, aspect)
     };
     let scale = clamp(scale, 0.25, 1.0);
     let across = clamp(offset.x, 0.0, 1.0);
@@ -184,15 +168,16 @@ fn game(elements: Elements, bounds: Rect, scale: f32, offset: Offset, aspect: f3
 // The elements that the game may not cover: none where it may overlap them.
 fn uncovered(l: Layout, overlap: bool) -> Elements
     requires { Few l }
-    ensures { (element_list result ≡ cond overlap [] (elements_of l)) × (result.count ≤ 19) }
+    ensures { result.items ≡ cond overlap [] (elements_of l) }
 {
     if overlap {
-        return NO_ELEMENTS;
+        return ArrayVec::new();
     }
     l.elements()
 }
 
 // The picture may take the whole area, camera holes included: only what is touched keeps clear of them.
+#[tactic(auto, unfolding(crate::specs::Search::place_game_in_aspect_of))]
 pub fn place_game_in_aspect(
     l: Layout,
     bounds: Rect,
@@ -204,11 +189,8 @@ pub fn place_game_in_aspect(
     requires { Few l }
     ensures { result ≡ place_game_in_aspect_of l bounds overlap scale offset aspect }
 {
-    let elements = uncovered(l, overlap);
-    let game = game(elements, bounds, scale, offset, aspect);
-    let mut placed = l;
-    placed.game = game;
-    placed
+    let game = game(&uncovered(l, overlap), bounds, scale, offset, aspect);
+    Layout { game, ..l }
 }
 
 pub fn place_game_in(l: Layout, bounds: Rect, overlap: bool, scale: f32, offset: Offset) -> Layout

@@ -1,5 +1,5 @@
 -- What accepted settings hold, part by part.
-use mathlib.Core.Path.{◌≡◌, refl}
+use mathlib.Core.Path.{◌≡◌, refl, ap, sym, ◌∙◌}
 use mathlib.Core.Bool.{Bool, true, false}
 use Prim.Native.Nat.{ℕ, suc, ◌/◌, ◌^◌, ◌≤◌}
 use native.Mathlib.Omega.{arith}
@@ -8,7 +8,7 @@ use denote.Floats.{passes}
 use lib.Dec.{T, eqb, leb}
 use lib.Ieee.{Float, le, of_bits}
 use lib.Ieee.Scale.{finite}
-use Rattle.prelude.specs.Answer.{Answer, accepted, refused, refusal_of, must}
+use Rattle.prelude.specs.Answer.{Answer, accepted, refusal_of, must}
 use Rattle.prelude.proofs.Booleans.{both}
 use Rattle.float.specs.Float.{k0, k8192}
 use Rattle.float.proofs.Ends.{finite_between}
@@ -26,7 +26,7 @@ pub record Accepted (s : Settings) : Type 0 where
 -- ---- what tested settings give, by the number of their first fault
 
 -- a test was met, if what it gives is no refusal
-pub no_refusal : {A : Type 0} (test : Bool) (n : ℕ) (a : Answer A) → refusal_of (must test (suc n) a) ≡ 0 → (test ≡ true) × (refusal_of a ≡ 0)
+no_refusal : {A : Type 0} (test : Bool) (n : ℕ) (a : Answer A) → refusal_of (must test (suc n) a) ≡ 0 → (test ≡ true) × (refusal_of a ≡ 0)
 unfolding must
 no_refusal true n a e = (refl, e)
 no_refusal false n a e = absurd (let z : ⊥ = omega arith in z)
@@ -71,13 +71,12 @@ module _ (mode fit : ℕ) (s : Settings) where
   unfolding first_fault_of
   no_fault e = let m = met mode fit s e in (tested mode fit s m, parts_accepted s m.parts)
 
-  pub a_fault : (first_fault_of mode fit s ≡ 0 → ⊥) → tested_of mode fit s ≡ refused (first_fault_of mode fit s)
-  unfolding first_fault_of
-  a_fault h = go (tested_of mode fit s) h
+  -- where settings are tested, what follows has them as they were, and they are accepted
+  pub tested_settings : {t : Settings} → tested_of mode fit s ≡ accepted t → (t ≡ s) × (accepted_of s ≡ true)
+  tested_settings {t} e = let m = met mode fit s (ap refusal_of e) in (same (sym e ∙ tested mode fit s m), parts_accepted s m.parts)
     where
-      go : (a : Answer Settings) → (refusal_of a ≡ 0 → ⊥) → a ≡ refused (refusal_of a)
-      go (accepted x) h = absurd (h refl)
-      go (refused n) h = refl
+      same : accepted t ≡ accepted s → t ≡ s
+      same h = cc
 
 pub few_settings : (s : Settings) → accepted_of s ≡ true → (s.preset.count ≤ 32) × (s.cutouts.count ≤ 16)
 few_settings s e = let a = accepted_parts s e in (leb-true _ _ a.few_saved, leb-true _ _ a.few_cutouts)

@@ -1,9 +1,9 @@
 -- The settings of an order, their limits, and `Preset::picture_fit` of input.rs.
-use Rattle.std.specs.Prelude.{◌≡◌, Bool, true, false, ◌&&◌, cond, List, ℕ, ◌+◌, ◌/◌, ◌%◌, ◌^◌, ◌≤◌, eqb, leb, Float, length, take, replicate}
+use Rattle.std.specs.Prelude.{◌≡◌, Bool, true, false, ◌&&◌, cond, List, ℕ, ◌+◌, ◌/◌, ◌%◌, ◌^◌, ◌≤◌, eqb, leb, Float, length, take, replicate, Option, Some, None, unwrap_or}
 use Rattle.std.specs.Float.{binary32}
 use Rattle.std.specs.Float.Ieee.{fits, le, eq, neg}
 use Rattle.prelude.specs.Answer.{Answer, accepted, refusal_of, must}
-use Rattle.prelude.specs.Lists.{all_of}
+use Rattle.std.specs.List.{list_all}
 use Rattle.float.specs.Float.{k0, k0_5, k1, k8192}
 use Rattle.float.specs.MinMax.{max_of, is_finite_of}
 use Rattle.geometry.specs.declared.Rect.{Rect}
@@ -12,8 +12,8 @@ use Rattle.geometry.specs.declared.Offset.{Offset}
 use Rattle.geometry.specs.Offset.{centred}
 use Rattle.layout.specs.declared.Cutouts.{Cutouts}
 use Rattle.layout.specs.Layout.{cutout_list}
-use Rattle.settings.specs.declared.Fit.{Fit}
-use Rattle.settings.specs.declared.Fit.TheVariants.{Unset, Maximum, KeepClear}
+use Rattle.settings.specs.declared.PictureFit.{PictureFit}
+use Rattle.settings.specs.declared.PictureFit.TheVariants.{Maximum, KeepClear}
 use Rattle.settings.specs.declared.Preset.{Preset}
 use Rattle.settings.specs.declared.Settings.{Settings}
 
@@ -27,7 +27,7 @@ default_of = record {
   psp = false;
   analog = false;
   overlap = false;
-  fit = Maximum;
+  fit = Some Maximum;
   scale = k1;
   offset = centred;
   elements = replicate 32 empty_rect;
@@ -57,7 +57,7 @@ with_mode p psp analog overlap = record {
   count = p.count;
 }
 
-abbrev pub with_fit : Preset → Fit → Preset
+abbrev pub with_fit : Preset → Option PictureFit → Preset
 with_fit p fit = record {
   psp = p.psp;
   analog = p.analog;
@@ -141,28 +141,22 @@ with_mode_byte p b = with_mode p (has_bit b 0) (has_bit b 1) (has_bit b 2)
 unfoldable pub mode_byte_of : Preset → ℕ
 mode_byte_of p = cond p.psp 1 0 + cond p.analog 2 0 + cond p.overlap 4 0
 
--- ---- the fit
+-- ---- the fit; none where it is unset
 -- of a byte up to 2
-unfoldable pub fit_mark_of : ℕ → Fit
-fit_mark_of b = cond (eqb b 0) Unset (cond (eqb b 1) Maximum KeepClear)
+unfoldable pub fit_mark_of : ℕ → Option PictureFit
+fit_mark_of b = cond (eqb b 0) None (cond (eqb b 1) (Some Maximum) (Some KeepClear))
 
-unfoldable pub fit_byte_of : Fit → ℕ
-fit_byte_of Unset = 0
-fit_byte_of Maximum = 1
-fit_byte_of KeepClear = 2
-
--- `fit.unwrap_or(other)`
-abbrev pub unwrap_or : Fit → Fit → Fit
-unwrap_or Unset other = other
-unwrap_or Maximum other = Maximum
-unwrap_or KeepClear other = KeepClear
+unfoldable pub fit_byte_of : Option PictureFit → ℕ
+fit_byte_of None = 0
+fit_byte_of (Some Maximum) = 1
+fit_byte_of (Some KeepClear) = 2
 
 -- the game at its whole size, in the middle
 unfoldable pub untouched_of : Preset → Bool
 untouched_of p = eq p.scale k1 && (eq p.offset.x k0_5 && eq p.offset.y k0_5)
 
 -- A profile from before fits were kept is unset; where its game was sized or moved, that stays so.
-unfoldable pub picture_fit_of : Preset → Fit
+unfoldable pub picture_fit_of : Preset → PictureFit
 picture_fit_of p = unwrap_or p.fit (cond (untouched_of p) Maximum KeepClear)
 
 -- ---- a saved rectangle counts if its numbers are finite
@@ -190,7 +184,7 @@ place_in_limits_of scale offset =
     in_limits_of least scale && (in_limits_of least offset.x && in_limits_of least offset.y)
 
 unfoldable pub cutouts_in_limits_of : Cutouts → Bool
-cutouts_in_limits_of c = all_of (rect_in_limits_of least) (cutout_list c)
+cutouts_in_limits_of c = list_all (rect_in_limits_of least) (cutout_list c)
 
 -- the tops of `PlayerViewport`: the height above the picture that may be reused, and the height that is covered for a while
 unfoldable pub tops_in_limits_of : Float → Float → Bool
@@ -249,8 +243,8 @@ pub record IsF32 (s : Settings) : Type 0 where
   pub scale : fits binary32 s.preset.scale ≡ true
   pub across : fits binary32 s.preset.offset.x ≡ true
   pub down : fits binary32 s.preset.offset.y ≡ true
-  pub cutouts : all_of rect_is_f32 (cutout_list s.cutouts) ≡ true
-  pub saved : all_of rect_is_f32 (saved_list s.preset) ≡ true
+  pub cutouts : list_all rect_is_f32 (cutout_list s.cutouts) ≡ true
+  pub saved : list_all rect_is_f32 (saved_list s.preset) ≡ true
 
 -- ---- the lists fit their arrays, as those of accepted settings in a program do
 abbrev pub Fitting : Settings → Type 0

@@ -12,7 +12,7 @@ use lib.Ieee.Back.{whole_unique}
 use lib.Ieee.Bits.{of_bits-fits}
 use lib.Ieee.Fits.{down_pos}
 use Rattle.prelude.proofs.Booleans.{both}
-use Rattle.prelude.specs.Lists.{all_of}
+use Rattle.std.specs.List.{list_all}
 use Rattle.prelude.specs.Each.{Each}
 use Rattle.float.specs.Float.{k0, k1, k8192}
 use Rattle.geometry.specs.declared.Rect.{Rect}
@@ -69,8 +69,7 @@ area p = record {
   h0 = p.h.above;
 }
 
-elements : (l : List Rect) → all_of (rect_in_limits_of least) l ≡ true → all_of rect_is_f32 l ≡ true → Each Element l
-unfolding all_of
+elements : (l : List Rect) → list_all (rect_in_limits_of least) l ≡ true → list_all rect_is_f32 l ≡ true → Each Element l
 elements [] e f = tt
 elements (r ∷ l) e f =
     let a = both _ _ e in

@@ -1,19 +1,17 @@
 -- Laws of the film sheet: its numbers are in range, it fits its array, and each line is that of its rectangle.
 use mathlib.Core.Path.{◌≡◌, refl}
-use mathlib.Core.List.{List, [], ◌∷◌, ◌++◌, map, flat_map, zip_with}
-use Prim.Native.Nat.{ℕ, ◌+◌, ◌*◌, ◌≤◌, zero-le}
+use mathlib.Core.List.{List, [], ◌∷◌, ◌++◌, map, zip_with}
+use Prim.Native.Nat.{ℕ, zero, suc, ◌+◌, ◌*◌, ◌≤◌, ◌<◌, zero-le}
 use native.Mathlib.Omega.{arith}
 use lib.Dec.{T, leb, leb→le, le→leb}
-use lib.ListN.{length, length-append, length-map, length-take}
-use lib.Seq.{length-take-le}
+use lib.ListN.{length, get_or, take, length-append, length-map, length-take}
 use Rattle.prelude.specs.Each.{Each, Pairwise, ◌&◌}
 use Rattle.prelude.proofs.EachLaws.{each_take, each_append, each_map, each_imp, pairwise_append}
 use Rattle.geometry.specs.declared.Rect.{Rect}
 use Rattle.layout.specs.declared.Control.{Control}
 use Rattle.layout.specs.declared.Layout.{Layout}
 use Rattle.layout.specs.Label.{name_of}
-use Rattle.layout.specs.Layout.{control_list, stick_list, bounds_of, elements_of, Few}
-use Rattle.layout.specs.Labels.{Arrays}
+use Rattle.layout.specs.Layout.{any_rect, control_list, stick_list, bounds_of, elements_of, Few}
 use Rattle.layout.proofs.Names.{length_name}
 use Rattle.numerics.proofs.Bounds.{most_more}
 use Rattle.numerics.specs.Rects.{Element}
@@ -32,7 +30,6 @@ unfolding line_of
 short name r t p = (leb→le (length name) 6 t, line_numbers name r p)
 
 length_lines : (ls : List Line) → Each Short ls → length (lines_text ls) ≤ 39 * length ls
-unfolding flat_map
 length_lines [] e = zero-le
 length_lines (l ∷ ls) e = simp length-append (omega (arith, e.0.0, length_line l e.0.1, length_lines ls e.1))
 
@@ -56,6 +53,16 @@ stick_count (a ∷ []) h = refl
 stick_count (a ∷ b ∷ []) h = refl
 stick_count (a ∷ b ∷ c ∷ rs) h = absurd (let z : ⊥ = omega arith in z)
 
+-- one stick more
+pub next_stick : (rs : List Rect) (n : ℕ) {name : List ℕ} {r : Rect} → n < length rs → n < 2 → name ≡ get_or (left_name ∷ right_name ∷ []) n [] → r ≡ get_or rs n any_rect
+    → stick_lines (take (suc n) rs) ≡ stick_lines (take n rs) ++ (line_of name r ∷ [])
+unfolding stick_lines zip_with
+next_stick [] n h k e f = absurd (let z : ⊥ = omega arith in z)
+next_stick (a ∷ rs) zero h k e f = rw (e, f)
+next_stick (a ∷ []) (suc zero) h k e f = absurd (let z : ⊥ = omega arith in z)
+next_stick (a ∷ b ∷ rs) (suc zero) h k e f = rw (e, f)
+next_stick (a ∷ rs) (suc (suc n)) h k e f = absurd (let z : ⊥ = omega arith in z)
+
 sticks_short : (rs : List Rect) → Each Element rs → Each Short (stick_lines rs)
 unfolding stick_lines zip_with
 sticks_short [] e = tt
@@ -69,10 +76,6 @@ module _ (l : Layout) (few : Few l) where
 
   pub few_lines : length (lines_of l) ≤ 20
   few_lines = rw (length_lines_of, length-take l.count l.controls, length-take l.stickcount l.sticks) (omega arith)
-
-  -- how many lines follow the header
-  pub line_count_lem : Arrays l → l.count + l.stickcount + 6 ≡ length (lines_of l)
-  line_count_lem a = rw (length_lines_of, length-take-le l.count l.controls (omega arith), length-take-le l.stickcount l.sticks (omega arith))
 
 module _ (l : Layout) (few : Few l) (b : Bounded l) where
   pub lines_short : BoundedGame l.game → Each Short (lines_of l)
@@ -93,7 +96,7 @@ module _ (l : Layout) (few : Few l) (b : Bounded l) where
       control c e = short (name_of c.label) c.bounds (le→leb (length (name_of c.label)) 6 (length_name c.label)) (element_printable e)
 
   -- 20 lines of 39 bytes at most
-  lines_fit : BoundedGame l.game → length (lines_text (lines_of l)) ≤ 780
+  pub lines_fit : BoundedGame l.game → length (lines_text (lines_of l)) ≤ 780
   lines_fit g = omega (arith, few_lines l few, length_lines (lines_of l) (lines_short g))
 
   -- and a header of 8

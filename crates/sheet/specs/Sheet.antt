@@ -1,14 +1,14 @@
 -- The film sheet of document 01: a layout as lines, and lines as text.
-use mathlib.Core.List.{List, [], ◌∷◌, ◌++◌, map, flat_map, zip_with}
-use Rattle.std.specs.Prelude.{ℕ, ◌-◌, length, take, replicate}
+use mathlib.Core.List.{List, [], ◌∷◌, ◌++◌, map, zip_with}
+use Rattle.std.specs.Prelude.{ℕ, ◌-◌, length, replicate}
+use Rattle.std.specs.List.{flat_map}
 use Rattle.geometry.specs.declared.Rect.{Rect}
 use Rattle.layout.specs.declared.Control.{Control}
 use Rattle.layout.specs.declared.Layout.{Layout}
 use Rattle.layout.specs.Label.{name_of}
 use Rattle.layout.specs.Layout.{control_list, stick_list, elements_of}
-use Rattle.lines.specs.Line.{Line, line_of, line_in, line_text, head_text}
+use Rattle.lines.specs.Line.{Line, line_of, line_text, head_text}
 use Rattle.sheet.specs.declared.Sheet.{Sheet}
-use Rattle.sheet.specs.declared.SheetLines.{SheetLines}
 
 -- ---- lines
 
@@ -54,10 +54,6 @@ lines_of l =
 -- what they are the lines of
 abbrev pub line_rects : Layout → List Rect
 line_rects l = l.game ∷ elements_of l
-
--- the lines that an array and its count stand for
-abbrev pub lines_in : SheetLines → List Line
-lines_in ls = map line_in (take ls.count ls.at)
 
 -- ---- text, in ASCII
 

@@ -1,4 +1,4 @@
--- What a host may count on, as `specs/Promises.antt` states it. Laws for hosts: proofs cite `layout_small`, `viewport_small` and `write_order_small` alone.
+-- What a host may count on, as `specs/Promises.antt` states it. Laws for hosts: proofs cite `layout_small`, `viewport_small`, `tested_small` and `film_small` alone.
 use mathlib.Core.Path.{◌≡◌, refl}
 use mathlib.Core.Bool.{Bool, true, false}
 use mathlib.Core.List.{List}
@@ -74,7 +74,7 @@ viewport_small order out reusable covered = go (read_order_of order) refl (tops_
 abbrev WrittenSmall : List ℕ → Answer Settings → Type 0
 WrittenSmall out a = mag (number_of (written_order_of a out)) ≤ 827
 
-tested_small : (mode fit : ℕ) (s : Settings) (out : List ℕ) → WrittenSmall out (tested_of mode fit s)
+pub tested_small : (mode fit : ℕ) (s : Settings) (out : List ℕ) → WrittenSmall out (tested_of mode fit s)
 unfolding first_fault_of
 tested_small mode fit s out = go (tested_of mode fit s) refl
   where

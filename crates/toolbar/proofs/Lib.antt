@@ -1,3 +1,3 @@
 pub mod ToolbarRanges
-pub mod Scan
+pub mod Pass
 pub mod ToolbarLabels

@@ -8,7 +8,9 @@ use lib.Ieee.{Float, lt, le, of_bits}
 use lib.Ieee.Fits.{and_l}
 use lib.ListN.{length}
 use Rattle.prelude.proofs.Booleans.{either, by_test, and_three, all_four}
-use Rattle.prelude.specs.Lists.{any_of, find}
+use Rattle.std.specs.Prelude.{unwrap_or}
+use Rattle.std.specs.List.{find, list_any}
+use Rattle.std.specs.Option.{option_map}
 use Rattle.prelude.specs.Each.{Each, ◌&◌}
 use Rattle.prelude.proofs.EachLaws.{each_take, each_append}
 use Rattle.float.specs.Float.{◌⊕◌, ◌⊖◌, ◌⊘◌, k0, k0_01, k2, k8, k320}
@@ -30,9 +32,9 @@ use Rattle.layout_ranges.proofs.Changes.{bounds_in}
 
 -- what is found holds
 module _ {A B : Type 0} (C : B → Type 0) (D : A → Type 0) (p : A → Bool) (hit : A → B) (none : B) (found : (x : A) → D x → T (p x) → C (hit x)) (otherwise : C none) where
-  find_ind : (xs : List A) → Each D xs → C (find p hit none xs)
+  find_ind : (xs : List A) → Each D xs → C (unwrap_or (option_map hit (find p xs)) none)
   find_ind [] e = otherwise
-  find_ind (x ∷ xs) e = by_test C (p x) (found x e.0) (λ t. find_ind xs e.1)
+  find_ind (x ∷ xs) e = by_test (λ o. C (unwrap_or (option_map hit o) none)) (p x) (found x e.0) (λ t. find_ind xs e.1)
 
 -- ---- the bar of a pair of keys
 record BarIn (bar : Rect) : Type 0 where
@@ -66,7 +68,7 @@ module _ (left : Bool) {w h : Float} (W : In w (at 0) (at 8192)) (H : In h (at 0
   unfolding moved_bar
   moved_bar_lem bar c B E t =
       let r : Bool = room_of (candidate_of bar left c) left w in
-      let f : Bool = not (any_of (overlaps_of (candidate_of bar left c)) obstacles) in
+      let f : Bool = not (list_any (overlaps_of (candidate_of bar left c)) obstacles) in
       by_test BarIn (r && f) (λ s. candidate_in bar c B E (and_l r f s)) (λ s. below_in bar c B E t)
 
   pass_in : Each Element obstacles → (turns : ℕ) (bar : Rect) → BarIn bar → BarIn (pass left w h obstacles turns bar)

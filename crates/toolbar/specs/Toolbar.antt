@@ -1,7 +1,8 @@
 -- `anchor_toolbar` of input.rs.
-use Rattle.std.specs.Prelude.{Bool, true, false, cond, not, ◌&&◌, ◌≡◌, List, ◌++◌, map, ℕ, zero, suc, ◌+◌, Float, length, take}
+use Rattle.std.specs.Prelude.{Bool, true, false, cond, not, ◌&&◌, ◌≡◌, List, ◌++◌, map, ℕ, zero, suc, ◌+◌, Float, length, unwrap_or}
 use Rattle.std.specs.Float.Ieee.{lt, le, neg}
-use Rattle.prelude.specs.Lists.{any_of, find}
+use Rattle.std.specs.List.{find, list_any}
+use Rattle.std.specs.Option.{option_map}
 use Rattle.float.specs.Float.{◌⊕◌, ◌⊖◌, ◌⊗◌, ◌⊘◌, k0, k0_01, k0_055, k1, k1_4, k2, k3, k4, k8, k18, k28, k40, k320}
 use Rattle.float.specs.MinMax.{min_of, max_of, clamp_of}
 use Rattle.geometry.specs.declared.Rect.{Rect}
@@ -10,14 +11,9 @@ use Rattle.layout.specs.declared.Layout.{Layout}
 use Rattle.layout.specs.Layout.{element_of, with_toolbar}
 use Rattle.layout.specs.Elements.{controller_elements_of}
 use Rattle.toolbar.specs.declared.Bars.{Bars}
-use Rattle.toolbar.specs.declared.Obstacles.{Obstacles}
 
 abbrev pub toolbar_height : Float
 toolbar_height = k18
-
--- the list that an array and its count stand for
-abbrev pub obstacle_list : Obstacles → List Rect
-obstacle_list o = take o.count o.at
 
 -- the bar moved past the obstacle c, away from its own edge of the screen
 unfoldable pub candidate_of : Rect → Bool → Rect → Rect
@@ -37,16 +33,16 @@ module _ (left : Bool) (w h : Float) (obstacles : List Rect) where
   unfoldable pub moved_bar : Rect → Rect → Rect
   moved_bar bar c =
       let candidate = candidate_of bar left c in
-      cond (room_of candidate left w && not (any_of (overlaps_of candidate) obstacles)) candidate (below_of bar h c)
+      cond (room_of candidate left w && not (list_any (overlaps_of candidate) obstacles)) candidate (below_of bar h c)
 
   -- so many turns of the pass, which ends as soon as the bar is free
   unfoldable pub pass : ℕ → Rect → Rect
   pass zero bar = bar
-  pass (suc turns) bar = find (overlaps_of bar) (λ c. pass turns (moved_bar bar c)) bar obstacles
+  pass (suc turns) bar = unwrap_or (option_map (λ c. pass turns (moved_bar bar c)) (find (overlaps_of bar) obstacles)) bar
 
 -- where the bar of a pair of keys comes to lie
-unfoldable pub pair_of : Float → Bool → Float → Float → Float → Float → Float → List Rect → Rect
-pair_of x left width top height w h obstacles = pass left w h obstacles (length obstacles + 1) (new_of x top width height)
+unfoldable pub pair_of : Rect → Bool → Float → Float → List Rect → Rect
+pair_of bar left w h obstacles = pass left w h obstacles (length obstacles + 1) bar
 
 -- A revealed status bar can push the toolbar into the controls, which stay where they are.
 unfoldable pub avoided_of : Layout → Float → List Rect → List Rect
@@ -54,8 +50,8 @@ avoided_of l coveredTop cutouts = cond (lt k0 coveredTop) (cutouts ++ map (eleme
 
 -- where both bars come to lie from where they start
 pub record BarsOf (obstacles : List Rect) (a b : Rect) (w h : Float) (r : Bars) : Type 0 where
-  pub left : r.left ≡ pair_of a.x true a.w a.y a.h w h obstacles
-  pub right : r.right ≡ pair_of b.x false b.w b.y b.h w h obstacles
+  pub left : r.left ≡ pair_of a true w h obstacles
+  pub right : r.right ≡ pair_of b false w h obstacles
 
 -- Playback and speed lie at the left, mute and pause at the right. A clear camera margin above the screen is used only
 -- while the system shows no decoration; a visible status bar pushes the keys down, and the game stays.
@@ -69,8 +65,8 @@ anchor_toolbar_of l w h reusableTop coveredTop cutouts =
     let top = clamp_of (neg reusableTop ⊕ coveredTop) (neg reusableTop) (max_of (h ⊖ height) k0) in
     let obstacles = avoided_of l coveredTop cutouts in
     let right = w ⊖ padding ⊖ size in
-    let a = pair_of padding true (size ⊕ gap ⊕ timeWidth) top height w h obstacles in
-    let b = pair_of (right ⊖ size ⊖ gap) false (k2 ⊗ size ⊕ gap) top height w h obstacles in
+    let a = pair_of (new_of padding top (size ⊕ gap ⊕ timeWidth) height) true w h obstacles in
+    let b = pair_of (new_of (right ⊖ size ⊖ gap) top (k2 ⊗ size ⊕ gap) height) false w h obstacles in
     with_toolbar l
     (new_of a.x a.y size height)
     (new_of (a.x ⊕ size ⊕ gap) a.y timeWidth height)

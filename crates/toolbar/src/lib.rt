@@ -1,25 +1,25 @@
 // `anchor_toolbar` of input.rs: the toolbar's four keys, playback and speed at the left, mute and pause at the right.
 #![tactic(auto)]
 
-ghost use Rattle.std.specs.Prelude.{◌≡◌, ◌++◌, ◌≤◌, T, take};
+ghost use Rattle.std.specs.Prelude.{◌≡◌, ◌++◌, ◌≤◌, T, length};
 ghost use Rattle.std.specs.Float.Ieee.{le};
 ghost use Rattle.float.specs.Float.{k0};
-ghost use Rattle.layout.specs.Layout.{cutout_list, element_list, Few};
-ghost use Rattle.toolbar.specs.Toolbar.{obstacle_list, avoided_of, BarsOf, candidate_of, room_of, below_of, pair_of, anchor_toolbar_of, reusable_top_of};
+ghost use Rattle.layout.specs.Layout.{element_of, Few};
+ghost use Rattle.layout.specs.Elements.{controller_elements_of};
+ghost use mathlib.Core.List.{map};
+ghost use Rattle.toolbar.specs.Toolbar.{avoided_of, BarsOf, candidate_of, room_of, below_of, moved_bar, pair_of, anchor_toolbar_of, reusable_top_of};
 
-use geometry::{EMPTY, Rect};
-use layout::{Cutouts, Elements, Layout};
+use arrayvec::ArrayVec;
+use geometry::Rect;
+use layout::Layout;
 
 pub const TOOLBAR_HEIGHT: f32 = 18.0;
 
-// What the toolbar must not overlap: the first `count` of the array, at most 16 cutouts and 15 controller elements.
-#[derive(Clone, Copy)]
-struct Obstacles {
-    at: [Rect; 31],
-    count: usize,
-}
+// What the toolbar must not overlap: at most 16 cutouts and 15 controller elements.
+type Obstacles = ArrayVec<Rect, 31>;
 
 // The bar moved past the obstacle c, away from its own edge of the screen.
+#[tactic(auto, unfolding(crate::specs::Toolbar::candidate_of))]
 fn candidate(bar: Rect, left: bool, c: Rect) -> Rect
     ensures { result ≡ candidate_of bar left c }
 {
@@ -28,6 +28,7 @@ fn candidate(bar: Rect, left: bool, c: Rect) -> Rect
 }
 
 // A bar may move across as far as the middle of the screen.
+#[tactic(auto, unfolding(crate::specs::Toolbar::room_of))]
 fn room(bar: Rect, left: bool, w: f32) -> bool
     ensures { result ≡ room_of bar left w }
 {
@@ -41,6 +42,7 @@ fn room(bar: Rect, left: bool, w: f32) -> bool
 }
 
 // The bar moved below the obstacle c, as far as the screen goes.
+#[tactic(auto, unfolding(crate::specs::Toolbar::below_of))]
 fn below(bar: Rect, h: f32, c: Rect) -> Rect
     ensures { result ≡ below_of bar h c }
 {
@@ -48,78 +50,44 @@ fn below(bar: Rect, h: f32, c: Rect) -> Rect
     Rect::new(bar.x, y, bar.w, bar.h)
 }
 
-// Where the bar of a pair of keys comes to lie. One that cannot pass an obstacle on its side of the screen goes below it.
-fn pair(
-    x: f32,
-    left: bool,
-    width: f32,
-    top: f32,
-    height: f32,
-    w: f32,
-    h: f32,
-    obstacles: [Rect; 31],
-    n: usize,
-) -> Rect
-    requires { n ≤ 31 }
-    ensures { result ≡ pair_of x left width top height w h (take n obstacles) }
+// The bar moved past the obstacle c, or where it cannot pass it on its side of the screen, below it.
+#[tactic(auto, unfolding(crate::specs::Toolbar::moved_bar))]
+fn moved(bar: Rect, left: bool, w: f32, h: f32, obstacles: &[Rect], c: Rect) -> Rect
+    ensures { result ≡ moved_bar left w h obstacles.now bar c }
 {
-    let mut bar = Rect::new(x, top, width, height);
-    for _ in 0..n + 1 {
-        let mut c = bar;
-        let mut met = false;
-        let mut i = 0;
-        while !met & (i < n) {
-            c = obstacles[i];
-            met = bar.overlaps(c);
-            i += 1;
-        }
-        if !met {
+    let candidate = candidate(bar, left, c);
+    if room(candidate, left, w) && !candidate.overlaps_any(obstacles) {
+        return candidate;
+    }
+    below(bar, h, c)
+}
+
+// Where the bar of a pair of keys comes to lie (left by `break`, a form that docs/DECISIONS.md names): after as many turns as there are obstacles, and one more, if it is not free before.
+fn pair(mut bar: Rect, left: bool, w: f32, h: f32, obstacles: &[Rect]) -> Rect
+    ensures { result ≡ pair_of bar left w h obstacles.now }
+{
+    for _ in 0..=obstacles.len() {
+        let Some(c) = obstacles.iter().find(|o| bar.overlaps(**o)) else {
             break;
-        }
-        let candidate = candidate(bar, left, c);
-        let mut blocked = !room(candidate, left, w);
-        let mut j = 0;
-        while !blocked & (j < n) {
-            let o = obstacles[j];
-            blocked = candidate.overlaps(o);
-            j += 1;
-        }
-        if blocked {
-            bar = below(bar, h, c);
-        } else {
-            bar = candidate;
-        }
+        };
+        bar = moved(bar, left, w, h, obstacles, *c);
     }
     bar
 }
 
-// The camera holes, in an array that has room for the controls.
-fn from_cutouts(cutouts: Cutouts) -> Obstacles
-    requires { cutouts.count ≤ 16 }
-    ensures { (obstacle_list result ≡ cutout_list cutouts) × (result.count ≤ 16) }
+// The camera holes, and the controls.
+fn with_controls(cutouts: &[Rect], l: Layout) -> Obstacles
+    requires { (length cutouts.now ≤ 16) × Few l }
+    ensures { result.items ≡ cutouts.now ++ map (element_of l) (controller_elements_of l) }
 {
-    let from = cutouts.at;
-    let n = cutouts.count;
-    let mut at = [EMPTY; 31];
-    for i in 0..n {
-        at[i] = from[i];
+    let mut obstacles = ArrayVec::new();
+    for r in cutouts {
+        obstacles.push(*r);
     }
-    Obstacles { at, count: n }
-}
-
-// The elements after the obstacles.
-fn extended(obstacles: Obstacles, elements: Elements) -> Obstacles
-    requires { (obstacles.count ≤ 16) × (elements.count ≤ 15) }
-    ensures { (obstacle_list result ≡ obstacle_list obstacles ++ element_list elements) × (result.count ≤ 31) }
-{
-    let n = obstacles.count;
-    let more = elements.at;
-    let m = elements.count;
-    let mut at = obstacles.at;
-    for i in 0..m {
-        at[n + i] = more[i];
+    for r in l.controller_elements().as_slice() {
+        obstacles.push(*r);
     }
-    Obstacles { at, count: n + m }
+    obstacles
 }
 
 // The bars of the two pairs of keys.
@@ -129,55 +97,48 @@ struct Bars {
     right: Rect,
 }
 
-fn place_both(obstacles: Obstacles, left: Rect, right: Rect, w: f32, h: f32) -> Bars
-    requires { obstacles.count ≤ 31 }
-    ensures { BarsOf (obstacle_list obstacles) left right w h result }
+fn place_both(obstacles: &[Rect], left: Rect, right: Rect, w: f32, h: f32) -> Bars
+    ensures { BarsOf obstacles.now left right w h result }
 {
-    let at = obstacles.at;
-    let n = obstacles.count;
     Bars {
-        left: pair(left.x, true, left.w, left.y, left.h, w, h, at, n),
-        right: pair(right.x, false, right.w, right.y, right.h, w, h, at, n),
+        left: pair(left, true, w, h, obstacles),
+        right: pair(right, false, w, h, obstacles),
     }
 }
 
-// A revealed status bar can push the toolbar into the controls, which stay where they are. Where there is no obstacle
-// the bars stay, and no array is made.
+// A revealed status bar can push the toolbar into the controls, which stay where they are.
+#[tactic(auto, unfolding(crate::specs::Toolbar::avoided_of))]
 fn place_bars(
     l: Layout,
     covered_top: f32,
-    cutouts: Cutouts,
+    cutouts: &[Rect],
     left: Rect,
     right: Rect,
     w: f32,
     h: f32,
 ) -> Bars
-    requires { (cutouts.count ≤ 16) × Few l }
-    ensures { BarsOf (avoided_of l covered_top (cutout_list cutouts)) left right w h result }
+    requires { (length cutouts.now ≤ 16) × Few l }
+    ensures { BarsOf (avoided_of l covered_top cutouts.now) left right w h result }
 {
     if covered_top > 0.0 {
-        let obstacles = extended(from_cutouts(cutouts), l.controller_elements());
-        return place_both(obstacles, left, right, w, h);
+        return place_both(&with_controls(cutouts, l), left, right, w, h);
     }
-    let n = cutouts.count;
-    if n < 1 {
-        return Bars { left, right };
-    }
-    place_both(from_cutouts(cutouts), left, right, w, h)
+    place_both(cutouts, left, right, w, h)
 }
 
 // The keys stay in corner pairs in every profile. They use a clear camera margin only while the system shows no
 // decoration; a visible status bar pushes them down, and the game stays.
+#[tactic(auto, unfolding(crate::specs::Toolbar::anchor_toolbar_of))]
 pub fn anchor_toolbar(
     l: Layout,
     w: f32,
     h: f32,
     reusable_top: f32,
     covered_top: f32,
-    cutouts: Cutouts,
+    cutouts: &[Rect],
 ) -> Layout
-    requires { (cutouts.count ≤ 16) × Few l × T (le k0 reusable_top) }
-    ensures { result ≡ anchor_toolbar_of l w h reusable_top covered_top (cutout_list cutouts) }
+    requires { (length cutouts.now ≤ 16) × Few l × T (le k0 reusable_top) }
+    ensures { result ≡ anchor_toolbar_of l w h reusable_top covered_top cutouts.now }
 {
     let padding = float::min(28.0, w * 0.055);
     let gap = float::min(8.0, w * 0.01);
@@ -197,14 +158,13 @@ pub fn anchor_toolbar(
         w,
         h,
     );
-    let a = bars.left;
-    let b = bars.right;
-    let mut anchored = l;
-    anchored.playback = Rect::new(a.x, a.y, size, height);
-    anchored.speed = Rect::new(a.x + size + gap, a.y, time_width, height);
-    anchored.mute = Rect::new(b.x, b.y, size, height);
-    anchored.pause = Rect::new(b.x + size + gap, b.y, size, height);
-    anchored
+    Layout {
+        playback: Rect::new(bars.left.x, bars.left.y, size, height),
+        speed: Rect::new(bars.left.x + size + gap, bars.left.y, time_width, height),
+        mute: Rect::new(bars.right.x, bars.right.y, size, height),
+        pause: Rect::new(bars.right.x + size + gap, bars.right.y, size, height),
+        ..l
+    }
 }
 
 // How far a picture reaches above the screen.

@@ -4,7 +4,8 @@ use mathlib.Core.List.{List, ◌∷◌, foldl}
 use Rattle.std.specs.Int.Bits.{bit_and, bit_or}
 use Rattle.std.specs.Float.{binary32}
 use Rattle.std.specs.Float.Ieee.{of_bits, lt, le}
-use Rattle.prelude.specs.Lists.{any_of, filter_map}
+use Rattle.std.specs.List.{list_any}
+use Rattle.prelude.specs.Lists.{filter_map}
 use Rattle.float.specs.Float.{◌⊕◌, ◌⊖◌, ◌⊗◌, ◌⊘◌, k0, k0_09, k0_15, k1, k2, k6, k10, √2}
 use Rattle.float.specs.MinMax.{min_of, abs_of}
 use Rattle.geometry.specs.declared.Rect.{Rect}
@@ -63,7 +64,7 @@ blockers_of l =
 -- The margin about a face button's box counts in unused control space only, so that it takes nothing from the picture, another
 -- control or the toolbar.
 unfoldable pub is_free_of : Layout → Float → Float → Bool
-is_free_of l x y = not (any_of (λ r. contains_of r x y) (blockers_of l))
+is_free_of l x y = not (list_any (λ r. contains_of r x y) (blockers_of l))
 
 -- the box with its margin
 unfoldable pub target_of : Rect → Rect

@@ -3,12 +3,11 @@
 
 ghost use Rattle.std.specs.Prelude.{◌≡◌, false, cond, not, ◌&&◌, ◌≤◌};
 ghost use Rattle.std.specs.Float.Ieee.{lt, eq};
-ghost use Rattle.prelude.specs.Lists.{any_of};
+ghost use Rattle.std.specs.List.{list_any};
 ghost use Rattle.float.specs.MinMax.{abs_of};
 ghost use Rattle.geometry.specs.Rect.{contains_of};
 ghost use Rattle.hypot.specs.Hypot.{hypot_of};
 ghost use Rattle.layout.specs.Label.{is_face_of};
-ghost use Rattle.layout.specs.Layout.{control_list};
 ghost use Rattle.touch.specs.Touch.{axis_bit_of, sector_of, dpad_mask_of, other_holds_of, is_free_of, add_other_of, target_of, reached_of, distance_of, nearer_of, mask_near_of};
 
 use float::SQRT_2;
@@ -18,7 +17,7 @@ use layout::{Control, Layout};
 // The nearest face button so far.
 #[derive(Clone, Copy)]
 struct Face {
-    // Its bit, or 0 where there is none.
+    // Its bit, or 0 where there is none: no Option, since 0 is what is answered then.
     mask: u16,
     closest: f32,
 }
@@ -31,6 +30,7 @@ struct NearestFaces {
 }
 
 // The bit of one axis of the d-pad, if the touch lies near enough to that axis.
+#[tactic(auto, unfolding(crate::specs::Touch::axis_bit_of))]
 fn axis_bit(along: f32, across: f32, negative: u16, positive: u16) -> u16
     ensures { result ≡ axis_bit_of along across negative positive }
 {
@@ -45,6 +45,7 @@ fn axis_bit(along: f32, across: f32, negative: u16, positive: u16) -> u16
 }
 
 // Eight broad sectors about the centre of the d-pad: a diagonal does not need the corner.
+#[tactic(auto, unfolding(crate::specs::Touch::sector_of))]
 fn sector(dx: f32, dy: f32) -> u16
     ensures { result ≡ sector_of dx dy }
 {
@@ -71,6 +72,7 @@ fn off_centre(dx: f32, dy: f32, radius: f32) -> bool
     hypot::hypot(dx, dy) > radius
 }
 
+#[tactic(auto, unfolding(crate::specs::Touch::dpad_mask_of))]
 fn dpad_mask(dpad: Rect, x: f32, y: f32) -> u16
     ensures { result ≡ dpad_mask_of dpad x y }
 {
@@ -85,50 +87,44 @@ fn dpad_mask(dpad: Rect, x: f32, y: f32) -> u16
 }
 
 // A control that is no face button holds the touch.
+#[tactic(auto, unfolding(crate::specs::Touch::other_holds_of))]
 fn other_holds(c: Control, x: f32, y: f32) -> bool
     ensures { result ≡ other_holds_of x y c }
 {
-    let label = c.label;
-    let r = c.bounds;
-    !label.is_face() && r.contains(x, y)
-}
-
-fn any_other(l: Layout, x: f32, y: f32) -> bool
-    requires { l.count ≤ 12 }
-    ensures { result ≡ any_of (other_holds_of x y) (control_list l) }
-{
-    let n = l.count;
-    for i in 0..n {
-        let c = l.controls[i];
-        if other_holds(c, x, y) {
-            return true;
-        }
-    }
-    false
+    !c.label.is_face() && c.bounds.contains(x, y)
 }
 
 // Neither the picture nor the d-pad holds the touch.
-fn outside(l: Layout, x: f32, y: f32) -> bool
-    ensures { result ≡ (not (contains_of l.game x y) && not (contains_of l.dpad x y)) }
+fn outside(l: &Layout, x: f32, y: f32) -> bool
+    ensures { result ≡ (not (contains_of l.now.game x y) && not (contains_of l.now.dpad x y)) }
 {
     !l.game.contains(x, y) && !l.dpad.contains(x, y)
 }
 
-// The touch lies in unused control space: none of the blockers holds it, asked in their order.
-#[tactic(auto, unfolding(crate::specs::Touch::is_free_of, prelude::specs::Lists::any_of), using(crate::proofs::Blockers::no_other))]
-fn is_free(l: Layout, x: f32, y: f32) -> bool
-    requires { l.count ≤ 12 }
-    ensures { result ≡ is_free_of l x y }
+fn any_holds(rects: &[Rect], x: f32, y: f32) -> bool
+    ensures { result ≡ list_any (λ r. contains_of r x y) rects.now }
 {
-    !l.game.contains(x, y)
-        && (!l.dpad.contains(x, y)
-            && (!l.pause.contains(x, y)
-                && (!l.playback.contains(x, y)
-                    && (!l.speed.contains(x, y)
-                        && (!l.mute.contains(x, y) && !any_other(l, x, y))))))
+    rects.iter().any(|r| r.contains(x, y))
+}
+
+fn any_other(controls: &[Control], x: f32, y: f32) -> bool
+    ensures { result ≡ list_any (other_holds_of x y) controls.now }
+{
+    controls.iter().any(|c| other_holds(*c, x, y))
+}
+
+// The touch lies in unused control space: none of the blockers holds it, asked in their order.
+#[tactic(auto, using(crate::proofs::Blockers::none_holds))]
+fn is_free(l: &Layout, x: f32, y: f32) -> bool
+    requires { l.now.count ≤ 12 }
+    ensures { result ≡ is_free_of l.now x y }
+{
+    let blockers = [l.game, l.dpad, l.pause, l.playback, l.speed, l.mute];
+    !any_holds(&blockers, x, y) && !any_other(l.control_list(), x, y)
 }
 
 // The box of a face button with its margin.
+#[tactic(auto, unfolding(crate::specs::Touch::target_of))]
 fn target(r: Rect) -> Rect
     ensures { result ≡ target_of r }
 {
@@ -141,24 +137,26 @@ fn target(r: Rect) -> Rect
     )
 }
 
+#[tactic(auto, unfolding(crate::specs::Touch::reached_of))]
 fn reached(r: Rect, x: f32, y: f32, free: bool) -> bool
     ensures { result ≡ reached_of r x y free }
 {
     r.contains(x, y) || (free && target(r).contains(x, y))
 }
 
+#[tactic(auto, unfolding(crate::specs::Touch::distance_of))]
 fn distance(r: Rect, x: f32, y: f32, held: bool) -> f32
     ensures { result ≡ distance_of r x y held }
 {
     hypot::hypot(x - r.x - r.w / 2.0, y - r.y - r.h / 2.0) - float::pick(held, 6.0, 0.0)
 }
 
+#[tactic(auto, unfolding(crate::specs::Touch::add_other_of))]
 fn add_other(mask: u16, c: Control, x: f32, y: f32) -> u16
     ensures { result ≡ add_other_of x y mask c }
 {
-    let label = c.label;
     if other_holds(c, x, y) {
-        return mask | label.mask();
+        return mask | c.label.mask();
     }
     mask
 }
@@ -175,10 +173,10 @@ fn closer(best: Face, face: Face) -> Face
 fn face_reached(c: Control, x: f32, y: f32, free: bool) -> bool
     ensures { result ≡ (is_face_of c.label && reached_of c.bounds x y free) }
 {
-    let label = c.label;
-    label.is_face() && reached(c.bounds, x, y, free)
+    c.label.is_face() && reached(c.bounds, x, y, free)
 }
 
+#[tactic(auto, unfolding(crate::specs::Touch::nearer_of))]
 fn nearer(
     best: NearestFaces,
     c: Control,
@@ -190,63 +188,53 @@ fn nearer(
     ensures { (result.free ≡ nearer_of x y outside previous best.free c) × (result.taken ≡ nearer_of x y false previous best.taken c) }
 {
     if face_reached(c, x, y, outside) {
-        let label = c.label;
-        let r = c.bounds;
-        let mask = label.mask();
-        let inside = r.contains(x, y);
-        let closest = distance(r, x, y, previous & mask != 0);
+        let mask = c.label.mask();
+        let closest = distance(c.bounds, x, y, previous & mask != 0);
         let face = Face { mask, closest };
         let free = closer(best.free, face);
-        let taken = best.taken;
         // Its box holds the touch, not only its margin.
-        if inside {
+        if c.bounds.contains(x, y) {
             return NearestFaces {
                 free,
-                taken: closer(taken, face),
+                taken: closer(best.taken, face),
             };
         }
-        return NearestFaces { free, taken };
+        return NearestFaces { free, ..best };
     }
     best
 }
 
 // Whether the touch lies in free space is asked only where it matters.
-fn face_mask(l: Layout, faces: NearestFaces, x: f32, y: f32) -> u16
-    requires { l.count ≤ 12 }
-    ensures { result ≡ cond (is_free_of l x y) faces.free.mask faces.taken.mask }
+fn face_mask(l: &Layout, faces: NearestFaces, x: f32, y: f32) -> u16
+    requires { l.now.count ≤ 12 }
+    ensures { result ≡ cond (is_free_of l.now x y) faces.free.mask faces.taken.mask }
 {
-    let free = faces.free;
-    let taken = faces.taken;
-    if free.mask != taken.mask {
-        if is_free(l, x, y) {
-            return free.mask;
-        }
+    if faces.free.mask != faces.taken.mask && is_free(l, x, y) {
+        return faces.free.mask;
     }
-    taken.mask
+    faces.taken.mask
 }
 
 // The bits of the three sources: the d-pad, the controls that are no face buttons, the nearest face button. One pass over the controls serves free
 // space and space that is taken: it is not known which it is until all controls are seen, and margins count outside the picture and the d-pad only.
+#[tactic(auto, unfolding(crate::specs::Touch::mask_near_of, crate::specs::Touch::others_mask_of, crate::specs::Touch::nearest))]
 pub fn mask_near(l: Layout, x: f32, y: f32, previous: u16) -> u16
     requires { l.count ≤ 12 }
     ensures { result ≡ mask_near_of l x y previous }
 {
-    let n = l.count;
-    let outside = outside(l, x, y);
-    let controls = l.controls;
+    let outside = outside(&l, x, y);
     let none = Face {
         mask: 0,
-        closest: f32::from_bits(0x7f80_0000),
+        closest: f32::INFINITY,
     };
-    let mut others: u16 = 0;
+    let mut others = 0;
     let mut faces = NearestFaces {
         free: none,
         taken: none,
     };
-    for i in 0..n {
-        let c = controls[i];
-        others = add_other(others, c, x, y);
-        faces = nearer(faces, c, x, y, outside, previous);
+    for c in l.control_list() {
+        others = add_other(others, *c, x, y);
+        faces = nearer(faces, *c, x, y, outside, previous);
     }
-    dpad_mask(l.dpad, x, y) | others | face_mask(l, faces, x, y)
+    dpad_mask(l.dpad, x, y) | others | face_mask(&l, faces, x, y)
 }

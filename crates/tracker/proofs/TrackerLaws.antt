@@ -4,21 +4,20 @@ use mathlib.Core.Bool.{Bool, true, false, cond, ◌&&◌, ◌||◌, or-false, or
 use mathlib.Core.List.{List, [], ◌∷◌, foldl}
 use mathlib.Core.Logic.{◌⊎◌, inl, inr}
 use Prim.Native.Nat.{ℕ, ◌<◌, ◌≤◌}
-use native.Mathlib.Omega.{arith}
 use lib.Dec.{eqb, leb}
 use lib.ListN.{length-set}
-use lib.Seq.{get_or-set_same, get_or-set_other}
+use lib.Seq.{get_or-set_other}
 use borrow.Author.Tests.{eqb-true, eqb-false, leb-true, leb-false}
 use Rattle.prelude.specs.Answer.{Answer, accepted, refused}
 use Rattle.prelude.specs.Bits.{has_bit}
-use Rattle.prelude.specs.Lists.{any_of}
+use Rattle.std.specs.List.{list_any}
 use Rattle.prelude.proofs.AnswerLaws.{never}
 use Rattle.prelude.proofs.BitLaws.{no_bit, or_bit}
 use Rattle.tracker.specs.declared.Finger.{Finger}
 use Rattle.tracker.specs.declared.Tracker.{Tracker}
-use Rattle.tracker.specs.Tracker.{not_held, is_held_of, fresh_of, finger_at, with_finger, held_mask_of, joined_of, combined_of, Call, Lift, finger, allowed_of, made_of, call_of, masks_of, kept_or, answer_of, after_of}
+use Rattle.tracker.specs.Tracker.{not_held, is_held_of, fresh_of, finger_at, held_mask_of, joined_of, combined_of, Call, Lift, finger, allowed_of, made_of, call_of, masks_of, kept_or, answer_of, after_of}
 use Rattle.tracker.specs.Runs.{after_all, calls_of, own_mask, answers_to}
-use Rattle.tracker.proofs.CallLaws.{by_outcome}
+use Rattle.tracker.proofs.CallLaws.{stored, by_outcome}
 use Rattle.tracker.specs.Promises.{Ten, CombinedBits, FreshHoldsNone, AcceptedMasks, LiftedMask, LiftOverAny, Refusals, RefusedKeeps, OthersKept, OwnCallsAlone, OthersLeftOut}
 
 -- ---- the combined mask
@@ -33,31 +32,28 @@ held_bit f i = go (is_held_of f)
     go true = refl
     go false = no_bit i
 
-joined_bits : (fs : List Finger) (mask i : ℕ) → has_bit (foldl joined_of mask fs) i ≡ (has_bit mask i || any_of (Has i) fs)
-unfolding joined_of any_of
+joined_bits : (fs : List Finger) (mask i : ℕ) → has_bit (foldl joined_of mask fs) i ≡ (has_bit mask i || list_any (Has i) fs)
+unfolding joined_of
 joined_bits [] mask i = sym (or-false (has_bit mask i))
 joined_bits (f ∷ fs) mask i = joined_bits fs (joined_of mask f) i ∙ rw (or_bit mask (held_mask_of f) i, held_bit f i) (or_assoc (has_bit mask i) (Has i f) _)
 
 pub combined_bits : CombinedBits
 unfolding combined_of
-combined_bits t i = joined_bits t.fingers 0 i ∙ ap (λ b. b || any_of (Has i) t.fingers) (no_bit i)
+combined_bits t i = joined_bits t.fingers 0 i ∙ ap (λ b. b || list_any (Has i) t.fingers) (no_bit i)
 
 -- ---- a fresh tracker
 pub fresh_holds_none : FreshHoldsNone
-unfolding fresh_of any_of
+unfolding fresh_of
 fresh_holds_none = (refl, refl)
 
 -- ---- one call
-finger_stored : (t : Tracker) (c : Call) (f : Finger) → Ten t → leb (finger c) 9 ≡ true → finger_at (with_finger t (finger c) f) (finger c) ≡ f
-finger_stored t c f ten e = let h = leb-true (finger c) 9 e in get_or-set_same t.fingers (finger c) f not_held (omega arith)
-
 pub accepted_masks : AcceptedMasks
 accepted_masks t c mask combined ten =
     by_outcome t c
     (λ a. masks_of (finger c) a ≡ accepted (mask, combined) → let after = kept_or t a in (finger_at after (finger c) ≡ made_of c (finger_at t (finger c))) × (mask ≡ (finger_at after (finger c)).mask) × (combined ≡ combined_of after))
     (λ e r. absurd (never (sym r)))
     (λ e f r. absurd (never (sym r)))
-    (λ e f r. let p = same r in (finger_stored t c _ ten e, sym (ap (λ q. q.0) p), sym (ap (λ q. q.1) p)))
+    (λ e f r. let p = same r in (stored t c ten _ e, sym (ap (λ q. q.0) p), sym (ap (λ q. q.1) p)))
   where
     same : {x y : ℕ × ℕ} → accepted x ≡ accepted y → x ≡ y
     same r = cc
@@ -98,7 +94,7 @@ own_call t c ten =
     by_outcome t c (λ a. (finger_at (kept_or t a) (finger c) ≡ turned c (finger_at t (finger c))) × (own_mask (masks_of (finger c) a) ≡ reply c (finger_at t (finger c))))
     (λ e. rw e (refl, refl))
     (λ e f. rw (e, f) (refl, refl))
-    (λ e f. let s = finger_stored t c (made_of c (finger_at t (finger c))) ten e in rw (e, f) (s, rw s refl))
+    (λ e f. let s = stored t c ten (made_of c (finger_at t (finger c))) e in rw (e, f) (s, rw s refl))
 
 -- ---- a run of calls: finger k is the same in two trackers, and one of them gets k's calls alone
 abbrev Alike : ℕ → Tracker → Tracker → Type 0

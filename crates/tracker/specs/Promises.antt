@@ -2,7 +2,7 @@
 use Rattle.std.specs.Prelude.{◌≡◌, false, ◌&&◌, List, ◌⊎◌, ℕ, ◌<◌, ◌≤◌, length}
 use Rattle.prelude.specs.Answer.{accepted, refused}
 use Rattle.prelude.specs.Bits.{has_bit}
-use Rattle.prelude.specs.Lists.{any_of}
+use Rattle.std.specs.List.{list_any}
 use Rattle.layout.specs.declared.Layout.{Layout}
 use Rattle.tracker.specs.declared.Tracker.{Tracker}
 use Rattle.tracker.specs.Tracker.{is_held_of, fresh_of, finger_at, combined_of, Call, Lift, finger, allowed_of, made_of, call_of, answer_of, after_of}
@@ -14,11 +14,11 @@ Ten t = length t.fingers ≡ 10
 
 -- "The combined mask has a bit set exactly if some held finger has it."
 abbrev pub CombinedBits : Type 0
-CombinedBits = (t : Tracker) (i : ℕ) → has_bit (combined_of t) i ≡ any_of (λ f. is_held_of f && has_bit f.mask i) t.fingers
+CombinedBits = (t : Tracker) (i : ℕ) → has_bit (combined_of t) i ≡ list_any (λ f. is_held_of f && has_bit f.mask i) t.fingers
 
 -- "a fresh tracker holds no finger"
 abbrev pub FreshHoldsNone : Type 0
-FreshHoldsNone = Ten fresh_of × (any_of is_held_of fresh_of.fingers ≡ false)
+FreshHoldsNone = Ten fresh_of × (list_any is_held_of fresh_of.fingers ≡ false)
 
 -- "An accepted call returns that finger's mask, 0 after a lift, and the combined mask", both of the tracker after the call.
 abbrev pub AcceptedMasks : Type 0

@@ -7,8 +7,6 @@ use Rattle.layout.specs.declared.Layout.{Layout}
 use Rattle.touch.specs.Touch.{mask_near_of}
 use Rattle.tracker.specs.declared.Finger.{Finger}
 use Rattle.tracker.specs.declared.Tracker.{Tracker}
-use Rattle.tracker.specs.declared.FingerAnswer.{FingerAnswer}
-use Rattle.tracker.specs.declared.FingerAnswer.TheVariants.{Masks, Refused}
 
 -- ---- trackers
 
@@ -86,8 +84,3 @@ answer_of t c = masks_of (finger c) (call_of t c)
 
 abbrev pub after_of : Tracker → Call → Tracker
 after_of t c = kept_or t (call_of t c)
-
--- an answer as the paper gives it
-abbrev pub finger_answer : FingerAnswer → Answer (ℕ × ℕ)
-finger_answer (Masks mask combined) = accepted (mask, combined)
-finger_answer (Refused n) = refused n

@@ -2,48 +2,50 @@
 // `pressed`, `moved` and `lifted`; over them `press`, `move_to` and `lift` change a tracker where it lies.
 #![tactic(auto)]
 
-ghost use Rattle.std.specs.Prelude.{◌≡◌, ◌<◌, ◌≤◌};
-ghost use Rattle.prelude.specs.Answer.{accepted, refused};
-ghost use Rattle.tracker.specs.Tracker.{fresh_of, with_finger, held_mask_of, combined_of, Press, MoveTo, Lift, masks_of, answer_of, after_of, finger_answer};
+ghost use Rattle.std.specs.Prelude.{◌≡◌, ◌≤◌, cond, not, leb};
+ghost use Rattle.prelude.specs.Answer.{accepted, refused, must, and_then};
+ghost use Rattle.refusal.specs.Refusal.{answered, refusal_number};
+ghost use Rattle.tracker.specs.Tracker.{fresh_of, finger_at, with_finger, is_held_of, held_mask_of, combined_of, Press, MoveTo, Lift, kept_or, answer_of, after_of};
 
 use layout::Layout;
+use refusal::Refusal;
 use touch::mask_near;
 
 // `held` is 0 for a finger that is not held, and any other number for one that is: so whatever a host lends is a tracker.
 #[repr(C)]
-#[derive(Clone, Copy)]
+#[derive(Clone, Copy, Debug, PartialEq, Eq)]
 pub struct Finger {
     pub held: u16,
     pub mask: u16,
 }
 
 #[repr(C)]
-#[derive(Clone, Copy)]
+#[derive(Clone, Copy, Debug, PartialEq, Eq)]
 pub struct Tracker {
     pub fingers: [Finger; 10],
 }
 
-// The finger's mask and the combined mask, or the number of a refusal.
-#[derive(Clone, Copy)]
-pub enum FingerAnswer {
-    Masks(u16, u16),
-    Refused(u8),
-}
-
-// What a call leaves of a tracker, and what it answers.
-#[derive(Clone, Copy)]
+// What a call leaves of a tracker, and what it answers: the finger's mask and the combined mask, or a refusal.
+#[derive(Clone, Copy, Debug, PartialEq, Eq)]
 pub struct Tracked {
     pub next: Tracker,
-    pub answer: FingerAnswer,
+    pub answer: Result<(u16, u16), Refusal>,
 }
 
 const NOT_HELD: Finger = Finger { held: 0, mask: 0 };
 
 impl Finger {
+    fn is_held(self) -> bool
+        ensures { result ≡ is_held_of self }
+    {
+        self.held != 0
+    }
+
+    #[tactic(auto, unfolding(crate::specs::Tracker::held_mask_of))]
     fn held_mask(self) -> u16
         ensures { result ≡ held_mask_of self }
     {
-        if self.held != 0 {
+        if self.is_held() {
             return self.mask;
         }
         0
@@ -51,6 +53,7 @@ impl Finger {
 }
 
 impl Tracker {
+    #[tactic(auto, unfolding(crate::specs::Tracker::fresh_of))]
     pub fn fresh() -> Self
         ensures { result ≡ fresh_of }
     {
@@ -59,111 +62,107 @@ impl Tracker {
         }
     }
 
+    #[tactic(auto, unfolding(crate::specs::Tracker::combined_of, crate::specs::Tracker::joined_of))]
     pub fn combined(self) -> u16
         ensures { result ≡ combined_of self }
     {
-        let fingers = self.fingers;
-        let mut mask: u16 = 0;
-        for i in 0..10 {
-            let f = fingers[i];
-            mask = mask | f.held_mask();
-        }
-        mask
+        self.fingers.iter().fold(0, |mask, f| mask | f.held_mask())
     }
 
     // Each place is tested by itself: after a store at an index that is not known when this is compiled, a read of the whole array waits.
     fn with_finger(self, i: usize, f: Finger) -> Self
-        requires { i < 10 }
         ensures { result ≡ with_finger self i f }
     {
         let mut fingers = self.fingers;
-        for k in 0..10 {
+        for (k, place) in fingers.iter_mut().enumerate() {
             if k == i {
-                fingers[k] = f;
+                *place = f;
             }
         }
         Self { fingers }
     }
 
-    fn changed(self, i: usize, f: Finger) -> Tracked
-        requires { i < 10 }
-        ensures answer { finger_answer result.answer ≡ masks_of i (accepted (with_finger self i f)) }
-        ensures tracker { result.next ≡ with_finger self i f }
+    // The finger that a call is of, if it is held as the call asks.
+    #[tactic(auto, unfolding(prelude::specs::Answer::must))]
+    fn called(self, finger: u8, held: bool) -> Result<Finger, Refusal>
+        ensures { let f = finger_at self finger in answered result ≡ must (leb finger 9) 9 (must (cond held (is_held_of f) (not (is_held_of f))) 10 (accepted f)) }
     {
-        let next = self.with_finger(i, f);
-        let answer = FingerAnswer::Masks(f.mask, next.combined());
-        Tracked { next, answer }
+        let f = self
+            .fingers
+            .get(usize::from(finger))
+            .ok_or(Refusal::NoSuchFinger)?;
+        if f.is_held() != held {
+            return Err(Refusal::WrongState);
+        }
+        Ok(*f)
+    }
+
+    // What a call leaves and answers that makes this of its finger, or is refused.
+    fn changed(self, finger: u8, made: Result<Finger, Refusal>) -> Tracked
+        ensures answer { answered result.answer ≡ and_then (answered made) (λ f. accepted (f.mask, combined_of (with_finger self finger f))) }
+        ensures tracker { result.next ≡ kept_or self (and_then (answered made) (λ f. accepted (with_finger self finger f))) }
+    {
+        match made {
+            Ok(f) => {
+                let next = self.with_finger(usize::from(finger), f);
+                let answer = Ok((f.mask, next.combined()));
+                Tracked { next, answer }
+            }
+            Err(refusal) => self.kept(refusal),
+        }
     }
 
     // Also where an order is refused.
-    pub fn kept(self, number: u8) -> Tracked
-        ensures answer { finger_answer result.answer ≡ refused number }
+    pub fn kept(self, refusal: Refusal) -> Tracked
+        ensures answer { answered result.answer ≡ refused (refusal_number refusal) }
         ensures tracker { result.next ≡ self }
     {
         Tracked {
             next: self,
-            answer: FingerAnswer::Refused(number),
+            answer: Err(refusal),
         }
     }
 }
 
-// ---- the calls by value
+// ---- the calls by value: three, each what it makes of its finger (docs/DECISIONS.md, "Forms")
 
 pub fn pressed(t: Tracker, l: Layout, finger: u8, x: f32, y: f32) -> Tracked
     requires { l.count ≤ 12 }
-    ensures answer { finger_answer result.answer ≡ answer_of t (Press finger x y l) }
+    ensures answer { answered result.answer ≡ answer_of t (Press finger x y l) }
     ensures tracker { result.next ≡ after_of t (Press finger x y l) }
 {
-    if finger > 9 {
-        return t.kept(9);
-    }
-    let i = finger as usize;
-    let f = t.fingers[i];
-    if f.held != 0 {
-        return t.kept(10);
-    }
-    let mask = mask_near(l, x, y, 0);
-    t.changed(i, Finger { held: 1, mask })
+    let made = t.called(finger, false).map(|_| Finger {
+        held: 1,
+        mask: mask_near(l, x, y, 0),
+    });
+    t.changed(finger, made)
 }
 
 pub fn moved(t: Tracker, l: Layout, finger: u8, x: f32, y: f32) -> Tracked
     requires { l.count ≤ 12 }
-    ensures answer { finger_answer result.answer ≡ answer_of t (MoveTo finger x y l) }
+    ensures answer { answered result.answer ≡ answer_of t (MoveTo finger x y l) }
     ensures tracker { result.next ≡ after_of t (MoveTo finger x y l) }
 {
-    if finger > 9 {
-        return t.kept(9);
-    }
-    let i = finger as usize;
-    let f = t.fingers[i];
-    if f.held == 0 {
-        return t.kept(10);
-    }
-    let mask = mask_near(l, x, y, f.mask);
-    t.changed(i, Finger { held: 1, mask })
+    let made = t.called(finger, true).map(|f| Finger {
+        held: 1,
+        mask: mask_near(l, x, y, f.mask),
+    });
+    t.changed(finger, made)
 }
 
 // The layout is not looked at.
 pub fn lifted(t: Tracker, l: Layout, finger: u8) -> Tracked
-    ensures answer { finger_answer result.answer ≡ answer_of t (Lift finger l) }
+    ensures answer { answered result.answer ≡ answer_of t (Lift finger l) }
     ensures tracker { result.next ≡ after_of t (Lift finger l) }
 {
-    if finger > 9 {
-        return t.kept(9);
-    }
-    let i = finger as usize;
-    let f = t.fingers[i];
-    if f.held == 0 {
-        return t.kept(10);
-    }
-    t.changed(i, NOT_HELD)
+    t.changed(finger, t.called(finger, true).map(|_| NOT_HELD))
 }
 
-// ---- the calls where a tracker lies
+// ---- the calls where a tracker lies, thin functions over those
 
-pub fn press(t: &mut Tracker, l: Layout, finger: u8, x: f32, y: f32) -> FingerAnswer
+pub fn press(t: &mut Tracker, l: Layout, finger: u8, x: f32, y: f32) -> Result<(u16, u16), Refusal>
     requires { l.count ≤ 12 }
-    ensures answer { finger_answer result ≡ answer_of t.old (Press finger x y l) }
+    ensures answer { answered result ≡ answer_of t.old (Press finger x y l) }
     ensures tracker { t.new ≡ after_of t.old (Press finger x y l) }
 {
     let tracked = pressed(*t, l, finger, x, y);
@@ -171,9 +170,15 @@ pub fn press(t: &mut Tracker, l: Layout, finger: u8, x: f32, y: f32) -> FingerAn
     tracked.answer
 }
 
-pub fn move_to(t: &mut Tracker, l: Layout, finger: u8, x: f32, y: f32) -> FingerAnswer
+pub fn move_to(
+    t: &mut Tracker,
+    l: Layout,
+    finger: u8,
+    x: f32,
+    y: f32,
+) -> Result<(u16, u16), Refusal>
     requires { l.count ≤ 12 }
-    ensures answer { finger_answer result ≡ answer_of t.old (MoveTo finger x y l) }
+    ensures answer { answered result ≡ answer_of t.old (MoveTo finger x y l) }
     ensures tracker { t.new ≡ after_of t.old (MoveTo finger x y l) }
 {
     let tracked = moved(*t, l, finger, x, y);
@@ -181,8 +186,8 @@ pub fn move_to(t: &mut Tracker, l: Layout, finger: u8, x: f32, y: f32) -> Finger
     tracked.answer
 }
 
-pub fn lift(t: &mut Tracker, l: Layout, finger: u8) -> FingerAnswer
-    ensures answer { finger_answer result ≡ answer_of t.old (Lift finger l) }
+pub fn lift(t: &mut Tracker, l: Layout, finger: u8) -> Result<(u16, u16), Refusal>
+    ensures answer { answered result ≡ answer_of t.old (Lift finger l) }
     ensures tracker { t.new ≡ after_of t.old (Lift finger l) }
 {
     let tracked = lifted(*t, l, finger);

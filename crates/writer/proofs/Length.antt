@@ -13,7 +13,7 @@ use Rattle.wire.specs.Wire.{short_bytes, rect_bytes}
 use Rattle.wire.proofs.Items.{length_rect, length_field_head, length_items}
 use Rattle.writer.specs.Bytes.{mask_bytes, layout_bytes}
 
-pub length_mask : (c : Control) → length (mask_bytes c) ≡ 2
+length_mask : (c : Control) → length (mask_bytes c) ≡ 2
 unfolding mask_bytes short_bytes
 length_mask c = refl
 

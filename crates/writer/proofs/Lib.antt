@@ -1,2 +1,2 @@
 pub mod Length
-pub mod Stores
+pub mod Made

@@ -1,14 +1,12 @@
 -- The layout as document 01's bytes.
 use mathlib.Core.List.{List, ◌++◌, flat_map}
 use Rattle.std.specs.Prelude.{ℕ, length}
-use Rattle.prelude.specs.Answer.{Answer, accepted, refused}
+use Rattle.prelude.specs.Answer.{Answer}
 use Rattle.layout.specs.declared.Control.{Control}
 use Rattle.layout.specs.declared.Layout.{Layout}
 use Rattle.layout.specs.Label.{mask_of}
 use Rattle.layout.specs.Layout.{control_list, elements_of}
 use Rattle.wire.specs.Wire.{short_bytes, rect_bytes, field_bytes, room_for, with_front}
-use Rattle.writer.specs.declared.Written.{Written}
-use Rattle.writer.specs.declared.Written.TheVariants.{Bytes, TooSmall}
 
 -- a control's mask
 unfoldable pub mask_bytes : Control → List ℕ
@@ -24,10 +22,6 @@ layout_bytes l =
 -- how many bytes are written, or a refusal
 unfoldable pub write_layout_of : Layout → List ℕ → Answer ℕ
 write_layout_of l out = room_for (length (layout_bytes l)) out
-
-abbrev pub writing_answer : Written → Answer ℕ
-writing_answer (Bytes n) = accepted n
-writing_answer TooSmall = refused 8
 
 -- the output afterwards: later bytes stay, and all of them on refusal
 unfoldable pub output_of : Layout → List ℕ → List ℕ

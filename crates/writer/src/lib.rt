@@ -1,65 +1,49 @@
 // The writer of layouts: bytes into output that the caller lends.
 #![tactic(auto)]
 
-ghost use Rattle.std.specs.Prelude.{◌≡◌, ◌+◌, ◌*◌, ◌≤◌, length, take};
-ghost use Rattle.layout.specs.Layout.{element_list, Few};
-ghost use mathlib.Core.List.{flat_map};
-ghost use Rattle.prelude.specs.Lists.{stored};
-ghost use Rattle.wire.specs.Wire.{rect_bytes};
-ghost use Rattle.writer.specs.Bytes.{mask_bytes, writing_answer, write_layout_of, output_of};
+ghost use Rattle.std.specs.Prelude.{◌≡◌, map};
+ghost use Rattle.layout.specs.Label.{mask_of};
+ghost use Rattle.layout.specs.Layout.{Few};
+ghost use Rattle.refusal.specs.Refusal.{answered};
+ghost use Rattle.writer.specs.Bytes.{write_layout_of, output_of};
 
-use layout::{Control, Elements, Layout};
-use wire::{put_field_head, put_rect, put_short};
+use fields::{Field, Listed, One, Row};
+use layout::{Control, Layout};
+use refusal::Refusal;
 
-// How many bytes were written; or the output is too small, and nothing was.
+// The masks of controls.
 #[derive(Clone, Copy)]
-pub enum Written {
-    Bytes(usize),
-    TooSmall,
-}
+struct Masks<'a>(&'a [Control]);
 
-fn put_rects(out: &mut [u8], at: usize, e: Elements)
-    requires { (e.count ≤ 19) × (at + 16 * e.count ≤ length out.old) }
-    ensures { out.new ≡ stored out.old at (flat_map rect_bytes (element_list e)) }
-{
-    let n = e.count;
-    let rects = e.at;
-    for i in 0..n {
-        put_rect(out, at + 16 * i, rects[i]);
+impl<'a> Row for Masks<'a> {
+    type Item = u16;
+
+    ghost list = { λ m. map (λ c. mask_of c.label) m.0.now };
+
+    fn count(self) -> usize {
+        self.0.len()
+    }
+
+    fn get(self, i: usize) -> u16 {
+        self.0[i].label.mask()
     }
 }
 
-fn put_masks(out: &mut [u8], at: usize, controls: [Control; 12], n: usize)
-    requires { (n ≤ 12) × (at + 2 * n ≤ length out.old) }
-    ensures { out.new ≡ stored out.old at (flat_map mask_bytes (take n controls)) }
-{
-    for i in 0..n {
-        let c = controls[i];
-        let label = c.label;
-        put_short(out, at + 2 * i, label.mask() as usize);
-    }
-}
-
-pub fn write_layout(l: Layout, out: &mut [u8]) -> Written
+pub fn write_layout(l: Layout, out: &mut [u8]) -> Result<usize, Refusal>
     requires { Few l }
-    ensures answer { writing_answer result ≡ write_layout_of l out.old }
+    ensures answer { answered result ≡ write_layout_of l out.old }
     ensures output { out.new ≡ output_of l out.old }
 {
-    let game = l.game;
-    let controls = l.controls;
-    let count = l.count;
-    let elements = l.elements();
-    let n = 16 * elements.count;
-    let m = 2 * count;
-    let length = 25 + n + m; // Three heads of 3 bytes and the game's 16 make 25.
+    let all = l.elements();
+    let game = Field::new(1, One(l.game));
+    let elements = Field::new(2, Listed(all.as_slice()));
+    let masks = Field::new(3, Listed(Masks(l.control_list())));
+    let length = game.length() + elements.length() + masks.length();
     if out.len() < length {
-        return Written::TooSmall;
+        return Err(Refusal::SheetTooSmall);
     }
-    put_field_head(out, 0, 1, 16);
-    put_rect(out, 3, game);
-    put_field_head(out, 19, 2, n);
-    put_rects(out, 22, elements);
-    put_field_head(out, 22 + n, 3, m);
-    put_masks(out, 25 + n, controls, count);
-    Written::Bytes(length)
+    let mut at = game.put(out, 0);
+    at = elements.put(out, at);
+    masks.put(out, at);
+    Ok(length)
 }

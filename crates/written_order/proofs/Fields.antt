@@ -13,18 +13,13 @@ use Rattle.settings.specs.declared.Settings.{Settings}
 use Rattle.wire.specs.Wire.{short_bytes, head_bytes, field_bytes}
 use Rattle.wire.proofs.ReadBack.{short_back}
 use Rattle.reader.specs.Order.{from_byte_of, read_field_of, fields}
-use Rattle.order_writer.specs.OrderBytes.{field_unless}
+use Rattle.fields.specs.Fields.{field_unless}
+use Rattle.order_writer.proofs.FromNumbers.{tested_then}
 
 -- a test that passes
 pub passed : {A : Type 0} (test : Bool) (n : ℕ) (a : Answer A) → test ≡ true → must test n a ≡ a
 unfolding must
 passed test n a e = rw e
-
--- a test comes before what follows it
-pub tested_then : {A B : Type 0} (test : Bool) (n : ℕ) (a : Answer A) (f : A → Answer B) → and_then (must test n a) f ≡ must test n (and_then a f)
-unfolding must
-tested_then true n a f = refl
-tested_then false n a f = refl
 
 -- ---- a field in its turn
 module _ (turns last : ℕ) (screen : Bool) (s : Settings) (tag : ℕ) (v rest : List ℕ) (above : last < tag) (small : tag ≤ 7) where

@@ -9,7 +9,7 @@ use lib.Ieee.{Float, binary32, fits}
 use lib.ListN.{length}
 use lib.Seq.{length-take-le}
 use Rattle.prelude.specs.Answer.{Answer, accepted, refusal_of, must}
-use Rattle.prelude.specs.Lists.{all_of}
+use Rattle.std.specs.List.{list_all}
 use Rattle.geometry.specs.declared.Rect.{Rect}
 use Rattle.geometry.specs.Rect.{rect_is_f32}
 use Rattle.geometry.specs.declared.Offset.{Offset}
@@ -20,7 +20,8 @@ use Rattle.settings.specs.Settings.{first_fault_of, must_screen, must_picture, m
 use Rattle.wire.specs.Wire.{number_bytes, rect_bytes, field_bytes}
 use Rattle.reader.specs.Order.{fields, read_order_of}
 use Rattle.written_order.specs.Promises.{every_field, RefusedAlike}
-use Rattle.written_order.proofs.Fields.{field_gives, field_tested, tested_then}
+use Rattle.order_writer.proofs.FromNumbers.{tested_then}
+use Rattle.written_order.proofs.Fields.{field_gives, field_tested}
 use Rattle.written_order.proofs.Values.{screen_given, picture_given, mode_given, fit_given, place_given, cutouts_given, saved_given, mode_byte_lem}
 use Rattle.written_order.proofs.Values.{fit_byte_lem, screen_given_lem, picture_given_lem, mode_given_lem, fit_given_lem, place_given_lem, cutouts_given_lem, saved_given_lem}
 
@@ -32,8 +33,8 @@ pub record EachF32 (a b : Float) (r : Rect) (c : Float) (o : Offset) (l m : List
   pub scale : fits binary32 c ≡ true
   pub across : fits binary32 o.x ≡ true
   pub down : fits binary32 o.y ≡ true
-  pub cutouts : all_of rect_is_f32 l ≡ true
-  pub saved : all_of rect_is_f32 m ≡ true
+  pub cutouts : list_all rect_is_f32 l ≡ true
+  pub saved : list_all rect_is_f32 m ≡ true
 
 module _ (w h : Float) (picture : Rect) (mode fit : ℕ) (scale : Float) (offset : Offset) (cutouts saved : List Rect) where
   -- the settings after each field
@@ -60,7 +61,7 @@ module _ (w h : Float) (picture : Rect) (mode fit : ℕ) (scale : Float) (offset
 
   -- the tests from each field on
   abbrev tests6 : Answer Settings
-  tests6 = must (leb (length cutouts) 16) 7 (must (all_of (rect_in_limits_of least) cutouts) 6 (must_saved (length saved) (accepted every_given)))
+  tests6 = must (leb (length cutouts) 16) 7 (must (list_all (rect_in_limits_of least) cutouts) 6 (must_saved (length saved) (accepted every_given)))
 
   abbrev tests4 : Answer Settings
   tests4 = must_fit fit (must_place scale offset tests6)

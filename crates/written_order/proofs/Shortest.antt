@@ -28,8 +28,8 @@ use Rattle.wire.proofs.Items.{length_rect, length_items}
 use Rattle.reader.specs.declared.Tag.{Tag}
 use Rattle.reader.specs.Order.{read_screen_of, read_picture_of, read_mode_of, read_fit_of, read_place_of, read_cutouts_of, read_saved_of, from_byte_of, read_field_of, fields, read_order_of}
 use Rattle.order_writer.specs.OrderBytes.{replaced_preset, replaced_cutouts, replaced_of, fields_of, order_bytes}
-use Rattle.order_writer.specs.OrderBytes.{field_unless, screen_field, equal_of, picture_field, byte_field, place_field, rects_field}
-use Rattle.order_writer.proofs.Runs.{length_screen}
+use Rattle.fields.specs.Fields.{field_unless}
+use Rattle.order_writer.specs.OrderBytes.{screen_field, equal_of, picture_field, byte_field, place_field, rects_field}
 use Rattle.written_order.specs.Promises.{Shortest, OrderSmall}
 
 -- ---- the length of fields
@@ -49,6 +49,10 @@ length_of screen s =
 length_fields : (s : Settings) → length (fields_of s) ≡ length_of true s
 unfolding fields_of length_of
 length_fields s = simp length-append (omega arith)
+
+length_screen : (w h : Float) → length (screen_field w h) ≡ 11
+unfolding number_bytes head_bytes short_bytes
+length_screen w h = refl
 
 -- a field that may be left out is no longer than its head and its value
 field_most : (absent : Bool) (tag : ℕ) (value : List ℕ) {n : ℕ} → length value ≡ n → length (field_unless absent tag value) ≤ 3 + n

@@ -8,17 +8,18 @@ use lib.Dec.{eqb, leb}
 use lib.Ieee.{Float, binary32, of_bits, fits, lt, le, eq, neg}
 use lib.ListN.{length, replicate, length-append, length-map}
 use lib.Seq.{take_at}
+use Rattle.std.specs.Prelude.{Option, Some, None}
 use Rattle.prelude.specs.Answer.{accepted, must}
 use Rattle.prelude.specs.Each.{Each}
-use Rattle.prelude.specs.Lists.{all_of}
+use Rattle.std.specs.List.{list_all}
 use Rattle.prelude.proofs.Booleans.{both}
 use Rattle.prelude.proofs.EachLaws.{all_each}
 use Rattle.float.specs.Float.{k0}
 use Rattle.geometry.specs.declared.Rect.{Rect}
 use Rattle.geometry.specs.Rect.{empty_rect, rect_array, rect_is_f32}
 use Rattle.geometry.specs.declared.Offset.{Offset}
-use Rattle.settings.specs.declared.Fit.{Fit}
-use Rattle.settings.specs.declared.Fit.TheVariants.{Unset, Maximum, KeepClear}
+use Rattle.settings.specs.declared.PictureFit.{PictureFit}
+use Rattle.settings.specs.declared.PictureFit.TheVariants.{Maximum, KeepClear}
 use Rattle.settings.specs.declared.Preset.{Preset}
 use Rattle.settings.specs.declared.Settings.{Settings}
 use Rattle.settings.specs.Settings.{with_fit, with_place, with_elements, with_screen, with_picture, with_preset, with_cutouts, screen_picture_of, has_bit}
@@ -57,8 +58,7 @@ module _ (s : Settings) where
   saved_given l = with_preset s (with_elements s.preset (rect_array 32 (length l) (map plus_zero_rect l)) (length l))
 
 -- ---- a test of each element that is as it was
-all_map_same : {A : Type 0} (C : A → Type 0) (p : A → Bool) (f : A → A) → ((x : A) → C x → p (f x) ≡ p x) → (l : List A) → Each C l → all_of p (map f l) ≡ all_of p l
-unfolding all_of
+all_map_same : {A : Type 0} (C : A → Type 0) (p : A → Bool) (f : A → A) → ((x : A) → C x → p (f x) ≡ p x) → (l : List A) → Each C l → list_all p (map f l) ≡ list_all p l
 all_map_same C p f h [] e = refl
 all_map_same C p f h (x ∷ l) e = rw (h x e.0, all_map_same C p f h l e.1)
 
@@ -95,11 +95,11 @@ mode_byte_lem p = go p.psp p.analog p.overlap
     go false false true = (refl, refl, refl, refl)
     go false false false = (refl, refl, refl, refl)
 
-pub fit_byte_lem : (f : Fit) → (leb (fit_byte_of f) 2 ≡ true) × (fit_mark_of (fit_byte_of f) ≡ f)
+pub fit_byte_lem : (f : Option PictureFit) → (leb (fit_byte_of f) 2 ≡ true) × (fit_mark_of (fit_byte_of f) ≡ f)
 unfolding fit_byte_of fit_mark_of
-fit_byte_lem Unset = (refl, refl)
-fit_byte_lem Maximum = (refl, refl)
-fit_byte_lem KeepClear = (refl, refl)
+fit_byte_lem None = (refl, refl)
+fit_byte_lem (Some Maximum) = (refl, refl)
+fit_byte_lem (Some KeepClear) = (refl, refl)
 
 -- ---- the last number, and the rectangles of a value
 number_last : (x : Float) → fits binary32 x ≡ true → number_at_of (number_bytes x) 0 ≡ plus_zero x
@@ -161,9 +161,9 @@ module _ (s : Settings) where
           signed_same offset.y r,
         )
 
-  module _ (l : List Rect) (f : all_of rect_is_f32 l ≡ true) where
+  module _ (l : List Rect) (f : list_all rect_is_f32 l ≡ true) where
     pub cutouts_given_lem : read_field_of (from_byte_of 6) (flat_map rect_bytes l) s
-        ≡ must (leb (length l) 16) 7 (must (all_of (rect_in_limits_of least) l) 6 (accepted (cutouts_given s l)))
+        ≡ must (leb (length l) 16) 7 (must (list_all (rect_in_limits_of least) l) 6 (accepted (cutouts_given s l)))
     unfolding read_field_of from_byte_of read_cutouts_of cutouts_in_limits_of filled must
     cutouts_given_lem =
         let each = all_each rect_is_f32 l f in

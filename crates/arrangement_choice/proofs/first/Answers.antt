@@ -9,22 +9,12 @@ use Rattle.layout.specs.Labels.{OfMode}
 use Rattle.layout.specs.Layout.{Few}
 use Rattle.layout.proofs.LabelLaws.{few}
 use Rattle.arrangement_choice.proofs.ChoiceLabels.{start_mode}
-use Rattle.arrangement_choice.specs.Choice.{first_of}
 use Rattle.arrangement_choice.proofs.first.Goals as goal
 
 pub anchor_toolbar-requires : goal.anchor_toolbar-requires
-unfolding first_of
 anchor_toolbar-requires c =
     let a = c.args in
     let mode : OfMode (a.marked || a.psp) a.psp c.start-layout.result = rw c.start-layout.ensures (start_mode _ _ _ _ a.marked a.psp) in
     let counts : Few c.start-layout.result = few (a.marked || a.psp) a.psp c.start-layout.result mode in
     let top : T (le k0 c.reusable_top.result) = rw c.reusable_top.ensures (zero_le_max _) in
     search rules
-
-pub returns-then-maximum : goal.returns-then-maximum
-unfolding first_of
-returns-then-maximum c = rw (c.if-maximum.true, ← c.start-layout.ensures, ← c.reusable_top.ensures) c.anchor_toolbar.ensures
-
-pub returns : goal.returns
-unfolding first_of
-returns c = rw c.if-maximum.false c.start-layout.ensures

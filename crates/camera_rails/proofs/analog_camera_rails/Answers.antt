@@ -18,14 +18,14 @@ pub avoid_cutouts-clear-requires : goal.avoid_cutouts-clear-requires
 avoid_cutouts-clear-requires c =
     let rails = c.anchored_rails-anchored in
     let faces : length (action_elements_of rails.result) ≡ 4 = rw rails.ensures.0 (anchored_faces _ _ _ _ _ _ _) in
-    ((rails.ensures.1, rails.ensures.2), (c.requires, omega arith))
+    (rails.ensures.1, (c.requires, omega arith))
 
-pub place_game_in_aspect-layout-requires : goal.place_game_in_aspect-layout-requires
-place_game_in_aspect-layout-requires c = cleared_few (goal.at.place_game_in_aspect-layout-requires c).After-avoid_cutouts-clear
+pub place_game_in_aspect-requires : goal.place_game_in_aspect-requires
+place_game_in_aspect-requires c = cleared_few (goal.at.place_game_in_aspect-requires c).After-avoid_cutouts-clear
 
 pub returns : goal.returns
 unfolding analog_camera_rails_of
 returns c =
     let few = cleared_few (goal.at.returns c).After-avoid_cutouts-clear in
-    let played : Few c.place_game_in_aspect-layout.result = unfold place_game_in_aspect_of in (rw c.place_game_in_aspect-layout.ensures few) in
+    let played : Few c.place_game_in_aspect.result = unfold place_game_in_aspect_of in (rw c.place_game_in_aspect.ensures few) in
     search rules

@@ -1,37 +1,21 @@
--- What is stored, and behind it the elements outside the group among the indices that are left.
-use mathlib.Core.Path.{sym, ◌≡◌}
-use mathlib.Core.List.{append-nil}
-use lib.ListN.{length, length-set}
-use lib.Seq.{get_or-take, length-take-le}
-use Rattle.prelude.proofs.ListLaws.{length_range, range_at}
-use Rattle.prelude.proofs.Loops.{sized, rest_all, goes_on, runs_out}
-use Rattle.prelude.proofs.Stores.{put_rest}
-use Rattle.layout.specs.Layout.{any_rect}
+-- One element more, if it is outside the group.
 use native.Mathlib.Omega.{arith}
+use lib.ListN.{length, get_or}
+use mathlib.Core.Path.{◌∙◌}
+use Rattle.layout.specs.Layout.{any_rect}
+use Rattle.cutouts.proofs.Groups.{outside_one, outside_none, outside_all}
+use Rattle.cutouts.proofs.others.Goals.{then-not-contains, else-not-contains}
 use Rattle.cutouts.proofs.others.Goals as goal
-
-pub loop-i-init : goal.loop-i-init
-loop-i-init c = (omega arith, search sized, rest_all _ _ _ (length_range _))
-
-pub loop-i-preserved-then-in_group : goal.loop-i-preserved-then-in_group
-loop-i-preserved-then-in_group c =
-    let l = c.loop-i in
-    let h = c.loop-i-test.true in
-    (omega arith, l.invariant.1, goes_on 0 l.invariant.2 h (rw (range_at _ l.i h, ← c.in_group.ensures, c.if-in_group.true)))
 
 pub loop-i-preserved : goal.loop-i-preserved
 loop-i-preserved c =
     let l = c.loop-i in
-    let h = c.loop-i-test.true in (
-      omega arith,
-      rw length-set l.invariant.1,
-      goes_on 0 l.invariant.2 h
-          (rw (range_at _ l.i h, ← c.in_group.ensures, c.if-in_group.false, get_or-take _ _ l.i any_rect h)
-          (sym (put_rest l.out l.count _ _ (omega arith)))),
-    )
+    let h = c.loop-i-test.true in
+    let es = c.args.elements.now in
+    elim c.if-not-contains.branch [
+      | then-not-contains w ↦ (rw (w.out-is, w.push.ensures.items, outside_one c.args.group.now (λ i. get_or es i any_rect) (length es) l.i-counter h c.contains.ensures.value w.if-not-contains.true, ← l.invariant.0), rw w.out-is (omega (arith, w.push.ensures.len)))
+      | else-not-contains w ↦ (rw (w.out-is, outside_none c.args.group.now (λ i. get_or es i any_rect) (length es) l.i-counter h c.contains.ensures.value w.if-not-contains.false) l.invariant.0, rw w.out-is (omega arith))
+    ]
 
 pub returns : goal.returns
-returns c =
-    let s = c.args.elements in
-    let m : length s.at ≡ 19 = search sized in
-    (rw (length-take-le s.count s.at (omega arith)) (rw append-nil at (runs_out c.loop-i.invariant.2 c.loop-i-test.false)), omega arith)
+returns c = c.loop-i.invariant.0 ∙ outside_all c.args.group.now (λ i. get_or c.args.elements.now i any_rect) _ _ c.loop-i-test.false

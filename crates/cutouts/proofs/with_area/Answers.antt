@@ -1,30 +1,16 @@
--- What is stored, and behind it the cutouts with an area among those that are left.
-use mathlib.Core.Path.{sym}
-use mathlib.Core.List.{append-nil}
-use lib.ListN.{length-set}
-use Rattle.prelude.proofs.Loops.{in_array, sized, goes_on, runs_out}
-use Rattle.prelude.proofs.Stores.{put_rest}
-use Rattle.layout.specs.Layout.{any_rect}
+-- One cutout more, if it has an area.
 use native.Mathlib.Omega.{arith}
+use Rattle.prelude.proofs.Loops.{one_more, no_more}
+use Rattle.layout.specs.Layout.{any_rect}
+use Rattle.cutouts.specs.Cutouts.{has_area_of}
+use Rattle.cutouts.proofs.with_area.Goals.{then-has_area, else-has_area}
 use Rattle.cutouts.proofs.with_area.Goals as goal
 
-pub loop-i-init : goal.loop-i-init
-loop-i-init c = (omega arith, search sized, search (in_array, arith))
-
-pub loop-i-preserved-then-not-has_area : goal.loop-i-preserved-then-not-has_area
-loop-i-preserved-then-not-has_area c =
-    let l = c.loop-i in
-    let empty = c.if-not-has_area.true in
-    (omega arith, l.invariant.1, goes_on any_rect l.invariant.2 c.loop-i-test.true (rw (← c.has_area.ensures, empty)))
-
-pub loop-i-preserved : goal.loop-i-preserved
-loop-i-preserved c =
-    let l = c.loop-i in
-    let full = c.if-not-has_area.false in (
-      omega arith,
-      rw length-set l.invariant.1,
-      goes_on any_rect l.invariant.2 c.loop-i-test.true (rw (← c.has_area.ensures, full) (sym (put_rest l.out l.count _ _ (omega arith)))),
-    )
-
-pub returns : goal.returns
-returns c = (rw append-nil at (runs_out c.loop-i.invariant.2 c.loop-i-test.false), omega arith)
+pub loop-c-preserved : goal.loop-c-preserved
+loop-c-preserved c =
+    let l = c.loop-c in
+    let h = c.loop-c-test.true in
+    elim c.if-has_area.branch [
+      | then-has_area w ↦ (rw (w.out-is, w.push.ensures.items, one_more has_area_of (λ x. x) c.args.cutouts.now l.c-index any_rect h c.has_area.ensures w.if-has_area.true, ← l.invariant.0), rw w.out-is (omega (arith, w.push.ensures.len)))
+      | else-has_area w ↦ (rw (w.out-is, no_more has_area_of (λ x. x) c.args.cutouts.now l.c-index any_rect h c.has_area.ensures w.if-has_area.false) l.invariant.0, rw w.out-is (omega arith))
+    ]

@@ -1,5 +1,4 @@
 -- The three steps, one after the other; the counts by `default_formed`.
-use Rattle.layout.specs.Layout.{cutout_list}
 use Rattle.layout.specs.Labels.{standard_labels}
 use Rattle.layout.proofs.LabelLaws.{with_counts}
 use Rattle.arranged.proofs.ControlLaws.{arranged_finished}
@@ -11,7 +10,7 @@ pub returns : goal.returns
 unfolding default_in_of
 returns c =
     let args = c.args in
-    let cutouts = cutout_list args.cutouts in
+    let cutouts = args.cutouts.now in
     with_counts standard_labels 0 (default_in_of args.w args.h cutouts args.picture) (default_formed args.w args.h cutouts args.picture)
     (rw (
       arranged_finished,

@@ -1,19 +1,40 @@
--- By the test of the sizes: all elements scaled, or none.
-use mathlib.Core.Path.{refl, ap}
+-- By the test of the sizes: none of the elements scaled, or all, where they lie.
+use mathlib.Core.Path.{◌≡◌, refl, ap, ◌∙◌}
+use mathlib.Core.Bool.{Bool, true, false, not, ◌&&◌, ◌||◌}
+use mathlib.Core.List.{List, map}
+use native.Mathlib.Omega.{arith}
+use lib.Ieee.{ne}
+use lib.ListN.{length, length-map}
+use lib.Seq.{take-append-le, take_all}
+use Rattle.geometry.specs.declared.Rect.{Rect}
+use Rattle.layout.specs.Layout.{elements_of}
 use Rattle.layout.specs.declared.Layout.{Layout}
 use Rattle.layout.specs.Elements.{set_elements_of}
-use Rattle.defaults.specs.Defaults.{shrunk_of}
+use Rattle.defaults.specs.Defaults.{scaled_rect_of, shrunk_of}
 use Rattle.defaults.proofs.shrunk.Goals as goal
 
-pub returns-then-requested-full : goal.returns-then-requested-full
-unfolding shrunk_of
-returns-then-requested-full c =
-    let e = c.set_elements.ensures in (
-      rw (← c.elements.ensures.0, ← c.scaled.ensures.0, c.if-requested-full.true) e,
-      unfold set_elements_of in (ap (λ (l : Layout). l.count) e),
-      unfold set_elements_of in (ap (λ (l : Layout). l.stickcount) e),
-    )
+either_not : (a b : Bool) → (not a || not b) ≡ not (a && b)
+either_not true b = refl
+either_not false b = refl
+
+kept : (l : Layout) (rs : List Rect) {m : Layout} → m ≡ set_elements_of l rs → (m.count ≡ l.count) × (m.stickcount ≡ l.stickcount)
+unfolding set_elements_of
+kept l rs e = (ap (λ (n : Layout). n.count) e, ap (λ (n : Layout). n.stickcount) e)
+
+pub returns-then-eq : goal.returns-then-eq
+unfolding shrunk_of ne
+returns-then-eq c = (rw (either_not, ← c.eq.ensures, c.if-eq.true), refl, refl)
 
 pub returns : goal.returns
-unfolding shrunk_of
-returns c = (rw c.if-requested-full.false, refl, refl)
+unfolding shrunk_of ne
+returns c =
+    let a = c.args in
+    let f = scaled_rect_of a.requested a.full in
+    let old = c.elements-elements.result.items in
+    let new : c.scale.new.elements ≡ map f old = rw c.deref_mut.ensures.value at c.scale.ensures in
+    let size : length c.scale.new.elements ≡ length old = rw (new, length-map) refl in
+    let now : c.deref.result.now ≡ map f (elements_of a.layout)
+    = c.deref.ensures.0 ∙ take-append-le _ _ _ (omega arith) ∙ take_all _ _ (omega arith) ∙ new ∙ ap (map f) c.elements-elements.ensures.items in
+    let e : c.set_elements.result ≡ set_elements_of a.layout (map f (elements_of a.layout)) = rw now at c.set_elements.ensures in
+    let k = kept a.layout _ e in
+    (rw (either_not, ← c.eq.ensures, c.if-eq.false) e, k.0, k.1)

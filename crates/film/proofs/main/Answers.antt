@@ -1,10 +1,12 @@
--- The text that is written lies within the sheet (`film_within`).
-use Rattle.std.proofs.Common.{sym, length-take-le}
-use Rattle.film_sheet.proofs.FilmLaws.{film_within}
+-- The text that is written lies within the sheet (`film_fits`).
+use Rattle.std.proofs.Common.{ℕ, List, ◌≤◌, arith}
+use Rattle.film_sheet.specs.Film.{film_sheet_of}
+use Rattle.film_sheet.proofs.FilmLaws.{film_fits}
 use Rattle.film.proofs.main.Goals as goal
 
-pub slice_bounds-bytes-end : goal.slice_bounds-bytes-end
-slice_bounds-bytes-end c = rw c.film_sheet-sheet.ensures (film_within _)
+small : (order : List ℕ) → (film_sheet_of order).len ≤ 1024
+unfolding film_sheet_of
+small order = omega (arith, film_fits order)
 
-pub slice_bounds-write_all-end : goal.slice_bounds-write_all-end
-slice_bounds-write_all-end c = rw c.film_sheet-sheet.ensures (sym (length-take-le _ _ (film_within _)))
+pub as_slice-requires : goal.as_slice-requires
+as_slice-requires c = rw c.film_sheet-sheet.ensures (small _)

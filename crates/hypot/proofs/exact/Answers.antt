@@ -8,5 +8,5 @@ use Rattle.hypot.proofs.exact.Goals as goal
 pub returns : goal.returns
 returns c =
     c.finite.ensures
-    ∙ finite_both c.args.a c.args.b (passes _ c.well_formed.0.1) (passes _ c.well_formed.1.0.1) _ _ _ _ c.unsigned_pattern-p.ensures c.unsigned_pattern-q.ensures c.larger.ensures
-    c.smaller.ensures (omega arith) (omega arith)
+    ∙ finite_both c.args.a c.args.b (passes _ c.well_formed.0.1) (passes _ c.well_formed.1.0.1) _ _ _ _ c.unsigned_pattern-p.ensures c.unsigned_pattern-q.ensures c.max.ensures
+    c.min.ensures (omega arith) (omega arith)

@@ -10,10 +10,10 @@ use Rattle.hypot.proofs.finite.Goals.{After-root}
 
 -- near sides: four times the sum of their squares, scaled, and how large its root is
 sides : (c : After-root) → let sum : ℕ = pattern_value c.args.p * pattern_value c.args.p + pattern_value c.args.q * pattern_value c.args.q in
-    let scaled : ℕ = 2 * c.times_power-s.result * (2 * c.times_power-s.result) + 2 * c.significand-n.result * (2 * c.significand-n.result) in
+    let scaled : ℕ = 2 * c.times_power.result * (2 * c.times_power.result) + 2 * c.significand-2.result * (2 * c.significand-2.result) in
     let place : ℕ = c.exponent-f.result in
     (4 * sum ≡ scaled * (2 ^ place * 2 ^ place)) × ((place ≡ 0) ⊎ (0x200_0000 ≤ root_of scaled))
-sides c = near c.args.p c.args.q _ _ _ _ _ c.exponent-e.ensures c.exponent-f.ensures c.significand.ensures c.significand-n.ensures c.times_power-s.ensures c.requires.q_le_p
+sides c = near c.args.p c.args.q _ _ _ _ _ c.exponent-e.ensures c.exponent-f.ensures c.significand.ensures c.significand-2.ensures c.times_power.ensures c.requires.q_le_p
 
 pub rounded-requires-clause-w_large : goal.rounded-requires-clause-w_large
 rounded-requires-clause-w_large c = rw c.root.ensures (sides (goal.at.rounded-requires-clause-w_large c).After-root).1

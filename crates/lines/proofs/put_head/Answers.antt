@@ -9,10 +9,10 @@ pub put_text-number-requires : goal.put_text-number-requires
 put_text-number-requires c = omega (arith, rw length_head at c.requires)
 
 pub put_digits-end-requires : goal.put_digits-end-requires
-put_digits-end-requires c = omega (arith, put_ends, rw length_head at c.requires)
+put_digits-end-requires c = omega (arith, put_ends, put_length, rw length_head at c.requires)
 
 pub bounds-out-end : goal.bounds-out-end
-bounds-out-end c = omega (arith, put_ends, rw length_head at c.requires)
+bounds-out-end c = omega (arith, put_ends, put_length, rw length_head at c.requires)
 
 pub overflow_add-result : goal.overflow_add-result
 overflow_add-result c = omega (arith, put_ends, rw length_head at c.requires)
@@ -20,6 +20,3 @@ overflow_add-result c = omega (arith, put_ends, rw length_head at c.requires)
 pub returns : goal.returns
 unfolding head_text
 returns c = put_after _ _ _ _ c.put_text-number.ensures (put_after _ _ _ _ c.put_digits-end.ensures (one _ _ 10))
-
-pub shape_of-out : goal.shape_of-out
-shape_of-out c = put_length _ _ _ (returns c)

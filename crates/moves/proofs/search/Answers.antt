@@ -1,33 +1,26 @@
--- What is inserted, and then the moves of the rectangles that are left: together all candidates in their order.
+-- One rectangle more: its moves off each hole.
 use native.Mathlib.Omega.{arith}
-use mathlib.Core.Path.{refl, ap, ◌∙◌}
-use mathlib.Core.List.{foldl-append, flat_map}
-use Rattle.prelude.proofs.Loops.{goes_on, runs_out}
-use Rattle.layout.specs.Layout.{any_rect}
-use Rattle.moves.specs.Moves.{candidates_of, ordered_of, moves_in, first_clear_of, search_of}
-use Rattle.moves.proofs.Inserts.{holds_none, held}
+use mathlib.Core.List.{[]}
+use mathlib.Core.Path.{ap, ◌∙◌}
+use lib.Ieee.{nan}
+use lib.Seq.{take_all}
+use Rattle.std.specs.List.{flat_map}
+use Rattle.geometry.specs.Rect.{new_of}
+use Rattle.moves.specs.Moves.{insert_of, moves_off, candidates_of, ordered_of, search_of, first_clear_of}
+use Rattle.moves.proofs.Inserts.{joined_more}
 use Rattle.moves.proofs.search.Goals as goal
 
-pub loop-i-init : goal.loop-i-init
-unfolding ordered_of moves_in search_of candidates_of flat_map
-loop-i-init c = (omega arith, holds_none _ _ _ refl refl refl, search arith)
+pub loop-r-init : goal.loop-r-init
+unfolding candidates_of ordered_of
+loop-r-init c = (c.new-moves.ensures, rw c.new-moves.ensures (omega arith))
 
-pub insert_off-n-requires : goal.insert_off-n-requires
-unfolding ordered_of moves_in search_of candidates_of flat_map
-insert_off-n-requires c = (omega arith, omega arith, c.loop-i.invariant.1)
-
-pub loop-i-preserved : goal.loop-i-preserved
-unfolding ordered_of moves_in search_of candidates_of flat_map
-loop-i-preserved c =
-    let l = c.loop-i in
-    (omega arith, held c.insert_off-n.ensures.1, goes_on any_rect l.invariant.2 c.loop-i-test.true (rw (foldl-append, c.insert_off-n.ensures.1.offsets)))
-
-pub first_clear-requires : goal.first_clear-requires
-unfolding ordered_of moves_in search_of candidates_of flat_map
-first_clear-requires c =
-    let l = c.loop-i in
-    ((l.invariant.1.dxsize, l.invariant.1.dysize), (omega arith, c.requires))
+pub loop-r-preserved : goal.loop-r-preserved
+unfolding candidates_of ordered_of
+loop-r-preserved c =
+    let l = c.loop-r in
+    let more = joined_more insert_of (λ r. flat_map (moves_off r) c.args.holes.now) [] c.args.original.now l.r-index (new_of nan nan nan nan) c.loop-r-test.true in
+    (rw (more, ← l.invariant.0) c.insert_off.ensures.0, omega (arith, c.insert_off.ensures.1))
 
 pub returns : goal.returns
-unfolding ordered_of moves_in search_of candidates_of flat_map
-returns c = c.first_clear.ensures ∙ ap (first_clear_of _ _ _ _ _) (runs_out c.loop-i.invariant.2 c.loop-i-test.false)
+unfolding candidates_of ordered_of search_of
+returns c = c.first_clear.ensures ∙ ap (first_clear_of _ _ _ _ _) (c.loop-r.invariant.0 ∙ ap (λ rs. ordered_of (candidates_of rs c.args.holes.now)) (take_all _ c.args.original.now (omega arith)))

@@ -1,8 +1,8 @@
-use Rattle.prelude.specs.Lists.{all_of}
+use lib.ListN.{length}
+use Rattle.std.specs.List.{list_all}
 use Rattle.prelude.proofs.Loops.{Rest}
 use Rattle.settings.specs.Settings.{least, rect_in_limits_of}
-use Rattle.order_writer.specs.Numbers.{rects_in}
 use Rattle.order_writer.proofs.rects_in_limits.Given as goal
 
 abbrev pub invariant-loop-i : goal.invariant-loop-i
-invariant-loop-i l = Rest (all_of (rect_in_limits_of least)) (rects_in l.numbers) l.n (all_of (rect_in_limits_of least) (rects_in l.numbers)) l.i
+invariant-loop-i g l = let list = g.R.Row.list l.rects in Rest (list_all (rect_in_limits_of least)) list (length list) (list_all (rect_in_limits_of least) list) l.i

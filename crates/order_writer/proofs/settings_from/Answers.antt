@@ -6,11 +6,4 @@ use Rattle.order_writer.proofs.settings_from.Goals as goal
 
 pub returns : goal.returns
 unfolding settings_from absent_of default_of rects_in tabulate
-returns c =
-    rw (
-      c.rect_from.ensures,
-      c.with_fit-preset.ensures,
-      c.fit_mark.ensures,
-      c.with_mode_byte-moded.ensures,
-      c.default-start.ensures,
-    )
+returns c = rw (c.rect_from.ensures, c.fit_mark-preset.ensures, c.with_mode_byte-preset.ensures, c.default.ensures)

@@ -9,7 +9,7 @@ use Rattle.float.proofs.Ends.{zero_le_max}
 use Rattle.layout.specs.declared.Layout.{Layout}
 use Rattle.layout.specs.Actions.{action_elements_of}
 use Rattle.layout.specs.Labels.{OfMode}
-use Rattle.layout.specs.Layout.{Few, cutout_list}
+use Rattle.layout.specs.Layout.{Few}
 use Rattle.layout.proofs.LabelLaws.{few, few_faces}
 use Rattle.search.specs.Search.{place_game_in_aspect_of}
 use Rattle.settings.specs.declared.Preset.{Preset}
@@ -46,7 +46,7 @@ pub with_saved-restored-requires : goal.with_saved-restored-requires
 with_saved-restored-requires c =
     let p = c.args.p in
     let arranged : Mode p c.arrangement-layout.result = rw c.arrangement-layout.ensures (arrangement_mode _ _ _ _ _ _ _ _ _) in
-    (c.requires.0, few (analog_of p) p.psp c.arrangement-layout.result arranged, c.requires.2, c.requires.3)
+    (few (analog_of p) p.psp c.arrangement-layout.result arranged, c.requires.2, c.requires.3)
 
 pub avoid_cutouts-clear-requires : goal.avoid_cutouts-clear-requires
 avoid_cutouts-clear-requires c =
@@ -80,13 +80,13 @@ fit_landscape_controls-requires c =
     few (analog_of p) p.psp c.place_game_in_aspect-placed.result mode
 
 -- ---- the area over every layout is that over the layout at first
-area : (c : After-area-area) → let a = c.args in c.area-area.result ≡ area_of (first_of a.p.analog a.p.psp c.is_maximum-maximum.result a.w a.h (cutout_list a.cutouts) a.picture) c.is_maximum-maximum.result a.picture
-area c = let a = c.args in first_area a.w a.h (cutout_list a.cutouts) a.picture a.p.analog a.p.psp c.is_maximum-maximum.result c.area-area.ensures
+area : (c : After-area-area) → let a = c.args in c.area-area.result ≡ area_of (first_of a.p.analog a.p.psp c.is_maximum-maximum.result a.w a.h a.cutouts.now a.picture) c.is_maximum-maximum.result a.picture
+area c = let a = c.args in first_area a.w a.h a.cutouts.now a.picture a.p.analog a.p.psp c.is_maximum-maximum.result c.area-area.ensures
 
 pub returns-then-row_allowed : goal.returns-then-row_allowed
 unfolding laid_out_of settled_of
 returns-then-row_allowed c = let e = area (goal.at.returns-then-row_allowed c).After-area-area in search rules
 
-pub returns : goal.returns
+pub returns-else-row_allowed : goal.returns-else-row_allowed
 unfolding laid_out_of settled_of
-returns c = let e = area (goal.at.returns c).After-area-area in search rules
+returns-else-row_allowed c = let e = area (goal.at.returns-else-row_allowed c).After-area-area in search rules

@@ -1,10 +1,9 @@
-use lib.ListN.{length}
+use Rattle.std.proofs.Common.{length}
 use Rattle.reader.proofs.Fields.{Left}
-use Prim.Native.Nat.{◌-◌, ◌≤◌}
 use Rattle.reader.proofs.read_order.Given as goal
 
-abbrev pub invariant-loop-at : goal.invariant-loop-at
-invariant-loop-at l = (l.at ≤ length l.bytes) × Left l.bytes l.at l.last l.screen l.s
+abbrev pub invariant-loop-rest : goal.invariant-loop-rest
+invariant-loop-rest l = Left l.bytes l.rest l.last l.screen l.s
 
-abbrev pub decreases-loop-at : goal.decreases-loop-at
-decreases-loop-at l = length l.bytes - l.at
+abbrev pub decreases-loop-rest : goal.decreases-loop-rest
+decreases-loop-rest l = length l.rest

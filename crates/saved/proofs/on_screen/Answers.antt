@@ -1,5 +1,4 @@
--- The ends of each clamp are in order, by `side_ends` and `corner_ends`; the four numbers are those of `on_screen_of`.
-use Rattle.saved.specs.Saved.{on_screen_of}
+-- The ends of each clamp are in order, by `side_ends` and `corner_ends`.
 use Rattle.saved.proofs.SavedLaws.{usable_finite}
 use Rattle.saved.proofs.Ends.{side_ends, corner_ends}
 use Rattle.saved.proofs.on_screen.Goals as goal
@@ -15,9 +14,3 @@ clamp-requires c = rw (c.clamp-width.ensures, c.min.ensures) (corner_ends _ _ c.
 
 pub clamp-requires-2 : goal.clamp-requires-2
 clamp-requires-2 c = rw (c.clamp-height.ensures, c.min-2.ensures) (corner_ends _ _ c.requires.2 _ (usable_finite c.args.r c.requires.0).3)
-
-pub returns : goal.returns
-unfolding on_screen_of
-returns c =
-    rw (← c.min.ensures, ← c.clamp-width.ensures, ← c.min-2.ensures, ← c.clamp-height.ensures)
-    (rw (← c.clamp.ensures, ← c.clamp-2.ensures, ← c.new.ensures))

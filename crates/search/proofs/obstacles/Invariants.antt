@@ -1,10 +1,8 @@
-use mathlib.Core.Path.{◌≡◌}
-use mathlib.Core.List.{◌++◌}
-use lib.ListN.{take, length}
-use Rattle.prelude.proofs.Loops.{Rest}
+-- What is pushed, and behind it what the elements that are left give.
+use Rattle.std.proofs.Common.{◌≡◌, ◌++◌, ◌≤◌, drop}
+use Rattle.arrayvec.specs.ArrayVec.{array_vec_len}
 use Rattle.search.specs.Search.{obstacles_of}
-use Prim.Native.Nat.{◌≤◌}
 use Rattle.search.proofs.obstacles.Given as goal
 
-abbrev pub invariant-loop-i : goal.invariant-loop-i
-invariant-loop-i l = (l.count ≤ l.i) × (length l.at ≡ 19) × Rest (λ rs. take l.count l.at ++ obstacles_of l.bounds rs) l.from l.n (obstacles_of l.bounds (take l.n l.from)) l.i
+abbrev pub invariant-loop-r : goal.invariant-loop-r
+invariant-loop-r l = (array_vec_len l.out ≤ l.r-index) × (l.out.items ++ obstacles_of l.bounds (drop l.r-index l.elements) ≡ obstacles_of l.bounds l.elements)

@@ -1,77 +1,54 @@
--- `side` is the fold `side_of`: the loops over x and y have done the first part of their folds; what is left of the inner one gives the whole width, or is given up.
-use native.Mathlib.Omega.{arith}
-use mathlib.Core.Path.{◌≡◌, refl, ◌∙◌}
+-- `side` is the fold `side_of`, of folds over y.
+use mathlib.Core.Path.{refl, ◌∙◌}
 use mathlib.Core.Logic.{inl, inr}
-use lib.ListN.{length, length-map}
+use Rattle.std.proofs.Common.{rules}
+use Rattle.std.specs.Prelude.{Some}
+use Rattle.std.proofs.lemmas.List.{map-id}
+use Rattle.std.proofs.lemmas.Iterator.{YieldsList-from_slice, YieldsList-from_map}
+use Rattle.std.proofs.lemmas.Iterator.Adapters.{YieldsList-from_once}
+use Rattle.std.proofs.lemmas.Iterator.Consumers.{YieldsList-at, YieldsList-from_chain, YieldsList-end}
 use Rattle.prelude.proofs.Booleans.{cond_yes, cond_no}
-use Rattle.prelude.proofs.Loops.{sized, fold_next, take_first, in_array, goes_on}
-use Rattle.layout.specs.Layout.{any_rect}
-use Rattle.search.specs.Search.{bottom_of, right_of, bottoms, rights, side_width_at, try_side_at, try_column, side_of}
+use Rattle.float.specs.Float.{k0}
+use Rattle.search.specs.Search.{bottom_of, right_of, try_side_at, try_column, side_of}
 use Rattle.search.proofs.Narrower.{narrow_side_below, turn_is_full}
-use Rattle.search.proofs.Steps.{first_start, later_start}
-use Prim.Native.Nat.{◌+◌, ◌<◌, zero-le}
+use Rattle.search.proofs.Steps.{fold_more}
 use Rattle.search.proofs.side.Goals as goal
-use Rattle.search.proofs.side.Goals.{then-i-gt0, else-i-gt0, then-j-gt0, else-j-gt0, then-within-2, else-loop-k-test, then-loop-k-test+then-width-best, else-within-2, then-within+else-loop-j-test, else-within}
+use Rattle.search.proofs.side.Goals.{else-loop-r-test, then-loop-r-test+then-width-best}
 
-pub loop-i-init : goal.loop-i-init
-unfolding side_width_at
-loop-i-init c = (zero-le, refl, refl)
+pub loop-y-preserved-then-within-2 : goal.loop-y-preserved-then-within-2
+unfolding try_side_at
+loop-y-preserved-then-within-2 c =
+    rw (fold_more, ← c.loop-y.invariant)
+    (cond_yes _ _ _ c.within-in-loop-y.ensures c.if-within-2.true
+    (c.better-best.ensures ∙ turn_is_full _ _ _ _ (narrow_side_below _ _ _ _) (λ _. c.in-Some.x) _ _ c.loop-r.invariant
+    (elim c.loop-r-test.branch [ else-loop-r-test w ↦ inl w.loop-r-test.false | then-loop-r-test+then-width-best w ↦ inr w.if-width-best.true ])))
 
-pub loop-j-init : goal.loop-j-init
-unfolding side_width_at
-loop-j-init c = (zero-le, refl, refl)
+pub loop-y-preserved : goal.loop-y-preserved
+unfolding try_side_at
+loop-y-preserved c = rw (fold_more, ← c.loop-y.invariant) (cond_no _ _ _ c.within-in-loop-y.ensures c.if-within-2.false refl)
 
-pub loop-k-init : goal.loop-k-init
-unfolding side_width_at
-loop-k-init c = record { most = zero-le; size = search (in_array, arith); left = rw (c.max-width.ensures, c.min.ensures) }
+pub loop-x-preserved-in-None-y : goal.loop-x-preserved-in-None-y
+unfolding try_column
+loop-x-preserved-in-None-y c =
+    let seen = YieldsList-end
+    (YieldsList-at c.into_iter-y-iterator.ensures.into_iter_gives
+    (YieldsList-from_chain (YieldsList-at c.chain-y-items.ensures.first (YieldsList-from_once (Some k0) c.once-then-within.ensures.item))
+    (YieldsList-at c.chain-y-items.ensures.second (YieldsList-from_map _ bottom_of (YieldsList-at c.map-then-within.ensures.source (YieldsList-from_slice c.args.obstacles.now c.iter-then-within.ensures.rest)) c.map-then-within.ensures.closure (λ x r q k. search rules)))
+    c.chain-y-items.ensures.first_done c.chain-y-items.ensures.second_done))
+    c.loop-y.yielded _ c.loop-y.yielded_by _ _ c.in-None-y.is c.next-in-loop-y.ensures.steps in
+    rw (fold_more, ← c.loop-x.invariant) (cond_yes _ _ _ c.within.ensures c.if-within.true (rw (rw map-id at seen.0) at c.loop-y.invariant))
 
-pub loop-k-preserved : goal.loop-k-preserved
-unfolding side_width_at
-loop-k-preserved c = goes_on any_rect c.loop-k.invariant c.loop-k-test.true (rw c.narrow_side-width.ensures)
-
-pub loop-j-preserved : goal.loop-j-preserved
-unfolding side_width_at try_side_at
-loop-j-preserved c =
-    let n : length c.args.obstacles ≡ 19 = search sized in
-    let h : c.loop-j.j < length (bottoms c.args.obstacles) = simp length-map (omega arith) in (
-      omega arith,
-      refl,
-      fold_next _ _ _ _ _ h c.loop-j.invariant.2
-          (elim c.if-j-gt0.branch [
-            | then-j-gt0 w ↦ later_start bottom_of c.args.obstacles _ w.if-j-gt0.true w.y-is
-            | else-j-gt0 w ↦ first_start bottom_of c.args.obstacles _ w.if-j-gt0.false w.y-is
-          ])
-          (elim c.if-within-2.branch [
-            | then-within-2 w ↦
-                cond_yes _ _ _ c.within-in-loop-j.ensures w.if-within-2.true
-                (w.best-is ∙ w.better-best.ensures ∙ turn_is_full _ (narrow_side_below _ _ _ _) (λ _. c.if-i-gt0.x) _ _ w.loop-k.invariant
-                (elim w.loop-k-test.branch [ else-loop-k-test u ↦ inl u.loop-k-test.false | then-loop-k-test+then-width-best u ↦ inr u.if-width-best.true ]))
-            | else-within-2 w ↦ cond_no _ _ _ c.within-in-loop-j.ensures w.if-within-2.false w.best-is
-          ]),
-    )
-
-pub loop-i-preserved : goal.loop-i-preserved
-unfolding side_width_at try_column
-loop-i-preserved c =
-    let n : length c.args.obstacles ≡ 19 = search sized in
-    let h : c.loop-i.i < length (rights c.args.obstacles) = simp length-map (omega arith) in (
-      omega arith,
-      refl,
-      fold_next _ _ _ _ _ h c.loop-i.invariant.2
-          (elim c.if-i-gt0.branch [
-            | then-i-gt0 w ↦ later_start right_of c.args.obstacles _ w.if-i-gt0.true w.x-is
-            | else-i-gt0 w ↦ first_start right_of c.args.obstacles _ w.if-i-gt0.false w.x-is
-          ])
-          (elim c.if-within.branch [
-            | then-within+else-loop-j-test w ↦
-                let e : w.loop-j.j ≡ c.args.count + 1 = omega arith in
-                cond_yes _ _ _ c.within.ensures w.if-within.true (w.best-is ∙ (rw (e, take_first) at w.loop-j.invariant.2))
-            | else-within w ↦ cond_no _ _ _ c.within.ensures w.if-within.false w.best-is
-          ]),
-    )
+pub loop-x-preserved : goal.loop-x-preserved
+unfolding try_column
+loop-x-preserved c = rw (fold_more, ← c.loop-x.invariant) (cond_no _ _ _ c.within.ensures c.if-within.false refl)
 
 pub returns : goal.returns
-unfolding side_width_at side_of
+unfolding side_of
 returns c =
-    let e : c.loop-i.i ≡ c.args.count + 1 = omega arith in
-    rw (e, take_first) at c.loop-i.invariant.2
+    let seen = YieldsList-end
+    (YieldsList-at c.into_iter-x-iterator.ensures.into_iter_gives
+    (YieldsList-from_chain (YieldsList-at c.chain-x-items.ensures.first (YieldsList-from_once (Some k0) c.once.ensures.item))
+    (YieldsList-at c.chain-x-items.ensures.second (YieldsList-from_map _ right_of (YieldsList-at c.map.ensures.source (YieldsList-from_slice c.args.obstacles.now c.iter.ensures.rest)) c.map.ensures.closure (λ x r q k. search rules)))
+    c.chain-x-items.ensures.first_done c.chain-x-items.ensures.second_done))
+    c.loop-x.yielded _ c.loop-x.yielded_by _ _ c.in-None.is c.next.ensures.steps in
+    rw (rw map-id at seen.0) at c.loop-x.invariant

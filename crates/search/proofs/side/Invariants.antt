@@ -1,17 +1,15 @@
-use mathlib.Core.Path.{◌≡◌}
+-- The loops over x and y have done the first part of their folds; what is left of the inner one gives the whole width, or is given up.
+use Rattle.std.proofs.Common.{◌≡◌, drop}
 use mathlib.Core.List.{foldl}
-use lib.ListN.{take}
-use Rattle.prelude.proofs.Loops.{Rest}
 use Rattle.geometry.specs.Rect.{empty_rect}
-use Rattle.search.specs.Search.{bottoms, rights, narrow_side_of, side_width_at, try_side_at, try_column}
-use Prim.Native.Nat.{◌+◌, ◌≤◌}
+use Rattle.search.specs.Search.{narrow_side_of, side_width_at, try_side_at, try_column}
 use Rattle.search.proofs.side.Given as goal
 
-abbrev pub invariant-loop-k : goal.invariant-loop-k
-invariant-loop-k l = Rest (foldl (narrow_side_of l.aspect l.x l.y) l.width) l.obstacles l.count (side_width_at l.w l.h (take l.count l.obstacles) l.aspect l.x l.y) l.k
+abbrev pub invariant-loop-r : goal.invariant-loop-r
+invariant-loop-r l = foldl (narrow_side_of l.aspect l.x l.y) l.width (drop l.r-index l.obstacles) ≡ side_width_at l.w l.h l.obstacles l.aspect l.x l.y
 
-abbrev pub invariant-loop-j : goal.invariant-loop-j
-invariant-loop-j l = (l.j ≤ l.count + 1) × (l.j-end ≡ l.count + 1) × (l.best ≡ foldl (try_side_at l.w l.h (take l.count l.obstacles) l.aspect l.x) l.initial.best (take l.j (bottoms l.obstacles)))
+abbrev pub invariant-loop-y : goal.invariant-loop-y
+invariant-loop-y l = l.best ≡ foldl (try_side_at l.w l.h l.obstacles l.aspect l.x) l.initial.best l.yielded
 
-abbrev pub invariant-loop-i : goal.invariant-loop-i
-invariant-loop-i l = (l.i ≤ l.count + 1) × (l.i-end ≡ l.count + 1) × (l.best ≡ foldl (try_column l.w l.h (take l.count l.obstacles) l.aspect) empty_rect (take l.i (rights l.obstacles)))
+abbrev pub invariant-loop-x : goal.invariant-loop-x
+invariant-loop-x l = l.best ≡ foldl (try_column l.w l.h l.obstacles l.aspect) empty_rect l.yielded

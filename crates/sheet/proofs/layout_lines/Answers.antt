@@ -1,106 +1,71 @@
--- `layout_lines` stores the lines in their order, those of the controls by the loop; of the two sticks' the count leaves out what is not in use.
-use mathlib.Core.Path.{◌≡◌, refl, ap, ◌∙◌}
-use mathlib.Core.List.{List, [], ◌∷◌, map, map-append}
-use Prim.Native.Nat.{ℕ, suc, ◌+◌, ◌<◌, ◌≤◌}
+-- `layout_lines`: the loop over the controls leaves their lines behind two, the loop over the sticks theirs behind the toolbar's.
+use mathlib.Core.Path.{◌≡◌, ap, sym, ◌∙◌}
+use mathlib.Core.List.{List, [], ◌∷◌, ◌++◌, map, map-append, append_assoc, zip_with}
+use Prim.Native.Nat.{ℕ, ◌<◌}
+use native.Mathlib.Numerals.{add-one}
 use native.Mathlib.Omega.{arith}
-use lib.Dec.{lit≤, lit<}
-use lib.ListN.{length, get_or, replicate, take}
-use Rattle.prelude.specs.Each.{Each, ◌&◌}
-use Rattle.prelude.proofs.EachLaws.{each_at, each_set}
-use Rattle.prelude.proofs.Stores.{take_store}
-use Rattle.layout.specs.declared.Layout.{Layout}
-use Rattle.layout.specs.Layout.{any_rect, any_control}
-use Rattle.layout.proofs.ArrayLaws.{array_lengths}
-use Rattle.layout.proofs.Names.{name_held}
+use denote.Ref.{Bor}
+use lib.ListN.{length, get_or, take, length-append, length-take, get_or-map}
+use lib.Seq.{take_all}
+use Rattle.std.proofs.lemmas.Slice.Zip.{zip_turn, zip_end}
+use Rattle.prelude.proofs.EachLaws.{each_at, each_take}
+use Rattle.layout.specs.Layout.{any_rect, control_list, stick_list}
 use Rattle.numerics.specs.Rects.{Element}
-use Rattle.lines.specs.declared.SheetLine.{SheetLine}
-use Rattle.lines.specs.Line.{line_in, Printable, PrintableLine}
-use Rattle.sheet.specs.Sheet.{lines_of, toolbar_lines}
-use Rattle.sheet.proofs.SheetLaws.{element_printable, game_printable, line_count_lem}
-use Rattle.sheet.proofs.Lines.{all_printable, stored_printable, lined_next, stick_lines_lem}
+use Rattle.lines.specs.Line.{line_of}
+use Rattle.sheet.specs.Sheet.{game_name, dpad_name, left_name, right_name, control_line, lines_of, toolbar_lines, stick_lines}
+use Rattle.sheet.proofs.SheetLaws.{element_printable, next_stick}
 use Rattle.sheet.proofs.layout_lines.Goals as goal
 
-stick_printable : (l : Layout) (i : ℕ) → length l.sticks ≡ 2 → Each Element l.sticks → i < 2 → Printable (get_or l.sticks i any_rect)
-stick_printable l i n e h = element_printable (each_at Element i l.sticks any_rect (omega arith) e)
+abbrev any_name : Bor (List ℕ)
+any_name = record { ref_ptr = (0, 0); now = [] }
 
-pub sheet_line-game-requires : goal.sheet_line-game-requires
-sheet_line-game-requires c = (lit≤ tt, game_printable c.requires.2)
+four : {A : Type 0} (xs : List A) (a b c d : A) → (((xs ++ (a ∷ [])) ++ (b ∷ [])) ++ (c ∷ [])) ++ (d ∷ []) ≡ xs ++ (a ∷ b ∷ c ∷ d ∷ [])
+four xs a b c d = simp append_assoc
 
-pub sheet_line-dpad-requires : goal.sheet_line-dpad-requires
-sheet_line-dpad-requires c = (lit≤ tt, element_printable c.requires.1.dpad)
+behind : {A : Type 0} (xs ys zs : List A) (a : A) → (xs ++ (ys ++ zs)) ++ (a ∷ []) ≡ xs ++ (ys ++ (zs ++ (a ∷ [])))
+behind xs ys zs a = simp append_assoc
 
-pub sheet_line-pause-requires : goal.sheet_line-pause-requires
-sheet_line-pause-requires c = (lit≤ tt, element_printable c.requires.1.pause)
-
-pub sheet_line-play-requires : goal.sheet_line-play-requires
-sheet_line-play-requires c = (lit≤ tt, element_printable c.requires.1.playback)
-
-pub sheet_line-speed-requires : goal.sheet_line-speed-requires
-sheet_line-speed-requires c = (lit≤ tt, element_printable c.requires.1.speed)
-
-pub sheet_line-mute-requires : goal.sheet_line-mute-requires
-sheet_line-mute-requires c = (lit≤ tt, element_printable c.requires.1.mute)
-
-pub sheet_line-left-requires : goal.sheet_line-left-requires
-sheet_line-left-requires c =
-    (lit≤ tt, stick_printable c.args.l 0 (array_lengths c.args.l c.well_formed.0).1 c.requires.1.sticks (lit< tt))
-
-pub sheet_line-right-requires : goal.sheet_line-right-requires
-sheet_line-right-requires c =
-    (lit≤ tt, stick_printable c.args.l 1 (array_lengths c.args.l c.well_formed.0).1 c.requires.1.sticks (lit< tt))
-
-pub loop-i-init : goal.loop-i-init
-loop-i-init c =
-    let game = c.sheet_line-game in
-    let dpad = c.sheet_line-dpad in
-    let games = all_printable game.result 20 game.ensures.1 in
+pub loop-name-init : goal.loop-name-init
+unfolding toolbar_lines stick_lines zip_with
+loop-name-init c =
+    let l = c.args.l in
+    let controls = c.loop-c.invariant in
+    let whole : take c.loop-c.c-index (control_list c.args.l) ≡ control_list c.args.l = take_all c.loop-c.c-index (control_list c.args.l) (omega (arith, ap length controls.all)) in
+    let before = rw controls.all at controls.lines in
     record {
-      most = omega arith;
-      twelve = c.requires.0.0;
-      size = refl;
-      printable = each_set PrintableLine 1 (replicate 20 game.result) dpad.result games dpad.ensures.1;
-      lines = rw (game.ensures.0, dpad.ensures.0);
+      count = omega (arith, ap length controls.all);
+      lines = rw (c.push-6.ensures.items, c.push-5.ensures.items, c.push-4.ensures.items, c.push-3.ensures.items)
+          (simp map-append (rw (before, whole, c.sheet_line-3.ensures.line, c.sheet_line-4.ensures.line, c.sheet_line-5.ensures.line, c.sheet_line-6.ensures.line) (four (line_of game_name l.game ∷ line_of dpad_name l.dpad ∷ map control_line (control_list l)) _ _ _ _)));
     }
 
-pub sheet_line-requires : goal.sheet_line-requires
-sheet_line-requires c =
-    let l = c.args.l in
-    let arrays = array_lengths l c.well_formed.0 in
-    let i = c.loop-i.i in
-    let here : i < length l.controls = omega (arith, c.loop-i.invariant.twelve) in
-    ((name_held _ c.name.ensures).1, element_printable (each_at (λ c. Element c.bounds) i l.controls any_control here c.requires.1.controls))
+pub sheet_line-requires-in-loop-name : goal.sheet_line-requires-in-loop-name
+sheet_line-requires-in-loop-name c =
+    let l = c.loop-name in
+    let second : c.zip-name-items.result.b.rest.now ≡ c.stick_list.result.now = c.zip-name-items.ensures.second.0 in
+    let turn = zip_turn c.iter.result.rest.now (stick_list c.args.l) l.yielded c.into_iter-name-iterator.result l.name-iterator c.next.new.self c.next.result (cc) (rw c.into_iter-name-iterator.ensures.into_iter_gives (second ∙ c.stick_list.ensures)) l.yielded_by (c.in-Some.name, c.in-Some.r) c.in-Some.is c.next.ensures.steps in
+    rw (turn.3 any_rect) (element_printable (each_at Element (length l.yielded) (stick_list c.args.l) any_rect turn.1 (each_take Element c.args.l.stickcount c.args.l.sticks c.requires.1.sticks)))
 
-pub loop-i-preserved : goal.loop-i-preserved
-loop-i-preserved c =
-    let line = rw (name_held _ c.name.ensures).0 at c.sheet_line.ensures in
-    lined_next c.loop-i.invariant c.loop-i-test.true (array_lengths c.args.l c.well_formed.0).0 line
-
-pub line_count-requires : goal.line_count-requires
-line_count-requires c = c.requires.0
+pub loop-name-preserved : goal.loop-name-preserved
+loop-name-preserved c =
+    let s = c.args.l in
+    let l = c.loop-name in
+    let second : c.zip-name-items.result.b.rest.now ≡ c.stick_list.result.now = c.zip-name-items.ensures.second.0 in
+    let turn = zip_turn c.iter.result.rest.now (stick_list c.args.l) l.yielded c.into_iter-name-iterator.result l.name-iterator c.next.new.self c.next.result (cc) (rw c.into_iter-name-iterator.ensures.into_iter_gives (second ∙ c.stick_list.ensures)) l.yielded_by (c.in-Some.name, c.in-Some.r) c.in-Some.is c.next.ensures.steps in
+    let few : length l.yielded < 2 = omega (arith, turn.0, ap length c.iter.ensures.rest) in
+    let names : map (λ (b : Bor (List ℕ)). b.now) c.iter.result.rest.now ≡ left_name ∷ right_name ∷ [] = ap (map (λ (b : Bor (List ℕ)). b.now)) c.iter.ensures.rest in
+    let name : c.in-Some.name.now.now ≡ get_or (left_name ∷ right_name ∷ []) (length l.yielded) [] =
+    ap (λ (b : Bor (List ℕ)). b.now) (turn.2 any_name) ∙ sym (get_or-map (λ (b : Bor (List ℕ)). b.now) c.iter.result.rest.now (length l.yielded) any_name) ∙ ap (λ (ns : List (List ℕ)). get_or ns (length l.yielded) []) names in
+    record {
+      count = simp length-append (omega arith);
+      lines = rw (c.push-in-loop-name.ensures.items, map-append, l.invariant.lines, c.sheet_line-in-loop-name.ensures.line, length-append, add-one, next_stick _ _ turn.1 few name (turn.3 any_rect))
+          (behind (line_of game_name s.game ∷ line_of dpad_name s.dpad ∷ map control_line (control_list s)) (toolbar_lines s) (stick_lines (take (length l.yielded) (stick_list s))) _);
+    }
 
 pub returns : goal.returns
-unfolding lines_of toolbar_lines
+unfolding lines_of
 returns c =
-    let at = c.loop-i.at in
-    let t = c.loop-i.invariant in
-    let l = c.args.l in
-    let arrays = array_lengths l c.well_formed.0 in
-    let pause = c.sheet_line-pause in
-    let play = c.sheet_line-play in
-    let speed = c.sheet_line-speed in
-    let mute = c.sheet_line-mute in
-    let left = c.sheet_line-left in
-    let right = c.sheet_line-right in
-    let vs = pause.result ∷ play.result ∷ speed.result ∷ mute.result ∷ left.result ∷ right.result ∷ [] in
-    let all : c.loop-i.i ≡ l.count = omega (arith, t.most, c.loop-i-test.false) in
-    let sticks = stick_lines_lem l.sticks l.stickcount left.result right.result arrays.1 c.requires.0.1 left.ensures.0 right.ensures.0 in
-    let behind = suc (suc (suc (suc l.stickcount))) in
-    let count : c.line_count.result ≡ l.count + 2 + behind = omega (arith, c.line_count.ensures, line_count_lem l c.requires.0 arrays) in
-    let inside : l.count + 2 + 6 ≤ length at = omega (arith, t.twelve, t.size) in
-    let used = take_store at (take (l.count + 2) at) vs l.count 2 behind c.line_count.result refl inside (omega (arith, c.requires.0)) count in (
-      ap (λ (ls : List SheetLine). map line_in ls) used
-          ∙ rw (map-append, rw all at t.lines, pause.ensures.0, play.ensures.0, speed.ensures.0, mute.ensures.0, sticks),
-      c.line_count.ensures,
-      stored_printable at vs l.count 2 t.printable
-          (pause.ensures.1 & play.ensures.1 & speed.ensures.1 & mute.ensures.1 & left.ensures.1 & right.ensures.1 & tt),
-    )
+    let l = c.loop-name in
+    let second : c.zip-name-items.result.b.rest.now ≡ c.stick_list.result.now = c.zip-name-items.ensures.second.0 in
+    let end = zip_end c.iter.result.rest.now (stick_list c.args.l) l.yielded c.into_iter-name-iterator.result l.name-iterator c.next.new.self c.next.result (cc) (rw c.into_iter-name-iterator.ensures.into_iter_gives (second ∙ c.stick_list.ensures)) l.yielded_by c.in-None.is c.next.ensures.steps in
+    let all = take_all (length l.yielded) (stick_list c.args.l) (omega (arith, end, ap length c.iter.ensures.rest, length-take c.args.l.stickcount c.args.l.sticks)) in
+    l.invariant.lines ∙ rw all

@@ -1,26 +1,33 @@
 -- `layout_sheet` puts the header and the lines of the layout, and the text that they make fits.
+use mathlib.Core.Path.{◌≡◌, ap, sym, ◌∙◌}
+use mathlib.Core.List.{List, map}
+use Prim.Native.Nat.{ℕ}
 use native.Mathlib.Omega.{arith}
+use lib.ListN.{length, length-map, length-replicate}
+use Rattle.layout.specs.declared.Layout.{Layout}
+use Rattle.lines.specs.declared.SheetLine.{SheetLine}
+use Rattle.lines.specs.Line.{line_in}
 use Rattle.lines.proofs.Puts.{put_after, put_ends, put_length}
-use Rattle.sheet.proofs.SheetLaws.{few_lines}
-use Rattle.sheet.proofs.Lines.{sheet_room, sheet_is}
+use Rattle.sheet.specs.Sheet.{lines_of, sheet_text, layout_sheet_of}
+use Rattle.sheet.proofs.SheetLaws.{head_fits, lines_fit, sheet_fits}
+use Rattle.sheet.proofs.Pages.{page_is}
 use Rattle.sheet.proofs.layout_sheet.Goals as goal
 
-pub overflow_cast-lines : goal.overflow_cast-lines
-overflow_cast-lines c = omega (arith, c.layout_lines-lines.ensures.1, few_lines c.args.l c.requires.0)
-
-pub put_head-first-requires : goal.put_head-first-requires
-put_head-first-requires c =
-    rw c.layout_lines-lines.ensures.1 (omega (arith, sheet_room c.args.l c.requires.0 c.requires.1 c.requires.2))
+-- as many lines as the layout has
+count : (l : Layout) (lines : List SheetLine) → map line_in lines ≡ lines_of l → length lines ≡ length (lines_of l)
+count l lines e = sym (length-map lines line_in) ∙ ap length e
 
 pub put_lines-len-requires : goal.put_lines-len-requires
 put_lines-len-requires c =
-    let made = c.layout_lines-lines.ensures in
-    let h = rw made.1 at c.put_head-first.ensures in
-    let room = sheet_room c.args.l c.requires.0 c.requires.1 c.requires.2 in
-    (rw made.1 (few_lines c.args.l c.requires.0), made.2, rw made.0 (omega (arith, put_ends _ _ _ h, put_length _ _ _ h, room)))
+    let r = c.requires in
+    let first = c.put_head-first.ensures in
+    rw (c.deref.ensures.0, c.layout_lines-lines.ensures)
+    (omega (arith, put_ends _ _ _ first, put_length _ _ _ first, length-replicate {A = ℕ} 1024 0, head_fits, lines_fit c.args.l r.0 r.1 r.2))
 
 pub returns : goal.returns
+unfolding layout_sheet_of sheet_text
 returns c =
-    let made = c.layout_lines-lines.ensures in
-    sheet_is c.args.l c.requires.0 c.requires.1 c.requires.2
-    (put_after _ _ _ _ (rw made.1 at c.put_head-first.ensures) (rw made.0 at c.put_lines-len.ensures))
+    let r = c.requires in
+    let head = rw (c.len.ensures.value, count _ _ c.layout_lines-lines.ensures) at c.put_head-first.ensures in
+    let rest = rw (c.deref.ensures.0, c.layout_lines-lines.ensures) at c.put_lines-len.ensures in
+    page_is (sheet_text (lines_of c.args.l)) (put_after _ _ _ _ head rest) (omega (arith, sheet_fits c.args.l r.0 r.1 r.2))

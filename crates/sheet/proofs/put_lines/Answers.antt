@@ -1,33 +1,31 @@
--- `put_lines` puts one line after the other: at each turn the text of those left is still to be put.
-use mathlib.Core.Path.{◌≡◌, refl, ◌∙◌}
-use mathlib.Core.List.{flat_map}
+-- `put_lines` puts one line after the other: there is room for the next since there is for those left.
+use mathlib.Core.Path.{sym, ◌∙◌}
+use mathlib.Core.List.{[]}
+use native.Mathlib.Numerals.{add-one}
 use native.Mathlib.Omega.{arith}
-use lib.ListN.{length, length-append}
-use Rattle.prelude.proofs.EachLaws.{each_at}
-use Rattle.prelude.proofs.Loops.{sized, stops, goes_on, runs_out}
-use Rattle.prelude.proofs.Stores.{length_stored}
-use Rattle.lines.specs.Line.{PrintableLine, put_of}
-use Rattle.lines.proofs.Puts.{none, onward, put_ends, put_length}
-use Rattle.sheet.proofs.Lines.{any_line}
+use lib.IntN.{pos}
+use lib.ListN.{length-append, drop_of_length-le}
+use lib.Seq.{drop-cons}
+use Rattle.lines.specs.declared.SheetLine.{SheetLine}
+use Rattle.lines.specs.Line.{put_of}
+use Rattle.lines.proofs.Puts.{none, onward, put_ends}
 use Rattle.sheet.proofs.put_lines.Goals as goal
 
-pub put_line-next-requires : goal.put_line-next-requires
-unfolding put_of flat_map
-put_line-next-requires c =
-    let looped = c.loop-i in
-    let k : length c.args.lines.at ≡ 20 = search sized in
-    let e = stops any_line looped.invariant c.loop-i-test.true refl in (
-      each_at PrintableLine looped.i c.args.lines.at any_line (omega arith) c.requires.1,
-      omega (arith, rw length-append at (put_ends _ _ _ e), rw length_stored at (put_length _ _ _ e)),
-    )
+-- what a list of lines gives past its end
+abbrev any_line : SheetLine
+any_line = record { name = record { ref_ptr = (0, 0); now = [] }; x = pos 0; y = pos 0; w = pos 0; h = pos 0 }
 
-pub loop-i-preserved : goal.loop-i-preserved
-unfolding flat_map
-loop-i-preserved c = goes_on any_line c.loop-i.invariant c.loop-i-test.true (onward _ _ _ _ c.put_line-next.ensures)
+pub put_line-next-requires : goal.put_line-next-requires
+unfolding put_of
+put_line-next-requires c =
+    let e = rw (drop-cons _ c.loop-line.line-index any_line c.loop-line-test.true) at c.loop-line.invariant in
+    omega (arith, c.loop-line.auto.out, simp length-append at (put_ends _ _ _ e))
+
+pub loop-line-preserved : goal.loop-line-preserved
+loop-line-preserved c =
+    let e = rw (drop-cons _ c.loop-line.line-index any_line c.loop-line-test.true) at c.loop-line.invariant in
+    rw add-one (sym (onward _ _ _ _ c.put_line-next.ensures) ∙ e)
 
 pub returns : goal.returns
-unfolding flat_map
-returns c = none _ _ ∙ runs_out c.loop-i.invariant c.loop-i-test.false
-
-pub shape_of-out : goal.shape_of-out
-shape_of-out c = put_length _ _ _ (returns c)
+returns c =
+    none _ _ ∙ (rw (drop_of_length-le c.args.lines.now {i = c.loop-line.line-index} c.loop-line-test.false) at c.loop-line.invariant)

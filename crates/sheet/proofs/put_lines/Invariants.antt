@@ -1,8 +1,9 @@
+-- The text of the lines that are left is still to be put.
+use Rattle.std.proofs.Common.{◌≡◌, drop}
 use mathlib.Core.List.{map}
-use Rattle.prelude.proofs.Loops.{Rest}
 use Rattle.lines.specs.Line.{line_in, put_of}
-use Rattle.sheet.specs.Sheet.{lines_in, lines_text}
+use Rattle.sheet.specs.Sheet.{lines_text}
 use Rattle.sheet.proofs.put_lines.Given as goal
 
-abbrev pub invariant-loop-i : goal.invariant-loop-i
-invariant-loop-i l = Rest (λ ls. put_of l.out l.next (lines_text (map line_in ls))) l.lines.at l.lines.count (put_of l.initial.out l.at (lines_text (lines_in l.lines))) l.i
+abbrev pub invariant-loop-line : goal.invariant-loop-line
+invariant-loop-line l = put_of l.out l.next (lines_text (map line_in (drop l.line-index l.lines))) ≡ put_of l.initial.out l.at (lines_text (map line_in l.lines))

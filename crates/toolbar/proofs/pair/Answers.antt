@@ -1,76 +1,35 @@
--- The pass: what is left of it gives the whole answer. Its two searches: what they have not yet looked at does.
-use native.Mathlib.Omega.{arith}
-use mathlib.Core.Path.{◌≡◌, refl, sym, ap, ◌∙◌}
+-- `pair` is the pass: a turn goes on from the first obstacle that the bar overlaps.
+use mathlib.Core.Path.{◌≡◌, sym, ◌∙◌}
+use Prim.Native.Nat.{suc, ◌+◌, ◌-◌}
 use native.Mathlib.Nat.{sub-zero}
-use lib.Seq.{length-take-le}
-use Rattle.toolbar.proofs.Scan.{scan_open, scan_met, scan_next, scan_end, scan_first}
-use lib.ListN.{take, length}
+use lib.ListN.{length}
+use Rattle.std.proofs.Common.{arith, rules, tests}
+use Rattle.std.proofs.lemmas.Iterator.{YieldsList-from_slice}
+use Rattle.std.proofs.lemmas.Iterator.Search.{find_from_yields_List}
 use Rattle.geometry.specs.Rect.{overlaps_of}
-use Rattle.toolbar.specs.Toolbar.{moved_bar, pass, pair_of}
-use Prim.Native.Nat.{suc, ◌+◌, ◌-◌, zero-le}
+use Rattle.toolbar.specs.Toolbar.{pass, pair_of}
+use Rattle.toolbar.proofs.Pass.{goes_on, is_free}
 use Rattle.toolbar.proofs.pair.Goals as goal
-use Rattle.toolbar.proofs.pair.Goals.{then-blocked, else-blocked}
 
 pub loop-init : goal.loop-init
 unfolding pair_of
-loop-init c =
-    let k : length c.args.obstacles ≡ 31 = c.well_formed.1.1.1.1.1.1.1.0.1.0.1 in
-    let e : length (take c.args.n c.args.obstacles) ≡ c.args.n = length-take-le _ _ (omega arith) in
-    (zero-le, refl, omega arith, rw (c.new-bar.ensures, e, sub-zero))
-
-pub loop-met-init : goal.loop-met-init
-unfolding pass
-loop-met-init c =
-    let l = c.loop in
-    let e : c.args.n + 1 - l.counter ≡ suc (c.args.n - l.counter) = omega arith in
-    record { rest = record { most = zero-le; size = l.invariant.2; left = sym (rw e at l.invariant.3) } }
-
-pub bounds-obstacles-i : goal.bounds-obstacles-i
-bounds-obstacles-i c = omega (arith, scan_open c.loop-met.invariant c.loop-met-test.true)
-
-pub loop-met-smaller : goal.loop-met-smaller
-loop-met-smaller c = omega (arith, scan_open c.loop-met.invariant c.loop-met-test.true)
-
-pub loop-met-preserved : goal.loop-met-preserved
-loop-met-preserved c = scan_next _ c.loop-met.invariant c.loop-met-test.true c.overlaps-met.ensures
-
-pub loop-blocked-init : goal.loop-blocked-init
-unfolding moved_bar
-loop-blocked-init c =
-    let size = c.loop-met.invariant.rest.size in
-    let candidate = c.candidate-candidate in
-    record { rest = record { most = zero-le; size = size; left = rw (← candidate.ensures, ← c.room-blocked.ensures) (scan_first (overlaps_of candidate.result) _ _ _ c.room-blocked.result) } }
-
-pub bounds-obstacles-j : goal.bounds-obstacles-j
-bounds-obstacles-j c = omega (arith, scan_open c.loop-blocked.invariant c.loop-blocked-test.true)
-
-pub loop-blocked-smaller : goal.loop-blocked-smaller
-loop-blocked-smaller c = omega (arith, scan_open c.loop-blocked.invariant c.loop-blocked-test.true)
-
-pub loop-blocked-preserved : goal.loop-blocked-preserved
-loop-blocked-preserved c = scan_next _ c.loop-blocked.invariant c.loop-blocked-test.true c.overlaps-blocked.ensures
+loop-init c = rw sub-zero
 
 pub loop-preserved : goal.loop-preserved
 loop-preserved c =
-    let l = c.loop in
-    let e : c.args.n + 1 - (l.counter + 1) ≡ c.args.n - l.counter = omega arith in (
-      omega arith,
-      refl,
-      l.invariant.2,
-      rw e (scan_met c.loop-met.invariant c.if-not-met.false
-          ∙ ap (pass _ _ _ _ _)
-          (elim c.if-blocked.branch [
-            | then-blocked w ↦ scan_met c.loop-blocked.invariant w.if-blocked.true ∙ sym w.below-bar.ensures ∙ sym w.bar-is
-            | else-blocked w ↦ scan_end c.loop-blocked.invariant c.loop-blocked-test.false w.if-blocked.false ∙ sym w.bar-is
-          ])),
-    )
+    let found = find_from_yields_List (overlaps_of c.loop.bar) _ _ c.find.result c.find.ensures.ran (YieldsList-from_slice c.args.obstacles.now c.iter.ensures.rest) (λ x b q k. search (rules, tests)) in
+    let n : length c.args.obstacles.now + 1 - c.loop.counter ≡ suc (length c.args.obstacles.now + 1 - (c.loop.counter + 1)) = omega arith in
+    rw c.moved-bar.ensures (sym (goes_on _ _ _ _ _ _ _ (rw c.in-Some.is at found)) ∙ (rw n at c.loop.invariant))
 
-pub returns-after-loop : goal.returns-after-loop
+-- the last turn
+pub returns-in-Some : goal.returns-in-Some
 unfolding pass
-returns-after-loop c =
-    let l = c.loop in
-    let e : c.args.n + 1 - l.counter ≡ 0 = omega arith in
-    sym (rw e at l.invariant.3)
+returns-in-Some c =
+    let found = find_from_yields_List (overlaps_of c.loop.bar) _ _ c.find.result c.find.ensures.ran (YieldsList-from_slice c.args.obstacles.now c.iter.ensures.rest) (λ x b q k. search (rules, tests)) in
+    let n : length c.args.obstacles.now + 1 - c.loop.counter ≡ 1 = omega arith in
+    rw c.moved-bar.ensures (sym (goes_on _ _ _ _ _ 0 _ (rw c.in-Some.is at found)) ∙ (rw n at c.loop.invariant))
 
-pub returns-then-not-met : goal.returns-then-not-met
-returns-then-not-met c = sym (scan_end c.loop-met.invariant c.loop-met-test.false c.if-not-met.true)
+pub returns-in_default : goal.returns-in_default
+returns-in_default c =
+    let found = find_from_yields_List (overlaps_of c.loop.bar) _ _ c.find.result c.find.ensures.ran (YieldsList-from_slice c.args.obstacles.now c.iter.ensures.rest) (λ x b q k. search (rules, tests)) in
+    sym (is_free _ _ _ _ _ _ (rw c.in_default.is at found)) ∙ c.loop.invariant

@@ -40,24 +40,24 @@ module _ (x y : Float) (previous : ℕ) (best : Face) (c : Control) (free : Bool
   unfolding nearer_of
   turn p q m d e = rw (← and_assoc, ← p, q) (rw (d, m) at e)
 
-pub returns-then-inside : goal.returns-then-inside
-returns-then-inside c =
+pub returns-then-contains : goal.returns-then-contains
+returns-then-contains c =
     let s = c.args in
     let t = c.face_reached.ensures in
-    let k = c.contains-inside.ensures in
+    let k = c.contains.ensures in
     let m = c.mask-mask.ensures in
     let b = bare s.x s.y s.c s.outside t k in (
       turn s.x s.y s.previous s.best.free s.c s.outside t c.if-face_reached.true m c.distance-closest.ensures c.closer-free.ensures,
-      turn s.x s.y s.previous s.best.taken s.c false b (rw (c.if-face_reached.true, c.if-inside.true)) m c.distance-closest.ensures c.closer.ensures,
+      turn s.x s.y s.previous s.best.taken s.c false b (rw (c.if-face_reached.true, c.if-contains.true)) m c.distance-closest.ensures c.closer.ensures,
     )
 
 pub returns-then-face_reached : goal.returns-then-face_reached
 returns-then-face_reached c =
     let s = c.args in
     let t = c.face_reached.ensures in
-    let k = c.contains-inside.ensures in (
+    let k = c.contains.ensures in (
       turn s.x s.y s.previous s.best.free s.c s.outside t c.if-face_reached.true c.mask-mask.ensures c.distance-closest.ensures c.closer-free.ensures,
-      far s.x s.y s.previous s.best.taken s.c false (bare s.x s.y s.c s.outside t k) (rw (c.if-face_reached.true, c.if-inside.false)),
+      far s.x s.y s.previous s.best.taken s.c false (bare s.x s.y s.c s.outside t k) (rw (c.if-face_reached.true, c.if-contains.false)),
     )
 
 pub returns : goal.returns

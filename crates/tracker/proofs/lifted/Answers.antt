@@ -1,22 +1,12 @@
--- `lifted`: each way out is an outcome of the call.
-use borrow.Author.Tests.{le-leb, lt-leb, eq-eqb, ne_eqb}
+-- `lifted`: what the calls return is what the call answers and leaves.
+use Rattle.std.proofs.Common.{rules, ◌∙◌}
+use Rattle.prelude.proofs.Loops.{sized}
 use Rattle.tracker.specs.Tracker.{Lift}
-use Rattle.tracker.proofs.CallLaws.{above_nine, not_allowed, allowed}
+use Rattle.tracker.proofs.CallLaws.{answers, leaves}
 use Rattle.tracker.proofs.lifted.Goals as goal
 
-pub returns-then-finger-gt9 : goal.returns-then-finger-gt9
-returns-then-finger-gt9 c =
-    let s = c.args in
-    rw (above_nine s.t (Lift s.finger s.l) (lt-leb _ _ c.if-finger-gt9.true)) c.kept.ensures
+pub returns-clause-answer : goal.returns-clause-answer
+returns-clause-answer c = c.changed.ensures.answer ∙ answers c.args.t (Lift c.args.finger c.args.l) (search sized) c.called.result c.map.result c.called.ensures (search rules)
 
-pub returns-then-f-eq0 : goal.returns-then-f-eq0
-returns-then-f-eq0 c =
-    let s = c.args in
-    let free = not_allowed s.t (Lift s.finger s.l) (le-leb _ _ c.if-finger-gt9.false) (rw (eq-eqb _ _ c.if-f-eq0.true)) in
-    rw free c.kept-then-f-eq0.ensures
-
-pub returns : goal.returns
-returns c =
-    let s = c.args in
-    let held = allowed s.t (Lift s.finger s.l) (le-leb _ _ c.if-finger-gt9.false) (rw (ne_eqb _ _ c.if-f-eq0.false)) in
-    rw held c.changed.ensures
+pub returns-clause-tracker : goal.returns-clause-tracker
+returns-clause-tracker c = c.changed.ensures.tracker ∙ leaves c.args.t (Lift c.args.finger c.args.l) (search sized) c.called.result c.map.result c.called.ensures (search rules)

@@ -1,8 +1,12 @@
-use mathlib.Core.Path.{◌≡◌}
-use Prim.Native.Nat.{◌+◌, ◌≤◌}
-use mathlib.Core.List.{◌∷◌, map}
-use lib.ListN.{length, take}
+-- `elements`: the d-pad and the controls passed; then those, the keys and the sticks passed.
+use Rattle.std.specs.Prelude.{◌≡◌, ◌∷◌, ◌++◌, map, take}
+use Rattle.layout.specs.Layout.{control_list, bounds_of, stick_list}
 use Rattle.layout.proofs.Layout.elements.Given as goal
 
-abbrev pub invariant-loop-i : goal.invariant-loop-i
-invariant-loop-i l = (l.i ≤ l.n) × (length l.at ≡ 19) × (take (l.i + 1) l.at ≡ l.self.dpad ∷ map (λ c. c.bounds) (take l.i l.controls))
+abbrev pub invariant-loop-c : goal.invariant-loop-c
+invariant-loop-c l = l.out.items ≡ l.fn.self.dpad ∷ map (λ c. c.bounds) (take l.c-index (control_list l.fn.self))
+
+abbrev pub invariant-loop-r : goal.invariant-loop-r
+invariant-loop-r l =
+    let s = l.fn.self in
+    l.out.items ≡ s.dpad ∷ (bounds_of s ++ (s.pause ∷ s.playback ∷ s.speed ∷ s.mute ∷ take l.r-index (stick_list s)))

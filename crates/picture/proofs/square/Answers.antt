@@ -1,5 +1,0 @@
--- The square of `square_of`, in one call.
-use Rattle.picture.proofs.square.Goals as goal
-
-pub returns : goal.returns
-returns c = rw (← c.new.ensures)
