@@ -166,8 +166,7 @@ fn fingers(r: &mut Random, order: &[u8], bytes: &[u8]) {
         mask: if r.chance(50) { 1 << r.below(16) } else { r.next() as u16 },
     };
     let mut t = tracker::Tracker { fingers: [(); 10].map(finger) };
-    let reading = reader::read_order(order);
-    let layout = (reading.refusal == 0).then(|| preset::settings_layout(reading.settings));
+    let layout = reader::read_order(order).ok().map(preset::settings_layout);
     for _ in 0..6 {
         let (x, y) = touch(r, bytes);
         let finger = if r.chance(95) { r.one(&[0, 1, 2, 9]) } else { r.next() as u8 };
@@ -202,6 +201,7 @@ fn hosts(r: &mut Random) {
     let covered = if r.chance(90) { r.below(200) as f32 - 60.0 } else { r.one(&ODD) };
     thumb_layout_c::tl_viewport_layout(&o, top, covered, &mut out);
     thumb_layout_c::tl_film(&o, &mut [7; 1024]);
+    film_sheet::film_sheet(&o).as_slice();
     let mut numbers = [(); 8].map(|_| whole(r));
     if r.chance(50) {
         numbers.copy_within(..2, 2);
@@ -214,9 +214,7 @@ fn hosts(r: &mut Random) {
 
 /// Functions that hosts do not reach, or seldom with what matters.
 fn inner(r: &mut Random) {
-    let reading = reader::read_order(&order(r));
-    if reading.refusal == 0 {
-        let s = reading.settings;
+    if let Ok(s) = reader::read_order(&order(r)) {
         let l = preset::settings_layout(s);
         let n = l.element_count();
         let i = r.below(n as u64) as usize;
@@ -224,9 +222,18 @@ fn inner(r: &mut Random) {
         l.set_element(i, l.game);
         l.game.fit(side(r) / 400.0);
         rect.same_bounds(l.element(r.below(n as u64) as usize));
-        preset::layout_with_cutouts(s.preset, s.w, s.h, s.cutouts);
+        preset::layout_with_cutouts(s.preset, s.w, s.h, s.cutouts.as_slice());
         saved::capture(s.preset, l, s.w, s.h);
     }
+    let (holes, others, original): (Vec<geometry::Rect>, Vec<_>, Vec<_>) = (made(r), made(r), made(r));
+    order_writer::rects_in_limits(&holes[..]);
+    fields::Field::new(made(r), fields::One(made::<u8>(r)));
+    let mut candidates = moves::Candidates::new();
+    for _ in 0..r.below(9) {
+        candidates.insert(made(r), made(r));
+    }
+    candidates.slot(made(r));
+    candidates.first_clear(moves::Surroundings { w: side(r), h: side(r), holes: &holes, others: &others }, &original);
     let bits = |r: &mut Random| match r.below(4) {
         0 => f32::from_bits(r.next() as u32),
         1 => f32::from_bits(r.below(1 << 24) as u32),
@@ -239,6 +246,7 @@ fn inner(r: &mut Random) {
     let (u, v) = (2900 + r.below(2900), 1 + r.below(2900));
     let scale = r.one(&[1.0, 0.25, 1e-30, 1e-42, 1e30]);
     hypot::hypot((u * u - v * v) as f32 * scale, (2 * u * v) as f32 * scale);
+    hypot::hypot(f32::MAX, r.one(&[1.0, 1e38, f32::MAX])); // at times above every f32
     float::min(a, b);
     float::max(a, b);
     if b <= c {
@@ -277,11 +285,38 @@ made!(u8, r, r.one(&[0, 1, 2, 3, 4, 7, 8, 15, 16, 17, 128, 255]));
 made!(u16, r, if r.chance(50) { r.below(8) as u16 } else { r.next() as u16 });
 made!(u32, r, if r.chance(50) { r.below(8) as u32 } else { r.next() as u32 });
 made!(u64, r, if r.chance(50) { r.below(8) } else { r.next() });
+made!(u128, r, if r.chance(50) { r.below(100) as u128 } else { (r.next() as u128) << r.below(60) });
 made!(usize, r, if r.chance(70) { r.below(20) as usize } else { r.next() as usize });
+
+made!(&'static str, r, r.one(&["", "O", "TRI", "SELECT"]));
 
 impl<T: Made, const N: usize> Made for [T; N] {
     fn made(r: &mut Random) -> Self {
         std::array::from_fn(|_| made(r))
+    }
+}
+
+impl<T: Made> Made for Vec<T> {
+    fn made(r: &mut Random) -> Self {
+        (0..r.one(&[0, 1, 1, 2, 2, 3, 4, 5, 8, 16])).map(|_| made(r)).collect()
+    }
+}
+
+impl<T: Made> Made for Option<T> {
+    fn made(r: &mut Random) -> Self {
+        r.chance(80).then(|| made(r))
+    }
+}
+
+impl<T: Made, E: Made> Made for Result<T, E> {
+    fn made(r: &mut Random) -> Self {
+        if r.chance(80) { Ok(made(r)) } else { Err(made(r)) }
+    }
+}
+
+impl<T: Made, U: Made> Made for (T, U) {
+    fn made(r: &mut Random) -> Self {
+        (made(r), made(r))
     }
 }
 
@@ -290,13 +325,17 @@ fn main() {
         let mut order = Vec::new();
         std::io::stdin().read_to_end(&mut order).unwrap();
         let sheet = film_sheet::film_sheet(&order);
-        print!("{}", String::from_utf8_lossy(&sheet.bytes[..sheet.len]));
+        print!("{}", String::from_utf8_lossy(sheet.as_slice()));
         return;
     }
     std::panic::set_hook(Box::new(|_| ()));
     let mut r = Random(0x9e37_79b9_7f4a_7c15);
     let calls: u32 = std::env::args().nth(2).and_then(|n| n.parse().ok()).unwrap_or(3000);
+    let began = std::time::Instant::now();
     for _ in 0..calls {
+        if began.elapsed().as_secs() >= 40 {
+            break; // many calls are compared; a run that takes longer stands still in an edited function
+        }
         hosts(&mut r);
         inner(&mut r);
         direct(&mut r);

@@ -26,7 +26,12 @@ class Unit:
     end: int
     tokens: list = field(default_factory=list)
     head: int = 0  # where `fn` stands
-    method: bool = False
+    owner: str = ""  # the type of an `impl`, or the trait, that it stands in
+    header: str = ""  # the words of that, up to its brace
+
+    @property
+    def of_trait(self):
+        return re.search(r"^trait\b| for ", self.header) is not None
 
 
 @dataclass(frozen=True)
@@ -41,6 +46,19 @@ class Token:
 
 
 OPEN, CLOSE = "([{", ")]}"
+# A function's name, its type parameters and its parameters.
+SIGNATURE = re.compile(r"\bfn (\w+)(?:<((?:->|<[^<>]*>|[^<>])*)>)?\(((?:\([^()]*\)|[^()])*)\)")
+
+
+def parameters(signature):
+    """Names and types."""
+    found = []
+    for part in re.split(r",(?![^(\[<]*[)\]>])", SIGNATURE.match(signature)[3]):
+        name, _, kind = part.strip().partition(": ")
+        lent, name = re.match(r"(&(?:mut )?|)(?:mut )?(\w*)$", name).groups()
+        if name:
+            found.append((name, kind or f"{lent}Self"))
+    return found
 
 
 def matching(tokens, i):
@@ -78,25 +96,25 @@ class Names:
     """What the crates declare: the types by which an edit keeps to the types."""
     fields: dict  # field: the fields that have its type beside it in every struct that has it
     records: dict  # struct: {field: type}
-    arguments: dict  # function or variant: the types of its arguments; None if there are several
+    arguments: dict  # function or variant, also Owner::function and crate::function: the types of its arguments; None if there are several
     defined: dict  # definition: the same
     literals: list  # the names of the f32 literals in definitions
 
 
 def names_of(sources):
-    """From the texts of all files, by suffix."""
+    """From the texts of all files, by crate and suffix."""
     fields, records, arguments, defined, literals = {}, {}, {}, {}, []
 
     def declare(known, name, types):
         known[name] = types if known.get(name, types) == types else None
 
-    for suffix, text in sources:
+    for crate, suffix, text in sources:
         if suffix == ".antt":
             literals += re.findall(r"^abbrev pub (k[0-9_]+) :", text, re.M)
             for name, signature in re.findall(r"^(?:abbrev |unfoldable )*pub (\S+) : ([^\n]*)$", text, re.M):
                 declare(defined, name, [t.strip() for t in re.split(r"→(?![^(]*\))", signature)][:-1])
             continue
-        for name, body in re.findall(r"\bstruct (\w+) \{(.*?)\n\}", text, re.S):
+        for name, body in re.findall(r"\bstruct (\w+)(?:<[^>]*>)? \{(.*?)\n\}", text, re.S):
             records[name] = types = dict(re.findall(r"(?:pub )?(\w+): ([^,\n]+),", body))
             for field, kind in types.items():
                 others = {n for n, k in types.items() if k == kind and n != field}
@@ -104,15 +122,20 @@ def names_of(sources):
         for body in re.findall(r"\benum \w+ \{(.*?)\n\}", text, re.S):
             for name, types in re.findall(r"(\w+)\((.*?)\)", body):
                 declare(arguments, name, types.split(", "))
-        for name, params in re.findall(r"\bfn (\w+)\(((?:.|\n)*?)\)\s*(?:->|requires|ensures|\{)", text):
-            declare(arguments, name, re.findall(r"\w+: (&?(?:mut )?(?:\[[^\]]*\]|\w+))", params))
+        for u in Code(crate, "", text).units:
+            types = [kind for name, kind in parameters(text[u.head:]) if name != "self"]
+            name = SIGNATURE.match(text, u.head)[1]
+            declare(arguments, name, types)
+            declare(arguments, f"{u.owner or crate}::{name}", types)
     return Names({f: sorted(o) for f, o in fields.items()}, records, arguments, defined, literals)
 
 
 def one_more(text):
-    """A number, a byte or a truth value changed."""
+    """A number, a byte, a text's first letter or a truth value changed."""
     if text in ("true", "false"):
         return "false" if text == "true" else "true"
+    if letter := re.match(r'b?"(?=[A-Y])', text):
+        return f"{letter[0]}{chr(ord(text[letter.end()]) + 1)}{text[letter.end() + 1:]}"
     if text.startswith("b'"):
         return None if "\\" in text else f"b'{chr(ord(text[2]) + 1)}'"
     number = re.fullmatch(r"(0x)?([0-9a-fA-F_]+|[0-9_]+)(\.[0-9]+)?(u8|u16|u32|u64|usize|i32|f32|f64)?", text)
@@ -125,6 +148,17 @@ def one_more(text):
     if fraction and digits == "0" and fraction != ".0":
         return f"{round(float(fraction) * 2, 6)}{suffix or ''}"
     return f"{int(digits) + 1}{fraction or ''}{suffix or ''}"
+
+
+def owner_of(header):
+    """An `impl` or a trait, as the prover names it: `impl TryFrom<u8> for Tag` is TagTryFromU8; parameters have no name there."""
+    generics, rest = re.match(r"(?:impl|trait)\b(?:<((?:<[^<>]*>|[^<>])*)>)?\s*(.*)", header, re.S).groups()
+    trait, _, of = rest.partition(":")[0].rpartition(" for ")
+    unnamed = re.findall(r"(?:^|, )('?\w+)", generics or "")
+    signs = {"&": "Ref", "[": "Slice"}
+    words = re.findall(r"'?\w+|[&\[]|\([^()]*\)", f"{of} {trait}")
+    words = [w for t in words for w in ([f"tuple{t.count(',') + 1}", *re.findall(r"\w+", t)] if t[0] == "(" else [t])]
+    return "".join(signs.get(w) or w[0].upper() + w[1:] for w in words if w not in unnamed and w[0] != "'")
 
 
 class Source:
@@ -155,16 +189,18 @@ class Code(Source):
     """A file of src/."""
 
     SIGNS = re.compile(
-        r"""//[^\n]*|b'(?:\\.|[^'\\])'|b"(?:\\.|[^"\\])*"|'[a-z]\w*|[A-Za-z_]\w*|0x[0-9a-fA-F_]+(?:u\d+|usize|i32)?"""
-        r"""|\d[\d_]*(?:\.\d+)?(?:u\d+|usize|i32|f32|f64)?|\.\.=|\.\.|->|=>|==|!=|<=|>=|&&|\|\||<<|>>|::|[-+*/%]=|\S""")
-    OTHER = {"+": "-", "-": "+", "*": "/", "/": "*", "%": "/", "<<": ">>", ">>": "<<", "&": "|", "|": "&", "+=": "-=", "-=": "+="}
+        r"""//[^\n]*|b'(?:\\.|[^'\\])'|b?"(?:\\.|[^"\\])*"|'[a-z]\w*|[A-Za-z_]\w*|0x[0-9a-fA-F_]+(?:u\d+|usize|i32)?"""
+        r"""|\d[\d_]*(?:\.\d+)?(?:u\d+|usize|i32|f32|f64)?|\.\.=|\.\.|->|=>|==|!=|<=|>=|&&|\|\||<<|>>|::|[-+*/%|]=|\S""")
+    OTHER = {"+": "-", "-": "+", "*": "/", "/": "*", "%": "/", "<<": ">>", ">>": "<<", "&": "|", "|": "&", "+=": "-=", "-=": "+=", "|=": "&="}
     COMPARED = {"<": ("<=", ">"), "<=": ("<", ">="), ">": (">=", "<"), ">=": (">", "<="), "==": ("!=",), "!=": ("==",)}
-    WORDS = ("return", "in", "as", "if", "else", "mut")  # what follows is no second operand
+    WORDS = ("return", "in", "as", "if", "else", "mut", "match")  # what follows is no second operand
     LOWER = ("+", "-", "<", "<=", ">", ">=", "==", "!=", "&&", "||", ",", ";", "&", "|", "=>", "..")
 
     def __init__(self, crate, file, text, names=None):
         super().__init__(crate, file, text)
         self.names = names
+        imports = re.findall(r"^use (\w+)::\{?([^;{}]*)\}?;", text, re.M)
+        self.imported = {name: path for path, names in imports for name in re.findall(r"\w+", names)}
         self.units = list(self.functions())
 
     def tokenize(self, start, end):
@@ -172,32 +208,32 @@ class Code(Source):
         for m in self.SIGNS.finditer(self.text, start, end):
             t = m.group()
             if not t.startswith("//"):
-                kind = "number" if t[0].isdigit() or t[:2] == "b'" or t in ("true", "false") else "name" if re.match(r"[A-Za-z_]", t) else "sign"
+                kind = "number" if t[0].isdigit() or re.match(r"b'|b?\"", t) or t in ("true", "false") else "name" if re.match(r"[A-Za-z_]", t) else "sign"
                 out.append(Token(t, m.start(), kind))
         return out
 
     def functions(self):
         tokens = self.tokenize(0, len(self.text))
         module = re.sub(r"^src/|\.rt$", "", self.file).replace("lib", "").replace("main", "")
-        owner, owner_end = "", 0
+        header, owner, owner_end = "", "", 0
         for i, t in enumerate(tokens):
-            if t.text == "impl":
-                owner, owner_end = tokens[i + 1].text, tokens[matching(tokens, i + 2)].end
-            if t.text != "fn":
+            if t.text in ("impl", "trait"):
+                j = next(n for n in range(i, len(tokens)) if tokens[n].text == "{")
+                header, owner_end = self.text[t.start:tokens[j - 1].end], tokens[matching(tokens, j)].end
+                owner = owner_of(header)
+            signature = SIGNATURE.match(self.text, t.start) if t.text == "fn" else None
+            if not signature:
                 continue
-            j = matching(tokens, i + 2) + 1
-            while True:  # past the type of the result and the clauses of the contract
-                while tokens[j].text not in ("{", "requires", "ensures"):
-                    j += 1
-                if tokens[j].text == "{":
-                    break
-                while tokens[j].text != "{":
-                    j += 1
-                j = matching(tokens, j) + 1
+            j = next(n for n in range(i, len(tokens)) if tokens[n].end == signature.end()) + 1
+            j = until(tokens, j, ("{", ";", "requires", "ensures"))
+            while tokens[j].text in ("requires", "ensures"):  # past the clauses of the contract
+                j = matching(tokens, until(tokens, j, ("{",))) + 1
+            if tokens[j].text == ";":  # of a trait, and each `impl` has one
+                continue
             k = matching(tokens, j)
-            method = t.start < owner_end
-            path = [self.crate] + [p for p in (module, owner if method else "") if p] + [tokens[i + 1].text]
-            yield Unit("::".join(path), tokens[j].end, tokens[k].start, tokens[j + 1:k], t.start, method)
+            inside = (owner, header) if t.start < owner_end else ("", "")
+            path = [self.crate] + [p for p in (module, inside[0]) if p] + [tokens[i + 1].text]
+            yield Unit("::".join(path), tokens[j].end, tokens[k].start, tokens[j + 1:k], t.start, *inside)
 
     def edits(self):
         for u in self.units:
@@ -206,27 +242,43 @@ class Code(Source):
 
     def signs(self, u, ts):
         """An operator, a comparison or a junction exchanged for another; a test not negated; a term left out."""
+        closures = self.closures(ts)
         for i, t in enumerate(ts):
-            binary = i > 0 and (ts[i - 1].kind != "sign" or ts[i - 1].text in ")]") and ts[i - 1].text not in self.WORDS
+            binary = i > 0 and (ts[i - 1].kind != "sign" or ts[i - 1].text in ")]?") and ts[i - 1].text not in self.WORDS
+            binary = binary and i not in closures and self.text[t.start - 1].isspace()
             if t.text in self.OTHER and binary:
                 yield self.replaced(u, "operator", t, self.OTHER[t.text])
-            for new in self.COMPARED.get(t.text, ()):
+            for new in self.COMPARED.get(t.text, ()) if binary else ():
                 yield self.replaced(u, "comparison", t, new)
-            if t.text in ("&&", "||"):
+            if t.text in ("&&", "||") and binary:
                 yield self.replaced(u, "junction", t, "||" if t.text == "&&" else "&&")
-            if t.text == "!":
+            if t.text in ("any", "all") and ts[i - 1].text == ".":  # || and && of a list
+                yield self.replaced(u, "junction", t, "all" if t.text == "any" else "any")
+            if t.text == "!" and not (i and ts[i - 1].kind == "name" and ts[i - 1].end == t.start):  # that is a macro's
                 yield self.replaced(u, "negation", t, "")
             if binary and t.text in ("&&", "||", "+", "-", "|"):
                 stops = ("&&", "||", ",", ";", "{") if t.text in ("&&", "||") else self.LOWER
                 j = until(ts, i + 1, stops)
                 yield self.edit(u, "left out", (ts[i - 1].end, ts[j - 1].end, ""))
 
+    @staticmethod
+    def closures(ts):
+        """The indices of the signs after the parameters of closures."""
+        found, inside = set(), False
+        for i, t in enumerate(ts):
+            if t.text == "|" and inside:
+                found.add(i)
+                inside = False
+            elif t.text == "|":
+                inside = i > 0 and ts[i - 1].kind == "sign" and ts[i - 1].text not in ")]?"
+        return found
+
     def numbers(self, u, ts):
         """A constant changed; min for max; a field for another of its type."""
         for i, t in enumerate(ts):
             before, after = ts[i - 1].text if i else "", ts[i + 1].text if i + 1 < len(ts) else ""
             length = before == ";" and after == "]"
-            if t.kind == "number" and not length and ".." not in (before, after) and one_more(t.text):
+            if t.kind == "number" and not length and before != "." and ".." not in (before, after) and one_more(t.text):
                 yield self.replaced(u, "constant", t, one_more(t.text))
             if t.text in ("min", "max") and after == "(":
                 yield self.replaced(u, "min and max", t, "max" if t.text == "min" else "min")
@@ -237,12 +289,19 @@ class Code(Source):
     def calls(self, u, ts):
         """Two arguments of one type that follow each other exchanged."""
         for i, t in enumerate(ts):
-            types = self.names.arguments.get(ts[i - 1].text) if t.text == "(" and i else None
+            types = self.called(u, ts, i - 1) if t.text == "(" and i else None
             if types:
                 args = pieces(ts, i + 1, matching(ts, i), ",")
                 for a, b, p, q in zip(args, args[1:], types, types[1:]):
                     if p == q:
                         yield from self.exchange(u, "arguments", ts, a, b)
+
+    def called(self, u, ts, i):
+        """The types of the arguments of the function that tokens[i] names."""
+        name, before = ts[i].text, ts[i - 1].text if i else ""
+        path = ts[i - 2].text if before == "::" else self.imported.get(name, self.crate) if before != "." else ""
+        known = self.names.arguments
+        return known.get(f"{u.owner if path == 'Self' else path}::{name}", known.get(name))
 
     def ifs(self, u, ts):
         """The branches exchanged, or the test negated where there is one branch."""
@@ -253,7 +312,7 @@ class Code(Source):
             k = matching(ts, j)
             if k + 2 < len(ts) and ts[k + 1].text == "else" and ts[k + 2].text == "{":
                 yield from self.exchange(u, "branch", ts, (j, k + 1), (k + 2, matching(ts, k + 2) + 1))
-            else:
+            elif ts[i + 1].text != "let":
                 start, end = ts[i + 1].start, ts[j - 1].end
                 yield self.edit(u, "branch", (start, end, f"!({self.text[start:end]})"))
 
@@ -263,14 +322,17 @@ class Code(Source):
         for i, t in enumerate(ts):
             if t.text == ";" and start < i and until(ts, start, (";",)) == i:
                 words = [x.text for x in ts[start:i]]
-                if words[0] not in ("let", "return", "break", "continue") and (words[-1] == ")" or "=" in words or "+=" in words):
+                if words[0] not in ("let", "return", "break", "continue") and (words[-1] in ")?" or {"=", "+=", "|="} & {*words}):
                     yield self.edit(u, "store left out", (ts[start].start, t.end, ""))
             if t.text in (";", "{", "}"):
                 start = i + 1
 
     def bounds(self, u, ts):
-        """A loop that starts at 1 and not 0, or ends at 1, or one before a constant end."""
+        """A loop or a slice that starts at 1 and not 0, or ends at 1, or one before a constant end."""
         for i, t in enumerate(ts):
+            if t.text == ".." and ts[i - 1].text == "[" and ts[i + 1].text != "]":
+                yield self.replaced(u, "bound", t, "1..")
+                yield self.edit(u, "bound", (ts[i + 1].start, ts[until(ts, i, ()) - 1].end, "1"))
             if t.text in ("..", "..=") and ts[i - 2].text == "in":
                 if ts[i - 1].text == "0":
                     yield self.replaced(u, "bound", ts[i - 1], "1")
@@ -287,8 +349,8 @@ class Code(Source):
             items = [s for s in pieces(ts, i + 1, matching(ts, i), ",") if s[0] < s[1]]
             if t.text == "[":
                 spans = [(s, "") for s in items] if ts[i - 1].kind == "sign" and ts[i - 1].text not in ")]" and len(items) > 1 else []
-            elif ts[i - 1].text in self.names.records:
-                types = self.names.records[ts[i - 1].text]
+            elif (record := u.owner if ts[i - 1].text == "Self" else ts[i - 1].text) in self.names.records:
+                types = self.names.records[record]
                 spans = [((a + 2, b), types.get(ts[a].text)) for a, b in items if b - a > 2]
             else:
                 marks = [(a, b, [n for n in range(a, b) if ts[n].text == "=>"]) for a, b in items]
@@ -440,7 +502,7 @@ def edits_of(root, crates):
     """All edits: those of code, and those of definitions."""
     paths = [p for c in crates for kind in ("src/*.rt", "specs/*.antt") for p in sorted((root / "crates" / c).glob(kind))]
     texts = {p: p.read_text() for p in paths}
-    names = names_of((p.suffix, t) for p, t in texts.items())
+    names = names_of((p.parent.parent.name, p.suffix, t) for p, t in texts.items())
     code, definitions = [], []
     for p, text in texts.items():
         crate, file = p.parent.parent.name, f"{p.parent.name}/{p.name}"

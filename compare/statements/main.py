@@ -89,9 +89,10 @@ class Trial:
             batch = {u: e for u, e in batch.items() if e}
 
     def within(self, unit, line):
-        text = (self.prover.work / "crates" / unit[0] / unit[1]).read_text().split("\n")
-        head = next(t for t in text[line - 1::-1] if " fn " in f" {t}")
-        return f"fn {unit[2].split('::')[-1]}(" in head
+        crate, file, name = unit
+        text = (self.prover.work / "crates" / crate / file).read_text()
+        spans = [(u.head, u.end) for u in Code(crate, file, text).units if u.name == name]
+        return any(text.count("\n", 0, head) < line <= text.count("\n", 0, end) + 1 for head, end in spans)
 
     def judge(self, crate, batch, v):
         """Which edits of code were refused, and at what."""

@@ -107,9 +107,11 @@ class Prover:
         lines = v.said.split("\n")
         for i, line in enumerate(lines):
             if m := re.match(r"fn (\S+): (.*)", line):
-                v.functions[m[1]] = m[2]
+                function = around(m[1])
+                if function not in v.functions or not m[2].startswith("proved"):
+                    v.functions[function] = m[2]
                 if LEFT in m[2]:
-                    v.unanswered[m[1]] = re.findall(r"`([^`]+)`", m[2].split(LEFT)[1].split(";")[0])
+                    v.unanswered.setdefault(function, []).extend(re.findall(r"`([^`]+)`", m[2].split(LEFT)[1].split(";")[0]))
             elif m := re.match(r"(?:\./)?(src/\S+?):(\d+):(\d+): error", line):
                 v.source.append((m[1], int(m[2])))
             elif m := re.match(r"(?:\./)?(\S+?):(\d+):(\d+): error: (?:`(\S+?)`: )?(.*)", line):
@@ -138,7 +140,12 @@ def proof_folder(root, function):
 
 def function_of(crate, file):
     """The function whose proof a file is part of."""
-    return "::".join([crate, *file.split("/")[1:-1]]).replace("+", "")
+    return around("::".join([crate, *file.split("/")[1:-1]])).replace("+", "")
+
+
+def around(name):
+    """The function that a closure stands in: `c::fn::T::f::map` and `c::fn::T::f::map+FnOnce::call_once` are proved apart from `c::T::f`."""
+    return re.sub(r"^(\w+)::fn::((?:\+?\w+::)+?)\w+(?:\+.*)?$", lambda m: f"{m[1]}::{m[2][:-2]}", name)
 
 
 def opened(text, errors):
