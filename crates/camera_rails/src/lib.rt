@@ -140,7 +140,7 @@ pub fn analog_camera_rails(
         return None;
     }
     let anchored = anchored_rails(w, h, picture, cutouts, psp, rail, face);
-    if hits(&anchored.elements(), cutouts) {
+    if hits(anchored.elements().as_slice(), cutouts) {
         return None;
     }
     let clear = avoid_cutouts(anchored, w, h, cutouts);

@@ -176,28 +176,12 @@ impl Step {
             }
             Function::SafeEdges => Answer::from(self.safe_edges()),
             Function::ClearPictureAspect => Answer::from(self.clear_picture_aspect()),
-            Function::ControllerBand => {
-                let [w, h] = self.screen();
-                let [analog, psp] = self.mode();
-                self.element(band::controller_band(w, h, analog, psp, self.rect(5)))
-            }
+            Function::ControllerBand => self.element(self.controller_band()),
             Function::AnchorToolbar => self.element(self.anchor_toolbar()),
-            Function::Vertical => {
-                let [w, h] = self.screen();
-                let [analog, psp] = self.mode();
-                let base = picture::base(w, h, analog, psp);
-                self.element(picture::vertical(base, self.rect(5), self.rect(9), analog))
-            }
+            Function::Vertical => self.element(self.vertical()),
             Function::Controls => self.element(self.controls()),
-            Function::Fits => {
-                let (w, h) = (self.float(0), self.float(1));
-                Answer::from(fits::fits(self.layout(6), w, h, self.rect(2), &[]) as u32)
-            }
-            Function::MaskNear => {
-                let previous = (self.word(2) % 65536) as u16;
-                let l = self.layout(3);
-                Answer::from(touch::mask_near(l, self.float(0), self.float(1), previous) as u32)
-            }
+            Function::Fits => Answer::from(self.fits() as u32),
+            Function::MaskNear => Answer::from(self.mask_near() as u32),
         }
     }
 
@@ -238,6 +222,34 @@ impl Step {
             &obstacles[..count],
             self.float(2),
         )
+    }
+
+    fn controller_band(&self) -> Option<Layout> {
+        let [w, h] = self.screen();
+        let [analog, psp] = self.mode();
+        band::controller_band(w, h, analog, psp, self.rect(5))
+    }
+
+    fn vertical(&self) -> Option<Layout> {
+        let [w, h] = self.screen();
+        let [analog, psp] = self.mode();
+        let base = picture::base(w, h, analog, psp);
+        picture::vertical(base, self.rect(5), self.rect(9), analog)
+    }
+
+    fn fits(&self) -> bool {
+        fits::fits(
+            self.layout(6),
+            self.float(0),
+            self.float(1),
+            self.rect(2),
+            &[],
+        )
+    }
+
+    fn mask_near(&self) -> u16 {
+        let previous = (self.word(2) % 65536) as u16;
+        touch::mask_near(self.layout(3), self.float(0), self.float(1), previous)
     }
 
     // On the layout that is arranged for the screen, with a cutout or none. A reusable top below 0, which no list has, has no answer.

@@ -43,7 +43,7 @@ fn members(elements: &[Rect], group: &[usize]) -> ArrayVec<Rect, 4>
     out
 }
 
-fn others(elements: &[Rect], group: &[usize]) -> Elements
+fn others(elements: &[Rect], group: &[usize]) -> ArrayVec<Rect, 19>
     requires { length elements.now ≤ 19 }
     ensures { result.items ≡ others_of elements.now group.now }
 {
@@ -130,7 +130,7 @@ pub fn avoid_cutouts(l: Layout, w: f32, h: f32, cutouts: &[Rect]) -> Layout
     if holes.is_empty() {
         return l;
     }
-    let mut elements = l.elements();
-    avoid(w, h, &holes, &faces(l), &mut elements);
-    l.set_elements(&elements)
+    let Elements { mut at, count } = l.elements();
+    avoid(w, h, &holes, &faces(l), &mut at[..count]);
+    l.set_elements(&at[..count])
 }

@@ -11,7 +11,7 @@ use arranged::{anchored, docked, finished, side_controls};
 use band::controller_band;
 use float::{clamp, max, pick};
 use geometry::{CENTRED, Rect};
-use layout::Layout;
+use layout::{Elements, Layout};
 use places::{Faces, Places, analog_controller, well_faces};
 use search::place_game_in;
 
@@ -243,9 +243,9 @@ fn shrunk(layout: Layout, requested: Size, full: Size) -> Layout
     if requested == full {
         return layout;
     }
-    let mut elements = layout.elements();
-    scale(&mut elements, requested, full);
-    layout.set_elements(&elements)
+    let Elements { mut at, count } = layout.elements();
+    scale(&mut at[..count], requested, full);
+    layout.set_elements(&at[..count])
 }
 
 pub fn analog_default(w: f32, h: f32) -> Layout

@@ -12,8 +12,8 @@ use Rattle.hypot.specs.Pattern.{exponent_of, significand_of, pattern_value, f32_
 use Rattle.hypot.specs.Nearest.{mid, Nearest}
 use Rattle.hypot.specs.Parts.{root_of}
 use Rattle.hypot.proofs.Isqrt.{isqrt_from, isqrt_to, root_within, root_ge, root_cmp}
-use Rattle.hypot.proofs.Order.{square_le}
-use Rattle.hypot.proofs.Value.{significand_lt}
+use Rattle.hypot.proofs.Order.{square_le, square_lt}
+use Rattle.hypot.proofs.Value.{significand_lt, value_lt}
 use Rattle.hypot.proofs.Rounding.{lower, mid_next, nearest_digits}
 use Rattle.hypot.proofs.Theorem.{nearest_is}
 
@@ -44,6 +44,15 @@ far p q h g =
     let less = square_less c (2 ^ k) (2 ^ j) (pattern_value q) top scale (mul-pos (pow_pos j) (pow_pos j)) (mul-lt-mul_of_pos_right (significand_lt q) (pow_pos j)) in
     let near : 4 * n < mid (p + 1) p = rw (mid_next k c (significand_lt p) (inr top), parts p) at (under_mid c (2 ^ k) (pattern_value q) less) in
     finite_nearest n p h (lower n p (le-add_right (pattern_value p * pattern_value p) (pattern_value q * pattern_value q)) near)
+
+-- ---- beside a side of zero
+pub beside_zero : (p q : ℕ) → p < 0x7f80_0000 → q ≡ 0 → of_bits binary32 p ≡ nearest_root (pattern_value p * pattern_value p + pattern_value q * pattern_value q)
+beside_zero p q h z =
+    let v = pattern_value p in
+    let next = pattern_value (p + 1) in
+    let grows : v < next = value_lt {p = p} {q = p + 1} (omega arith) in
+    let near : 4 * (v * v + 0) < mid (p + 1) p = omega (arith, square_lt {a = 2 * v} {b = next + v} (omega arith)) in
+    rw z (finite_nearest (v * v + 0) p h (lower (v * v + 0) p (omega arith) near))
 
 -- ---- near: both sides counted in units of 2 ^ f, as the code has them
 module _ (p q e f a b s : ℕ) (ee : e ≡ exponent_of p) (ff : f ≡ exponent_of q) (aa : a ≡ significand_of p) (bb : b ≡ significand_of q) (ss : s ≡ a * 2 ^ (e - f)) (le : q ≤ p) where

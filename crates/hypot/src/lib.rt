@@ -1,6 +1,7 @@
 // `hypot` of two f32: the f32 nearest the exact root of the sum of squares, ties to even.
 // The f64 root gives a candidate. It is surely the nearest f32 if the sum of squares, rounded to f64, lies between the rounded
-// squares of the midpoints beside it: rounding keeps the order. If not, the root is taken in whole numbers and rounded.
+// squares of the midpoints beside it: rounding keeps the order. If not, the root is taken in whole numbers and rounded; there too the f64 root
+// gives a candidate, which is tested.
 #![tactic(auto)]
 
 ghost use Rattle.std.specs.Prelude.{◌≡◌, not, ◌⊎◌, T};
@@ -11,6 +12,7 @@ ghost use Rattle.hypot.specs.Pattern.{unsigned_pattern_of, exponent_of, signific
 ghost use Rattle.hypot.specs.Parts.{root_of, sum_of_squares_of, midpoint_of, SurelyNearest};
 
 use std::cmp::Ordering;
+use std::num::saturating_f64_to_u64;
 
 // The bit pattern of x without its sign. A NaN's lies above the infinity's.
 fn unsigned_pattern(x: f32) -> u32
@@ -39,15 +41,49 @@ fn times_power(m: u64, d: u32) -> u64
     m << d
 }
 
+// The whole part of the root of m or one more, by the f64 root. Nothing is relied on.
+fn likely_root(m: u128) -> u64
+    requires { m < 2 ^ 76 }
+{
+    let high = (m / 0x40_0000_0000) as u64;
+    let low = (m % 0x40_0000_0000) as u64;
+    saturating_f64_to_u64((high as f64 * 274877906944.0 + low as f64).sqrt())
+}
+
+// Whether x is the whole part of the root of m: the next square lies 2 * x + 1 above that of x.
+fn is_whole_root(x: u64, m: u128) -> bool
+    ensures square_le { T result → x * x ≤ m }
+    ensures next_square_gt { T result → m < (x + 1) * (x + 1) }
+{
+    let y = x as u128;
+    y * y <= m && m - y * y <= 2 * y
+}
+
+// The whole part of the root of m. The turns of `isqrt`, 64 at any m, are left to an m for which neither candidate passes.
+fn whole_root(m: u128) -> u64
+    requires { m < 2 ^ 76 }
+    ensures square_le { result * result ≤ m }
+    ensures next_square_gt { m < (result + 1) * (result + 1) }
+{
+    let x = likely_root(m);
+    if is_whole_root(x, m) {
+        return x;
+    }
+    if x > 0 && is_whole_root(x - 1, m) {
+        return x - 1;
+    }
+    m.isqrt() as u64
+}
+
 // Twice the whole part of the root of m, and one more if the root is not whole: so it compares with every even number as twice the root does.
 #[tactic(auto, using(crate::proofs::Isqrt::root_between, crate::proofs::Isqrt::root_whole))]
 fn root(m: u128) -> u64
     requires { m < 2 ^ 76 }
     ensures { result ≡ root_of m }
 {
-    let x = m.isqrt();
-    let whole = 2 * x as u64;
-    if x * x < m { whole + 1 } else { whole }
+    let x = whole_root(m);
+    let y = x as u128;
+    if y * y < m { 2 * x + 1 } else { 2 * x }
 }
 
 // c, or the next number up, by how w compares with h; at a tie the even one.
@@ -93,9 +129,9 @@ fn rounded(w: u64, f: u32) -> f32
     packed(nearest_whole(c, w, h), k)
 }
 
-// `hypot` of two finite sides by their patterns, the larger first. If its exponent is 13 or more above the other's, the root exceeds it by less
-// than half of its last place.
-#[tactic(auto, using(crate::proofs::Ways::times_power_lt, crate::proofs::Ways::squares_small, crate::proofs::Ways::root_small, crate::proofs::Ways::far, float::proofs::Nan::no_nan_bits))]
+// `hypot` of two finite sides by their patterns, the larger first. If the other is zero, or its exponent is 13 or more below, the root exceeds the
+// larger by less than half of its last place.
+#[tactic(auto, using(crate::proofs::Ways::times_power_lt, crate::proofs::Ways::squares_small, crate::proofs::Ways::root_small, float::proofs::Nan::no_nan_bits))]
 fn finite(p: u32, q: u32) -> f32
     requires q_le_p { q ≤ p }
     requires p_bound { p < 0x7f80_0000 }
@@ -103,7 +139,7 @@ fn finite(p: u32, q: u32) -> f32
 {
     let e = exponent(p);
     let f = exponent(q);
-    if e - f > 12 {
+    if q == 0 || e - f > 12 {
         return f32::from_bits(p);
     }
     let s = (2 * times_power(significand(p), e - f)) as u128;

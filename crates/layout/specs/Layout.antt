@@ -7,6 +7,7 @@ use Rattle.layout.specs.declared.Label.{Label}
 use Rattle.layout.specs.declared.Label.TheVariants.{Tri}
 use Rattle.layout.specs.declared.Control.{Control}
 use Rattle.layout.specs.declared.Cutouts.{Cutouts}
+use Rattle.layout.specs.declared.Elements.{Elements}
 use Rattle.layout.specs.declared.Layout.{Layout}
 
 abbrev pub control : Rect → Label → Control
@@ -33,7 +34,10 @@ control_list l = take l.count l.controls
 abbrev pub stick_list : Layout → List Rect
 stick_list l = take l.stickcount l.sticks
 
--- the list that an array and its count stand for
+-- the lists that an array and its count stand for
+abbrev pub element_list : Elements → List Rect
+element_list e = take e.count e.at
+
 abbrev pub cutout_list : Cutouts → List Rect
 cutout_list c = take c.count c.at
 

@@ -1,17 +1,15 @@
 // The layout record of input.rs: a game, a d-pad, controls, the toolbar's four keys, sticks.
 #![tactic(auto)]
 
-ghost use Rattle.std.specs.Prelude.{◌≡◌, ◌+◌, ◌≤◌, ◌<◌, length, drop};
-ghost use Rattle.arrayvec.specs.ArrayVec.{array_vec_len};
+ghost use Rattle.std.specs.Prelude.{◌≡◌, [], ◌∷◌, ◌++◌, ◌+◌, ◌≤◌, ◌<◌, length, drop};
 ghost use Rattle.layout.specs.Label.{mask_of, is_face_of, on_psp_of, name_of};
 ghost use Rattle.layout.specs.Actions.{join_of, action_bounds_of};
 ghost use Rattle.layout.specs.Psp.{psp_inputs_of, with_inputs_of};
 ghost use mathlib.Core.List.{map, zip_with};
 ghost use Rattle.prelude.specs.Lists.{replace_first};
-ghost use Rattle.layout.specs.Layout.{element_count_of, element_of, set_element_of, elements_of, control_list, stick_list, cutout_list, control, with_bounds, Few};
+ghost use Rattle.layout.specs.Layout.{element_count_of, element_of, set_element_of, elements_of, control_list, stick_list, element_list, cutout_list, control, with_bounds, Few};
 ghost use Rattle.layout.specs.Elements.{controller_elements_of, set_elements_of};
 
-use arrayvec::ArrayVec;
 use geometry::{EMPTY, Rect};
 
 #[derive(Clone, Copy, Debug, PartialEq, Eq)]
@@ -52,8 +50,12 @@ pub struct Layout {
     pub stickcount: usize,
 }
 
-// Elements of a layout: all of them, or some.
-pub type Elements = ArrayVec<Rect, 19>;
+// Elements of a layout, all of them or some: the first `count` of the array. No `ArrayVec`, since that is not `Copy`.
+#[derive(Clone, Copy, Debug, PartialEq)]
+pub struct Elements {
+    pub at: [Rect; 19],
+    pub count: usize,
+}
 
 // The camera holes that an order sets: the first `count` of the array. No invariant bounds the count, since `write_order` answers 7 for settings
 // with more; so functions over a slice of them ask for at most 16 where an array or the number of moves does.
@@ -62,6 +64,11 @@ pub struct Cutouts {
     pub at: [Rect; 16],
     pub count: usize,
 }
+
+pub const NO_ELEMENTS: Elements = Elements {
+    at: [EMPTY; 19],
+    count: 0,
+};
 
 pub const NO_CUTOUTS: Cutouts = Cutouts {
     at: [EMPTY; 16],
@@ -162,6 +169,26 @@ impl Label {
     }
 }
 
+impl Elements {
+    // One more, behind those in use. The places of the array past it are left open.
+    pub fn push(&mut self, r: Rect)
+        requires { self.now.count < 19 }
+        ensures items { element_list self.new ≡ element_list self.old ++ r ∷ [] }
+        ensures count { self.new.count ≡ self.old.count + 1 }
+    {
+        self.at[self.count] = r;
+        self.count += 1;
+    }
+
+    // Those in use.
+    pub fn as_slice(&self) -> &[Rect]
+        requires { self.now.count ≤ 19 }
+        ensures { result.now ≡ element_list self.now }
+    {
+        &self.at[0..self.count]
+    }
+}
+
 impl Cutouts {
     // Those in use.
     pub fn as_slice(&self) -> &[Rect]
@@ -259,14 +286,14 @@ impl Layout {
         l
     }
 
-    // All elements, in the order of their indices.
+    // All elements, in the order of their indices. The places of the array past the count are left open.
     #[tactic(auto, unfolding(crate::specs::Layout::elements_of))]
     pub fn elements(self) -> Elements
         requires { Few self }
-        ensures items { result.items ≡ elements_of self }
-        ensures count { array_vec_len result ≡ element_count_of self }
+        ensures items { element_list result ≡ elements_of self }
+        ensures count { result.count ≡ element_count_of self }
     {
-        let mut out = ArrayVec::new();
+        let mut out = NO_ELEMENTS;
         out.push(self.dpad);
         for c in self.control_list() {
             out.push(c.bounds);
@@ -281,14 +308,14 @@ impl Layout {
         out
     }
 
-    // The elements but for the toolbar's.
+    // The elements but for the toolbar's. The places of the array past the count are left open.
     #[tactic(auto, using(crate::proofs::ElementLaws::controller_elements_lem, crate::proofs::ArrayLaws::array_lengths))]
-    pub fn controller_elements(self) -> ArrayVec<Rect, 15>
+    pub fn controller_elements(self) -> Elements
         requires { Few self }
-        ensures items { result.items ≡ map (element_of self) (controller_elements_of self) }
-        ensures count { array_vec_len result ≡ self.count + 1 + self.stickcount }
+        ensures items { element_list result ≡ map (element_of self) (controller_elements_of self) }
+        ensures count { result.count ≡ self.count + 1 + self.stickcount }
     {
-        let mut out = ArrayVec::new();
+        let mut out = NO_ELEMENTS;
         out.push(self.dpad);
         for c in self.control_list() {
             out.push(c.bounds);

@@ -2,42 +2,38 @@
 #![tactic(auto)]
 
 ghost use Rattle.std.specs.Prelude.{◌≡◌, ◌+◌, ◌≤◌, length};
-ghost use Rattle.numerics.specs.Value.{value, AtMost};
-ghost use Rattle.tenths.specs.Tenths.{tenths_of, span_of};
-ghost use Rattle.lines.specs.Line.{most, line_of, line_in, digits_of, number_text, field_text, line_text, head_text, Printable, Numbers, SixDigits, put_of};
+ghost use Rattle.lines.specs.Line.{line_of, line_in, digits_of, number_text, field_text, line_text, head_text, Printable, Numbers, SixDigits, put_of};
 
 use geometry::Rect;
 use tenths::edge;
 
-// A line as data: a name, and x, y, w and h in tenths.
+// A line as data: a name, which is any bytes, and x, y, w and h in tenths.
 #[derive(Clone, Copy, Default, Debug, PartialEq, Eq)]
-pub struct SheetLine {
-    pub name: &'static str,
+pub struct SheetLine<'a> {
+    pub name: &'a [u8],
     pub x: i32,
     pub y: i32,
     pub w: i32,
     pub h: i32,
 }
 
-// Along one axis, the rounded beginning, and what lies between it and the rounded end.
-fn span(x: f32, w: f32) -> (i32, i32)
-    requires { AtMost x most × AtMost w most }
-    ensures { result ≡ (tenths_of (value x), span_of (value x) (value w)) }
-{
-    let near = edge(x, 0.0);
-    let far = edge(x, w);
-    (near, far - near)
-}
-
-#[tactic(auto, unfolding(crate::specs::Line::line_of))]
-pub fn sheet_line(name: &'static str, r: Rect) -> SheetLine
+// x and y are rounded, and so are the right and lower edges: w and h are what lies between. Axis by axis, so that a wrong edge of one alone is refused here.
+pub fn sheet_line<'a>(name: &'a [u8], r: Rect) -> SheetLine<'a>
     requires { Printable r }
     ensures line { line_in result ≡ line_of name.now r }
     ensures printable { Numbers SixDigits (line_in result) }
 {
-    let (x, w) = span(r.x, r.w);
-    let (y, h) = span(r.y, r.h);
-    SheetLine { name, x, y, w, h }
+    let x = edge(r.x, 0.0);
+    let y = edge(r.y, 0.0);
+    let right = edge(r.x, r.w);
+    let lower = edge(r.y, r.h);
+    SheetLine {
+        name,
+        x,
+        y,
+        w: right - x,
+        h: lower - y,
+    }
 }
 
 fn put_text(out: &mut [u8], at: usize, text: &[u8]) -> usize
@@ -85,11 +81,11 @@ fn put_field(out: &mut [u8], at: usize, n: i32) -> usize
 }
 
 // A local says where the field begins that it is named after.
-pub fn put_line(out: &mut [u8], at: usize, l: SheetLine) -> usize
+pub fn put_line(out: &mut [u8], at: usize, l: SheetLine<'_>) -> usize
     requires { at + length (line_text (line_in l)) ≤ length out.old }
-    ensures { (out.new, result) ≡ put_of out.old at (line_text (line_in l)) }
+    ensures { (out.new, result) ≡ put_of out.old at (line_text (line_in l.entry)) }
 {
-    let x = put_text(out, at, l.name.as_bytes());
+    let x = put_text(out, at, l.name);
     let y = put_field(out, x, l.x);
     let w = put_field(out, y, l.y);
     let h = put_field(out, w, l.w);

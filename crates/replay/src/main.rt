@@ -222,12 +222,11 @@ fn written(order: &[u8], out: &mut [u8]) -> Result<usize, Refusal> {
     write_order(read_order(order)?, out)
 }
 
-// Whether `out` begins with the bytes and is filled up as it was before.
-fn holds(out: &[u8], bytes: &[u8], fill: u8) -> bool {
-    match out.strip_prefix(bytes) {
-        Some(rest) => rest.iter().all(|byte| *byte == fill),
-        None => false,
-    }
+// Whether `out` begins with the bytes and is filled up as it was before. By slices, which are compared faster than byte by byte.
+fn holds(out: &[u8; 1024], bytes: &[u8], fill: u8) -> bool {
+    let before = [fill; 1024];
+    let n = bytes.len().min(out.len());
+    &out[..n] == bytes && &out[n..] == &before[n..]
 }
 
 // An answer as a list has it: a number below 65,536, or 65,536 times that of a refusal.

@@ -10,7 +10,7 @@ ghost use Rattle.saved.specs.Saved.{on_screen_of, restore_of, restored_of, with_
 
 use float::{clamp, min};
 use geometry::Rect;
-use layout::Layout;
+use layout::{Elements, Layout};
 use settings::{Preset, usable};
 
 // 24 points wide and high at least, where the screen is, and all of it on the screen.
@@ -62,9 +62,9 @@ pub fn with_saved(l: Layout, w: f32, h: f32, saved: &[Rect]) -> Layout
     if saved.is_empty() {
         return l;
     }
-    let mut elements = l.elements();
-    restore_all(w, h, saved, &mut elements);
-    l.set_elements(&elements)
+    let Elements { mut at, count } = l.elements();
+    restore_all(w, h, saved, &mut at[..count]);
+    l.set_elements(&at[..count])
 }
 
 #[tactic(auto, unfolding(crate::specs::Saved::part_of))]
@@ -91,10 +91,10 @@ pub fn capture(p: Preset, l: Layout, w: f32, h: f32) -> Preset
 {
     let elements = l.elements();
     let mut saved = p.elements;
-    capture_all(w, h, &elements, &mut saved);
+    capture_all(w, h, elements.as_slice(), &mut saved);
     Preset {
         elements: saved,
-        count: elements.len(),
+        count: elements.count,
         ..p
     }
 }

@@ -2,13 +2,13 @@
 #![tactic(auto)]
 
 ghost use Rattle.std.specs.Prelude.{◌≡◌, cond, [], ◌≤◌, length};
-ghost use Rattle.layout.specs.Layout.{elements_of, Few};
+ghost use Rattle.layout.specs.Layout.{element_list, elements_of, Few};
 ghost use Rattle.search.specs.Search.{aspect_of, within_of, better_of, narrow_of, narrow_side_of, centered_of, side_of, clear_picture_aspect_of, clear_picture_of, obstacles_of, game_of, place_game_in_aspect_of, place_game_in_of, place_game_of};
 
 use arrayvec::ArrayVec;
 use float::{clamp, max, min, pick};
 use geometry::{EMPTY, Offset, Rect};
-use layout::{Elements, Layout};
+use layout::{Elements, Layout, NO_ELEMENTS};
 use std::iter::once;
 
 // The picture's shape.
@@ -129,7 +129,7 @@ pub fn clear_picture(w: f32, h: f32, obstacles: &[Rect]) -> Rect
 
 // The elements that overlap the area, moved into its frame.
 #[tactic(auto, unfolding(crate::specs::Search::obstacles_of))]
-fn obstacles(elements: &[Rect], bounds: Rect) -> Elements
+fn obstacles(elements: &[Rect], bounds: Rect) -> ArrayVec<Rect, 19>
     requires { length elements.now ≤ 19 }
     ensures { result.items ≡ obstacles_of bounds elements.now }
 {
@@ -168,10 +168,11 @@ fn game(elements: &[Rect], bounds: Rect, scale: f32, offset: Offset, aspect: f32
 // The elements that the game may not cover: none where it may overlap them.
 fn uncovered(l: Layout, overlap: bool) -> Elements
     requires { Few l }
-    ensures { result.items ≡ cond overlap [] (elements_of l) }
+    ensures items { element_list result ≡ cond overlap [] (elements_of l) }
+    ensures count { result.count ≤ 19 }
 {
     if overlap {
-        return ArrayVec::new();
+        return NO_ELEMENTS;
     }
     l.elements()
 }
@@ -189,7 +190,8 @@ pub fn place_game_in_aspect(
     requires { Few l }
     ensures { result ≡ place_game_in_aspect_of l bounds overlap scale offset aspect }
 {
-    let game = game(&uncovered(l, overlap), bounds, scale, offset, aspect);
+    let elements = uncovered(l, overlap);
+    let game = game(elements.as_slice(), bounds, scale, offset, aspect);
     Layout { game, ..l }
 }
 

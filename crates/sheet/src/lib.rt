@@ -29,27 +29,27 @@ impl Sheet {
 
 // The game and each element, in the order of their indices.
 #[tactic(auto, unfolding(crate::specs::Sheet::toolbar_lines))]
-fn layout_lines(l: Layout) -> ArrayVec<SheetLine, 20>
+fn layout_lines(l: Layout) -> ArrayVec<SheetLine<'static>, 20>
     requires { Few l × Bounded l × BoundedGame l.game }
     ensures { map line_in result.items ≡ lines_of l }
 {
     let mut lines = ArrayVec::new();
-    lines.push(sheet_line("GAME", l.game));
-    lines.push(sheet_line("DPAD", l.dpad));
+    lines.push(sheet_line(b"GAME", l.game));
+    lines.push(sheet_line(b"DPAD", l.dpad));
     for c in l.control_list() {
-        lines.push(sheet_line(c.label.name(), c.bounds));
+        lines.push(sheet_line(c.label.name().as_bytes(), c.bounds));
     }
-    lines.push(sheet_line("PAUSE", l.pause));
-    lines.push(sheet_line("PLAY", l.playback));
-    lines.push(sheet_line("SPEED", l.speed));
-    lines.push(sheet_line("MUTE", l.mute));
+    lines.push(sheet_line(b"PAUSE", l.pause));
+    lines.push(sheet_line(b"PLAY", l.playback));
+    lines.push(sheet_line(b"SPEED", l.speed));
+    lines.push(sheet_line(b"MUTE", l.mute));
     for (name, r) in ["LEFT", "RIGHT"].iter().zip(l.stick_list()) {
-        lines.push(sheet_line(name, *r));
+        lines.push(sheet_line(name.as_bytes(), *r));
     }
     lines
 }
 
-fn put_lines(out: &mut [u8], at: usize, lines: &[SheetLine]) -> usize
+fn put_lines(out: &mut [u8], at: usize, lines: &[SheetLine<'_>]) -> usize
     requires { at + length (lines_text (map line_in lines.now)) ≤ length out.old }
     ensures { (out.new, result) ≡ put_of out.old at (lines_text (map line_in lines.now)) }
 {

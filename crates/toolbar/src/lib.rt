@@ -106,8 +106,8 @@ fn place_both(obstacles: &[Rect], left: Rect, right: Rect, w: f32, h: f32) -> Ba
     }
 }
 
-// A revealed status bar can push the toolbar into the controls, which stay where they are.
-#[tactic(auto, unfolding(crate::specs::Toolbar::avoided_of))]
+// A revealed status bar can push the toolbar into the controls, which stay where they are. Where there is no obstacle the bars stay.
+#[tactic(auto, unfolding(crate::specs::Toolbar::avoided_of, crate::specs::Toolbar::pair_of, crate::specs::Toolbar::pass))]
 fn place_bars(
     l: Layout,
     covered_top: f32,
@@ -122,6 +122,9 @@ fn place_bars(
 {
     if covered_top > 0.0 {
         return place_both(&with_controls(cutouts, l), left, right, w, h);
+    }
+    if cutouts.is_empty() {
+        return Bars { left, right };
     }
     place_both(cutouts, left, right, w, h)
 }
@@ -158,13 +161,13 @@ pub fn anchor_toolbar(
         w,
         h,
     );
-    Layout {
-        playback: Rect::new(bars.left.x, bars.left.y, size, height),
-        speed: Rect::new(bars.left.x + size + gap, bars.left.y, time_width, height),
-        mute: Rect::new(bars.right.x, bars.right.y, size, height),
-        pause: Rect::new(bars.right.x + size + gap, bars.right.y, size, height),
-        ..l
-    }
+    // Key by key: a struct update makes another layout first, which takes as long as all the rest where there is no cutout.
+    let mut anchored = l;
+    anchored.playback = Rect::new(bars.left.x, bars.left.y, size, height);
+    anchored.speed = Rect::new(bars.left.x + size + gap, bars.left.y, time_width, height);
+    anchored.mute = Rect::new(bars.right.x, bars.right.y, size, height);
+    anchored.pause = Rect::new(bars.right.x + size + gap, bars.right.y, size, height);
+    anchored
 }
 
 // How far a picture reaches above the screen.

@@ -4,7 +4,7 @@
 
 ghost use Rattle.std.specs.Prelude.{◌≡◌, ◌≤◌, cond, not, leb};
 ghost use Rattle.prelude.specs.Answer.{accepted, refused, must, and_then};
-ghost use Rattle.refusal.specs.Refusal.{answered, refusal_number};
+ghost use Rattle.refusal.specs.Refusal.{answered};
 ghost use Rattle.tracker.specs.Tracker.{fresh_of, finger_at, with_finger, is_held_of, held_mask_of, combined_of, Press, MoveTo, Lift, kept_or, answer_of, after_of};
 
 use layout::Layout;
@@ -25,11 +25,11 @@ pub struct Tracker {
     pub fingers: [Finger; 10],
 }
 
-// What a call leaves of a tracker, and what it answers: the finger's mask and the combined mask, or a refusal.
+// What a call leaves of a tracker, and what it answers: the finger's mask and the combined mask, or why it is refused.
 #[derive(Clone, Copy, Debug, PartialEq, Eq)]
-pub struct Tracked {
+pub struct Tracked<R = Refusal> {
     pub next: Tracker,
-    pub answer: Result<(u16, u16), Refusal>,
+    pub answer: Result<(u16, u16), R>,
 }
 
 const NOT_HELD: Finger = Finger { held: 0, mask: 0 };
@@ -112,9 +112,9 @@ impl Tracker {
         }
     }
 
-    // Also where an order is refused.
-    pub fn kept(self, refusal: Refusal) -> Tracked
-        ensures answer { answered result.answer ≡ refused (refusal_number refusal) }
+    // Also where an order is refused. Whatever says why is answered: a `Refusal`, or a number.
+    pub fn kept<R>(self, refusal: R) -> Tracked<R>
+        ensures answer { result.answer ≡ Err refusal }
         ensures tracker { result.next ≡ self }
     {
         Tracked {

@@ -1,14 +1,10 @@
 -- The three fields of a layout as the code makes them: their values are short, and together they are its bytes.
-use mathlib.Core.Path.{◌≡◌, refl, ◌∙◌}
+use mathlib.Core.Path.{◌≡◌}
 use mathlib.Core.List.{List, ◌++◌, map, flat_map, append_assoc}
-use Prim.Native.Nat.{ℕ, ◌+◌, ◌^◌, ◌<◌}
-use native.Mathlib.Omega.{arith}
-use lib.ListN.{length, length-append}
-use Rattle.geometry.specs.declared.Rect.{Rect}
 use Rattle.layout.specs.declared.Control.{Control}
 use Rattle.layout.specs.declared.Layout.{Layout}
 use Rattle.layout.specs.Label.{mask_of}
-use Rattle.layout.specs.Layout.{elements_of, control_list, Few}
+use Rattle.layout.specs.Layout.{elements_of, control_list}
 use Rattle.wire.specs.Wire.{short_bytes, rect_bytes, field_bytes}
 use Rattle.fields.proofs.Rows.{flat_map_map}
 use Rattle.writer.specs.Bytes.{mask_bytes, layout_bytes}

@@ -1,11 +1,12 @@
 -- By the test of the sizes: none of the elements scaled, or all, where they lie.
 use mathlib.Core.Path.{◌≡◌, refl, ap, ◌∙◌}
 use mathlib.Core.Bool.{Bool, true, false, not, ◌&&◌, ◌||◌}
-use mathlib.Core.List.{List, map}
+use mathlib.Core.List.{List, ◌++◌, map}
 use native.Mathlib.Omega.{arith}
 use lib.Ieee.{ne}
-use lib.ListN.{length, length-map}
-use lib.Seq.{take-append-le, take_all}
+use lib.ListN.{length, take, drop}
+use lib.Seq.{take_at, length-take-le}
+use Rattle.prelude.proofs.Loops.{sized}
 use Rattle.geometry.specs.declared.Rect.{Rect}
 use Rattle.layout.specs.Layout.{elements_of}
 use Rattle.layout.specs.declared.Layout.{Layout}
@@ -30,11 +31,13 @@ unfolding shrunk_of ne
 returns c =
     let a = c.args in
     let f = scaled_rect_of a.requested a.full in
-    let old = c.elements-elements.result.items in
-    let new : c.scale.new.elements ≡ map f old = rw c.deref_mut.ensures.value at c.scale.ensures in
-    let size : length c.scale.new.elements ≡ length old = rw (new, length-map) refl in
-    let now : c.deref.result.now ≡ map f (elements_of a.layout)
-    = c.deref.ensures.0 ∙ take-append-le _ _ _ (omega arith) ∙ take_all _ _ (omega arith) ∙ new ∙ ap (map f) c.elements-elements.ensures.items in
-    let e : c.set_elements.result ≡ set_elements_of a.layout (map f (elements_of a.layout)) = rw now at c.set_elements.ensures in
+    let n = c.elements-count.result.count in
+    let all = c.elements-count.result.at in
+    let places : length all ≡ 19 = search sized in
+    let size : length c.scale.new.elements ≡ n = omega (arith, length-take-le n all (omega arith)) in
+    let rest = drop n all in
+    let now : take n (c.scale.new.elements ++ rest) ≡ map f (elements_of a.layout)
+    = take_at c.scale.new.elements rest n size ∙ c.scale.ensures ∙ ap (map f) c.elements-count.ensures.items in
+    let e : c.set_elements.result ≡ set_elements_of a.layout (map f (elements_of a.layout)) = c.set_elements.ensures ∙ ap (set_elements_of a.layout) now in
     let k = kept a.layout _ e in
     (rw (either_not, ← c.eq.ensures, c.if-eq.false) e, k.0, k.1)

@@ -50,6 +50,6 @@ overflow_add-result c = omega (arith, put_ends, put_length, parts c.args.l (sear
 pub returns : goal.returns
 unfolding line_text
 returns c =
-    put_after _ _ _ _ (rw c.as_bytes.ensures.value at c.put_text-x.ensures) (put_after _ _ _ _ c.put_field-y.ensures (put_after _ _ _ _ c.put_field-w.ensures
+    put_after _ _ _ _ c.put_text-x.ensures (put_after _ _ _ _ c.put_field-y.ensures (put_after _ _ _ _ c.put_field-w.ensures
     (put_after _ _ _ _ c.put_field-h.ensures (put_after _ _ _ _ c.put_field-feed.ensures (one _ _ 10)))))
     ∙ ap (λ l. put_of c.args.out.now c.args.at (line_text l)) (kept c.args.l (search rules))

@@ -57,7 +57,7 @@ loop-name-preserved c =
     ap (λ (b : Bor (List ℕ)). b.now) (turn.2 any_name) ∙ sym (get_or-map (λ (b : Bor (List ℕ)). b.now) c.iter.result.rest.now (length l.yielded) any_name) ∙ ap (λ (ns : List (List ℕ)). get_or ns (length l.yielded) []) names in
     record {
       count = simp length-append (omega arith);
-      lines = rw (c.push-in-loop-name.ensures.items, map-append, l.invariant.lines, c.sheet_line-in-loop-name.ensures.line, length-append, add-one, next_stick _ _ turn.1 few name (turn.3 any_rect))
+      lines = rw (c.push-in-loop-name.ensures.items, map-append, l.invariant.lines, c.sheet_line-in-loop-name.ensures.line, c.as_bytes-in-loop-name.ensures.value, length-append, add-one, next_stick _ _ turn.1 few name (turn.3 any_rect))
           (behind (line_of game_name s.game ∷ line_of dpad_name s.dpad ∷ map control_line (control_list s)) (toolbar_lines s) (stick_lines (take (length l.yielded) (stick_list s))) _);
     }
 

@@ -1,7 +1,7 @@
 -- Either the output is too small and nothing is put, or the three fields are put one after the other.
 use mathlib.Core.Path.{◌≡◌, ap}
 use mathlib.Core.List.{List, ◌++◌, map, flat_map}
-use Prim.Native.Nat.{ℕ, ◌+◌, ◌≤◌, ◌<◌}
+use Prim.Native.Nat.{ℕ, ◌+◌, ◌<◌}
 use native.Mathlib.Omega.{arith}
 use lib.ListN.{length, length-append}
 use Rattle.layout.proofs.ArrayLaws.{array_lengths}
@@ -26,7 +26,7 @@ module _ (c : After-new-masks) where
   elements_short : length (flat_map rect_bytes c.new-elements.result.value.0.now) < 65536
   elements_short =
       let arrays = array_lengths c.args.l c.well_formed.0 in
-      rw (c.new-elements.ensures, c.as_slice.ensures.value, c.elements-all.ensures.items)
+      rw (c.new-elements.ensures, c.as_slice.ensures, c.elements-all.ensures.items)
       (omega (arith, length_element_bytes c.args.l (omega (arith, c.requires.0)) (omega (arith, c.requires.1)), c.requires.0, c.requires.1))
 
   masks_short : length (flat_map short_bytes (map (λ (k : Control). mask_of k.label) c.new-masks.result.value.0.0.now)) < 65536
@@ -56,7 +56,7 @@ module _ (c : After-length-3) where
   marked = field_unless c.new-masks.result.absent c.new-masks.result.tag (flat_map short_bytes (map (λ (k : Control). mask_of k.label) c.new-masks.result.value.0.0.now))
 
   made : layout_bytes c.args.l ≡ game ++ listed ++ marked
-  made = rw (c.new-game.ensures, c.new-elements.ensures, c.as_slice.ensures.value, c.elements-all.ensures.items, c.new-masks.ensures, c.control_list.ensures, masks_same) (layout_is c.args.l)
+  made = rw (c.new-game.ensures, c.new-elements.ensures, c.as_slice.ensures, c.elements-all.ensures.items, c.new-masks.ensures, c.control_list.ensures, masks_same) (layout_is c.args.l)
 
   lengths : length (layout_bytes c.args.l) ≡ length game + length listed + length marked
   lengths = simp length-append at (ap length made)

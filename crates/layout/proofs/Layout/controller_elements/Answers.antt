@@ -14,4 +14,4 @@ returns-clause-items c =
     let s = c.args.self in
     let arrays = array_lengths s c.well_formed.0 in
     let all : take c.loop-r.r-index (stick_list s) ≡ stick_list s = take_all c.loop-r.r-index (stick_list s) (rw c.stick_list-r-items.ensures at c.loop-r-test.false) in
-    c.loop-r.invariant ∙ ap (λ t. s.dpad ∷ (bounds_of s ++ t)) all ∙ sym (controller_elements_lem s (omega arith) (omega arith))
+    c.loop-r.invariant.items ∙ ap (λ t. s.dpad ∷ (bounds_of s ++ t)) all ∙ sym (controller_elements_lem s (omega arith) (omega arith))
